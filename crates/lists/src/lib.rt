@@ -1,0 +1,1 @@
+// Lists: definitions and laws that name nothing of the engine.
