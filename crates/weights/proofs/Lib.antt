@@ -1,0 +1,4 @@
+pub mod Largest
+pub mod Powers
+pub mod Laws
+pub mod Table
