@@ -5,11 +5,12 @@ use mathlib.Core.Path.{_≡_, refl, sym, ap, _∙_}
 use Prim.Native.Nat.{ℕ, zero, suc, _<_, _≤_}
 use native.Mathlib.Omega.{arith}
 use lib.Dec.{ltb, eqb}
-use lib.IntN.{ℤ, pos, _+ℤ_, +ℤ-idl, +ℤ-idr, +ℤ-assoc, +ℤ-comm}
+use lib.IntN.{ℤ, pos, _+ℤ_, +ℤ-idl, +ℤ-idr, +ℤ-assoc}
 use borrow.Author.Tests.{ltb-true, ltb-false, eqb-true, eqb-false, eq-eqb, ne-eqb}
 use Rattle.keyed.specs.Keys.{Item, falls, allFall, sumOf, sums, heldIn, held, overKeys, Pair, addPair, pairs}
 use Rattle.keyed.specs.Collect.{put, putAll, collect}
 use Rattle.lists.proofs.Bools.{by-test, and-left, and-right, or-none, or-swap}
+use Rattle.lists.proofs.Ints.{sum-swap}
 use Rattle.keyed.proofs.Walk.{over-same, over-none, over-step}
 
 heldP : ℕ → List Pair → Bool
@@ -50,9 +51,6 @@ rebuild m (p ∷ ps) (more l s) =
     ∙ ap (λ (r : List Pair). p ∷ r) (rebuild (p .key) ps s)
 
 -- ---- one item put in
-
-sum-swap : (a b c : ℤ) → a +ℤ (b +ℤ c) ≡ b +ℤ (a +ℤ c)
-sum-swap a b c = sym (+ℤ-assoc a b c) ∙ ap (λ (z : ℤ). z +ℤ c) (+ℤ-comm a b) ∙ +ℤ-assoc b a c
 
 module _ (k : ℕ) (x : Item) where
   put-held : (ps : List Pair) → heldP k (put x ps) ≡ (eqb (x .key) k || heldP k ps)

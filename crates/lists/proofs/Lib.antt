@@ -1,3 +1,4 @@
 pub mod Bools
 pub mod Tests
 pub mod Arrays
+pub mod Ints

@@ -1,12 +1,13 @@
 -- Laws of tests over lists.
 use mathlib.Core.Bool.{Bool, true, false, _&&_, _||_, cond}
-use mathlib.Core.List.{List, [], _∷_, _++_, map}
+use mathlib.Core.List.{List, [], _∷_, _++_, List·Memᴰ, List·Memᴰ·not-nil, List·Memᴰ·cases-cons}
+use mathlib.Core.Logic.{⊎-elim}
 use mathlib.Core.Path.{_≡_, refl, ap, ap₂, sym, _∙_}
 use Prim.Native.Nat.{ℕ, zero, suc, _+_, _<_, _≤_}
 use native.Mathlib.Omega.{arith}
 use lib.ListN.{length, getD}
-use Rattle.lists.specs.Lists.{keep, any, every}
-use Rattle.lists.proofs.Bools.{by-test, and-left, and-right}
+use Rattle.lists.specs.Lists.{keep, any, every, down}
+use Rattle.lists.proofs.Bools.{by-test, and-left, and-right, and-both, or-none}
 
 module _ {A : Type 0} where
   -- the table law: what a test computed over a whole table says of each entry
@@ -30,3 +31,43 @@ module _ {A : Type 0} where
   pub length-keep : (t : A → Bool) (l : List A) → length (keep t l) ≤ length l
   length-keep t [] = omega arith
   length-keep t (x ∷ l) = let h = length-keep t l in by-test (t x) (λ e. rw e (omega arith)) (λ e. rw e (omega arith))
+
+  -- a test that follows from two others
+  pub every-from : (t u v : A → Bool) → ((x : A) → t x ≡ true → u x ≡ true → v x ≡ true) → (l : List A) → every t l ≡ true → every u l ≡ true → every v l ≡ true
+  every-from t u v h [] p q = refl
+  every-from t u v h (x ∷ l) p q =
+      and-both (v x) (every v l) (h x (and-left (t x) _ p) (and-left (u x) _ q)) (every-from t u v h l (and-right (t x) _ p) (and-right (u x) _ q))
+
+  -- what a test of all says of an element
+  pub every-mem : (t : A → Bool) (l : List A) {x : A} → every t l ≡ true → List·Memᴰ x l → t x ≡ true
+  every-mem t [] e m = absurd (List·Memᴰ·not-nil m)
+  every-mem t (y ∷ l) e m =
+      ⊎-elim (λ q. ap t q ∙ and-left (t y) _ e) (λ r. every-mem t l (and-right (t y) _ e) r) (List·Memᴰ·cases-cons m)
+
+  -- what all pass, all that are kept pass
+  pub every-keep : (t u : A → Bool) (l : List A) → every u l ≡ true → every u (keep t l) ≡ true
+  every-keep t u [] e = refl
+  every-keep t u (x ∷ l) e =
+      let r = every-keep t u l (and-right (u x) _ e) in
+      by-test (t x) (λ y. rw y (and-both (u x) _ (and-left (u x) _ e) r)) (λ n. rw n r)
+
+  -- those that are kept pass the test
+  pub every-kept : (t : A → Bool) (l : List A) → every t (keep t l) ≡ true
+  every-kept t [] = refl
+  every-kept t (x ∷ l) = by-test (t x) (λ y. rw y (and-both (t x) _ y (every-kept t l))) (λ n. rw n (every-kept t l))
+
+  -- a test that all pass keeps all
+  pub keep-all : (t : A → Bool) (l : List A) → every t l ≡ true → keep t l ≡ l
+  keep-all t [] e = refl
+  keep-all t (x ∷ l) e = rw (and-left (t x) _ e, keep-all t l (and-right (t x) _ e))
+
+  -- a test that none passes keeps none
+  pub keep-none : (t : A → Bool) (l : List A) → any t l ≡ false → keep t l ≡ []
+  keep-none t [] e = refl
+  keep-none t (x ∷ l) e = let n = or-none (t x) (any t l) e in rw (n .0, keep-none t l (n .1))
+
+-- two tests that agree on 1 to n keep the same of them
+pub keep-down : (t u : ℕ → Bool) (n : ℕ) → ((w : ℕ) → w ≤ n → t w ≡ u w) → keep t (down n) ≡ keep u (down n)
+unfolding down
+keep-down t u zero h = refl
+keep-down t u (suc n) h = rw (h (suc n) (omega arith), keep-down t u n (λ w k. h w (omega arith)))

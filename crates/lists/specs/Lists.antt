@@ -54,6 +54,15 @@ unfoldable pub below : ℕ → List ℕ
 below zero = []
 below (suc n) = n ∷ below n
 
+-- n, n + 1, .., as many as told
+unfoldable pub rising : ℕ → ℕ → List ℕ
+rising n zero = []
+rising n (suc count) = n ∷ rising (suc n) count
+
+-- 0, 1, .., n - 1
+abbrev pub upTo : ℕ → List ℕ
+upTo n = rising 0 n
+
 -- are two lists of numbers equal, over their full length
 abbrev pub same : List ℕ → List ℕ → Bool
 same [] [] = true

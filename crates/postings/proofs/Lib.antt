@@ -1,0 +1,6 @@
+pub mod Signs
+pub mod Trips
+pub mod Order
+pub mod Sums
+pub mod Merge
+pub mod Frequency

@@ -1,0 +1,4 @@
+pub mod Order
+pub mod Pack
+pub mod Merge
+pub mod Sums

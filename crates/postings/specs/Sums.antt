@@ -1,0 +1,44 @@
+-- The count of a pair over a list of postings, and the windows in which an identifier counts.
+use mathlib.Core.Bool.{Bool, cond, _&&_}
+use mathlib.Core.List.{List, [], _∷_}
+use Prim.Native.Nat.{ℕ}
+use lib.Dec.{ltb, eqb, leb}
+use lib.IntN.{ℤ, pos, negsuc, _+ℤ_}
+use lib.ListN.{length}
+use Rattle.lists.specs.Lists.{keep, down}
+use Rattle.postings.specs.Merge.{pairs}
+use Rattle.postings.specs.declared.Posting.{Posting}
+
+-- what a posting adds to the pair of identifier i and window w
+abbrev pub share : Posting → ℕ → ℕ → ℤ
+share p i w = cond (eqb (p .id) i && eqb (p .window) w) (p .count) (pos 0)
+
+-- the sum of a pair's counts
+abbrev pub sum : List Posting → ℕ → ℕ → ℤ
+sum [] i w = pos 0
+sum (p ∷ ps) i w = share p i w +ℤ sum ps i w
+
+-- the postings under the identifier i
+abbrev pub under : ℕ → List Posting → List Posting
+under i l = keep (λ p. eqb (p .id) i) l
+
+-- what a sum counts: nothing where it is not above 0
+abbrev pub above : ℤ → ℕ
+above (pos n) = n
+above (negsuc n) = 0
+
+-- is a sum above 0
+abbrev pub isAbove : ℤ → Bool
+isAbove z = ltb 0 (above z)
+
+-- F: how many windows, from the highest number down, give the identifier more than 0
+unfoldable pub frequency : List Posting → ℕ → ℕ
+frequency l i = length (keep (λ w. isAbove (sum l i w)) (down 65535))
+
+-- F by the pairs that occur: this form computes at once
+unfoldable pub quickFrequency : List Posting → ℕ → ℕ
+quickFrequency l i = length (keep (λ p. isAbove (p .count)) (pairs (under i l)))
+
+-- is a posting's window one of 1 to 65,535
+abbrev pub inWindows : Posting → Bool
+inWindows p = leb 1 (p .window) && leb (p .window) 65535
