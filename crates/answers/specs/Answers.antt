@@ -1,0 +1,37 @@
+-- What a call comes to, on whatever it works: a refusal with its number, or an answer and what is there afterwards.
+use mathlib.Core.Bool.{Bool, true, false}
+use mathlib.Core.List.{List}
+use Prim.Native.Nat.{ℕ}
+use Rattle.answers.specs.declared.Hit.{Hit}
+
+-- an answer in the document's terms: nothing but done, a window's number, a list of hits with the postings taken up, or a refusal's number
+pub data Answer : Type 0 where
+  done : Answer
+  number : ℕ → Answer
+  hits : List Hit → ℕ → Answer
+  refused : ℕ → Answer
+
+-- a refusal says its number and nothing of what is there: that is as it was
+pub data Outcome (S : Type 0) : Type 0 where
+  refuse : ℕ → Outcome S
+  leave : Answer → S → Outcome S
+
+-- refused with n where the test holds; else what the later tests say
+unfoldable pub refuseIf : {S : Type 0} → Bool → ℕ → Outcome S → Outcome S
+refuseIf true n o = refuse n
+refuseIf false n o = o
+
+-- what is answered
+abbrev pub answerOf : {S : Type 0} → Outcome S → Answer
+answerOf (refuse n) = refused n
+answerOf (leave x s) = x
+
+-- what is there afterwards, where s was there before
+abbrev pub stateOf : {S : Type 0} → S → Outcome S → S
+stateOf s (refuse n) = s
+stateOf s (leave x t) = t
+
+-- the same outcome, with what is left seen by f
+abbrev pub carry : {S T : Type 0} → (S → T) → Outcome S → Outcome T
+carry f (refuse n) = refuse n
+carry f (leave x s) = leave x (f s)

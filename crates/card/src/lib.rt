@@ -1,0 +1,1 @@
+// The card's blocks: links, chains, free blocks.

@@ -1,0 +1,56 @@
+-- The engine's calls in one place, and runs of them.
+use mathlib.Core.List.{List, [], _∷_}
+use Prim.Native.Nat.{ℕ}
+use lib.ListN.{replicate}
+use Rattle.answers.specs.Answers.{Answer, Outcome, answerOf, stateOf, carry}
+use Rattle.answers.specs.declared.Hit.{Hit}
+use Rattle.state.specs.declared.State.{State}
+use Rattle.state.specs.Probe.{Store, Probe}
+use Rattle.identifiers.specs.Names.{Name}
+use Rattle.windows.specs.Calls.{openOf, closeOf, eventOf, flushOf}
+use Rattle.queries.specs.Query.{queryOf}
+use Rattle.removals.specs.Removal.{removeOf}
+use Rattle.merges.specs.Step.{stepOf}
+
+-- a call with its arguments; a query has so many places in its list
+pub data Call : Type 0 where
+  Open : Call
+  Event : Name → Call
+  Close : Call
+  Remove : ℕ → Call
+  Flush : Call
+  Step : Call
+  Query : ℕ → List Name → Call
+
+-- the parts of a probe that a call is lent, and the probe with them put back
+abbrev pub storeOf : Probe → Store
+storeOf p = record { state = p .state; card = p .card }
+
+abbrev pub withStore : Probe → Store → Probe
+withStore p s = record { state = s .state; card = s .card; register = p .register }
+
+abbrev pub withState : Probe → State → Probe
+withState p s = record { state = s; card = p .card; register = p .register }
+
+abbrev pub noHit : Hit
+noHit = record { window = 0; score = 0 }
+
+-- a call on a probe. A query leaves the probe as it is
+unfoldable pub probeCall : Probe → Call → Outcome Probe
+probeCall p Open = carry (withState p) (openOf (p .state))
+probeCall p (Event n) = eventOf p n
+probeCall p Close = carry (withState p) (closeOf (p .state))
+probeCall p (Remove w) = carry (withStore p) (removeOf (storeOf p) w)
+probeCall p Flush = carry (withStore p) (flushOf (storeOf p))
+probeCall p Step = carry (withStore p) (stepOf (storeOf p))
+probeCall p (Query k ns) = carry (λ (l : List Hit). p) (queryOf p ns (replicate k noHit))
+
+-- the answers to a list of calls, each made on what the one before left
+unfoldable pub run : {S : Type 0} → (S → Call → Outcome S) → S → List Call → List Answer
+run f s [] = []
+run f s (c ∷ cs) = answerOf (f s c) ∷ run f (stateOf s (f s c)) cs
+
+-- what is there after a list of calls
+unfoldable pub afterwards : {S : Type 0} → (S → Call → Outcome S) → S → List Call → S
+afterwards f s [] = s
+afterwards f s (c ∷ cs) = afterwards f (stateOf s (f s c)) cs

@@ -1,0 +1,1 @@
+// The engine's calls in one place.

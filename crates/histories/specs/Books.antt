@@ -1,0 +1,73 @@
+-- The ledger with the account beside it: what each call is to answer. Window numbers, hits, scores and refusals 4 to 9 and 14 come from the
+-- ledger alone; refusals 10 to 13 and the postings taken from the account.
+use mathlib.Core.Bool.{Bool, _||_, _&&_, not, cond}
+use mathlib.Core.List.{List, [], _∷_}
+use Prim.Native.Nat.{ℕ, suc}
+use lib.Dec.{eqb, leb}
+use lib.IntN.{ℤ, pos, negℤ}
+use lib.ListN.{length, getD}
+use Rattle.lists.specs.Lists.{any, down, upTo}
+use Rattle.postings.specs.declared.Posting.{Posting}
+use Rattle.postings.specs.Merge.{isZero}
+use Rattle.answers.specs.Answers.{Answer, done, number, hits, Outcome, refuse, leave, refuseIf}
+use Rattle.identifiers.specs.Names.{Name, badLength, among, numberOf, numbersOf}
+use Rattle.queries.specs.Hits.{ranked}
+use Rattle.queries.specs.Query.{badQuery}
+use Rattle.engine.specs.Calls.{Call, Open, Event, Close, Remove, Flush, Step, Query, run}
+use Rattle.histories.specs.Account.{Account, emptyAccount, takenFrom, overflows, exceeds, addedTo, stepping, flushing, flushingIf}
+use Rattle.histories.specs.Ledger.{Ledger, emptyLedger, live, existing, opens, closes, counts, removes}
+
+-- what an event stores: one count of its identifier, by number, in the open window
+abbrev pub once : Ledger → Name → Posting
+once l n = record { id = numberOf (l .identifiers) n; window = l .last; count = pos 1 }
+
+-- for the numbers is, each count c that is not 0, negated
+abbrev pub negatedBy : (ℕ → ℤ) → ℕ → List ℕ → List Posting
+negatedBy c w [] = []
+negatedBy c w (i ∷ is) = cond (isZero (c i)) (negatedBy c w is) (record { id = i; window = w; count = negℤ (c i) } ∷ negatedBy c w is)
+
+-- what a removal stores: each of the window's counts, negated
+unfoldable pub takenBack : Ledger → ℕ → List Posting
+takenBack l w = negatedBy (λ i. pos (l .count (getD (l .identifiers) i []) w)) w (upTo (length (l .identifiers)))
+
+pub record Books : Type 0 where
+  pub ledger : Ledger
+  pub account : Account
+
+-- on a card of so many blocks and a register of so many entries
+module _ (blocks entries : ℕ) where
+  unfoldable pub books : Ledger → Account → Call → Outcome Books
+  books l a Open =
+      refuseIf (l .isOpen) 5
+      (refuseIf (leb 65535 (l .last)) 6
+      (leave (number (suc (l .last))) (record { ledger = opens l; account = a })))
+  books l a (Event n) =
+      refuseIf (badLength n) 4
+      (refuseIf (not (l .isOpen)) 5
+      (refuseIf (leb 32767 (l .events)) 6
+      (refuseIf (not (among n (l .identifiers)) && leb entries (length (l .identifiers))) 8
+      (refuseIf (not (among n (l .listed)) && leb 64 (length (l .listed))) 9
+      (flushingIf blocks (overflows (once l n) a) a
+      (λ b. leave done (record { ledger = counts l n; account = addedTo (once l n ∷ []) b })))))))
+  books l a Close =
+      refuseIf (not (l .isOpen)) 5
+      (leave done (record { ledger = closes l; account = a }))
+  books l a (Remove w) =
+      refuseIf (l .isOpen && eqb w (l .last)) 5
+      (refuseIf (not (live l w)) 7
+      (flushingIf blocks (exceeds (takenBack l w) a) a
+      (λ b. leave done (record { ledger = removes l w; account = addedTo (takenBack l w) b }))))
+  books l a Flush = flushing blocks a (λ b. leave done (record { ledger = l; account = b }))
+  books l a Step = stepping blocks a (λ b. leave done (record { ledger = l; account = b }))
+  books l a (Query k ns) =
+      refuseIf (any badLength ns) 4
+      (refuseIf (badQuery k ns) 14
+      (leave (hits (ranked (existing l) (l .count) (down (l .last)) k ns) (takenFrom (numbersOf (l .identifiers) ns) a))
+      (record { ledger = l; account = a })))
+
+  abbrev pub booksCall : Books → Call → Outcome Books
+  booksCall b c = books (b .ledger) (b .account) c
+
+  -- what a list of calls is to be answered, from the beginning
+  unfoldable pub expected : List Call → List Answer
+  expected cs = run booksCall (record { ledger = emptyLedger; account = emptyAccount }) cs

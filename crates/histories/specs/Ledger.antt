@@ -1,0 +1,58 @@
+-- "The ledger": live windows with their counts, the last number given, and the identifiers ever counted. It knows nothing of partitions.
+use mathlib.Core.Bool.{Bool, true, false, _||_, _&&_, not, cond}
+use mathlib.Core.List.{List, [], _∷_, _++_}
+use Prim.Native.Nat.{ℕ, suc, _-_}
+use lib.Dec.{eqb, ltb}
+use lib.ListN.{length}
+use Rattle.lists.specs.Lists.{keep, any, down, same}
+use Rattle.identifiers.specs.Names.{Name, among}
+
+-- the last number given, which an open window has; the identifiers ever counted, in order of first count; the open window's events and identifiers;
+-- and the count of an identifier in a window, 0 where the window is not live
+pub record Ledger : Type 0 where
+  pub last : ℕ
+  pub identifiers : List Name
+  pub isOpen : Bool
+  pub events : ℕ
+  pub listed : List Name
+  pub count : Name → ℕ → ℕ
+
+unfoldable pub emptyLedger : Ledger
+emptyLedger = record { last = 0; identifiers = []; isOpen = false; events = 0; listed = []; count = λ n w. 0 }
+
+-- a window is live when a count of it is above 0
+unfoldable pub live : Ledger → ℕ → Bool
+live l w = any (λ n. ltb 0 (l .count n w)) (l .identifiers)
+
+-- N: how many windows exist, the open one included
+unfoldable pub existing : Ledger → ℕ
+existing l = length (keep (live l) (down (l .last)))
+
+-- ---- what the calls do to it
+
+-- the next number is given
+unfoldable pub opens : Ledger → Ledger
+opens l = record { last = suc (l .last); identifiers = l .identifiers; isOpen = true; events = 0; listed = []; count = l .count }
+
+-- closing a window without events gives its number back
+unfoldable pub closes : Ledger → Ledger
+closes l = record { last = cond (eqb (l .events) 0) (l .last - 1) (l .last); identifiers = l .identifiers; isOpen = false; events = 0; listed = []; count = l .count }
+
+-- n at the end, unless it is there
+abbrev pub including : List Name → Name → List Name
+including ms n = cond (among n ms) ms (ms ++ (n ∷ []))
+
+-- an event adds 1 to its identifier's count in the open window
+unfoldable pub counts : Ledger → Name → Ledger
+counts l n = record {
+  last = l .last;
+  identifiers = including (l .identifiers) n;
+  isOpen = l .isOpen;
+  events = suc (l .events);
+  listed = including (l .listed) n;
+  count = λ m w. cond (same n m && eqb (l .last) w) (suc (l .count m w)) (l .count m w);
+}
+
+-- removal takes out a closed window
+unfoldable pub removes : Ledger → ℕ → Ledger
+removes l w = record { last = l .last; identifiers = l .identifiers; isOpen = l .isOpen; events = l .events; listed = l .listed; count = λ m v. cond (eqb w v) 0 (l .count m v) }

@@ -1,0 +1,1 @@
+// Identifiers and the register that numbers them.

@@ -1,0 +1,1 @@
+// Partitions on the card: their layout, and what is read of them.

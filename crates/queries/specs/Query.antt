@@ -1,0 +1,66 @@
+-- The query: what it answers and leaves, for every input.
+use mathlib.Core.Bool.{Bool, _||_, _&&_, not}
+use mathlib.Core.List.{List, _++_}
+use Prim.Native.Nat.{ℕ}
+use lib.Dec.{eqb, ltb}
+use lib.ListN.{length, drop}
+use Rattle.lists.specs.Lists.{keep, any, every, empty, elem, down}
+use Rattle.words.specs.Words.{words}
+use Rattle.postings.specs.declared.Posting.{Posting}
+use Rattle.postings.specs.Sums.{sum, under, above}
+use Rattle.answers.specs.Answers.{Outcome, refuse, leave, refuseIf, hits}
+use Rattle.answers.specs.declared.Hit.{Hit}
+use Rattle.state.specs.declared.State.{State}
+use Rattle.state.specs.Views.{blocks, finished}
+use Rattle.state.specs.Rules.{stateRule}
+use Rattle.state.specs.Probe.{Probe, sameLength}
+use Rattle.identifiers.specs.Names.{Name, badLength, distinct, numbersOf}
+use Rattle.identifiers.specs.Register.{names, registerRule}
+use Rattle.partitions.specs.Reading.{postingsOf, inPartitions, stored}
+use Rattle.partitions.specs.Formed.{partitionsFormed, listRule, sumsInRange}
+use Rattle.queries.specs.Hits.{ranked}
+
+-- the count of a pair: the sum of what is stored, and nothing where that is not above 0
+unfoldable pub countIn : List ℕ → State → ℕ → ℕ → ℕ
+countIn W s i w = above (sum (stored W s) i w)
+
+-- how many postings are stored under these identifiers, in finished partitions and buffer
+unfoldable pub takenUp : List ℕ → State → List ℕ → ℕ
+takenUp W s is = length (keep (λ p. elem (p .id) is) (stored W s))
+
+-- the numbers of the query's identifiers that the register has
+abbrev pub numbers : List ℕ → List Name → List ℕ
+numbers register ns = numbersOf (names register) ns
+
+-- refusal 3: the register, all finished partitions, and for each identifier its lists and the sums of its pairs, over the partitions and with
+-- the buffer
+unfoldable pub queryFormed : List ℕ → State → List ℕ → List ℕ → Bool
+queryFormed W s register is =
+    registerRule register
+    && (partitionsFormed W (blocks s) (finished (s .partitions))
+    && (every (λ i. every (λ p. listRule (under i (postingsOf W p))) (finished (s .partitions))) is
+    && every (λ i. sumsInRange (under i (inPartitions W (finished (s .partitions)))) && sumsInRange (under i (stored W s))) is))
+
+-- refusal 14: no identifier or more than 5, one of them twice, or a list of no places or more than 32
+unfoldable pub badQuery : ℕ → List Name → Bool
+badQuery k ns = empty ns || (ltb 5 (length ns) || (not (distinct ns) || (eqb k 0 || ltb 32 k)))
+
+-- the hits of a query with k places, for the numbers of its identifiers
+unfoldable pub hitsOf : List ℕ → State → ℕ → List ℕ → List Hit
+hitsOf W s k is = ranked (s .windows .live) (countIn W s) (down 65535) k is
+
+-- the lent list with the hits in its first places, and the places beyond the last of them as they were
+abbrev pub fill : List Hit → List Hit → List Hit
+fill found places = found ++ drop (length found) places
+
+-- the answer, and the lent list as it is left
+unfoldable pub queryOf : Probe → List Name → List Hit → Outcome (List Hit)
+queryOf p ns places =
+    refuseIf (not (stateRule (p .state))) 1
+    (refuseIf (not (sameLength (p .card) (p .state .lengths .card) && sameLength (p .register) (p .state .lengths .register))) 2
+    (refuseIf (not (queryFormed (words (p .card)) (p .state) (p .register) (numbers (p .register) ns))) 3
+    (refuseIf (any badLength ns) 4
+    (refuseIf (badQuery (length places) ns) 14
+    (leave
+    (hits (hitsOf (words (p .card)) (p .state) (length places) (numbers (p .register) ns)) (takenUp (words (p .card)) (p .state) (numbers (p .register) ns)))
+    (fill (hitsOf (words (p .card)) (p .state) (length places) (numbers (p .register) ns)) places))))))

@@ -1,0 +1,70 @@
+-- Removal of a window: what it answers and leaves, for every input.
+use mathlib.Core.Bool.{Bool, _||_, _&&_, not, cond}
+use mathlib.Core.List.{List, foldr}
+use Prim.Native.Nat.{ℕ, _+_, _-_}
+use lib.Dec.{eqb, ltb, leb}
+use lib.ListN.{length}
+use Rattle.lists.specs.Lists.{keep, any, every}
+use Rattle.words.specs.Words.{words}
+use Rattle.postings.specs.declared.Posting.{Posting}
+use Rattle.postings.specs.Merge.{put, nonzero, pairs, negated}
+use Rattle.postings.specs.Sums.{isAbove}
+use Rattle.answers.specs.Answers.{Outcome, refuse, leave, refuseIf, done}
+use Rattle.state.specs.declared.Windows.{Windows}
+use Rattle.state.specs.declared.State.{State}
+use Rattle.state.specs.Views.{blocks, buffered, finished, bufferOf, withWindows, withBuffer}
+use Rattle.state.specs.Rules.{stateRule}
+use Rattle.state.specs.Probe.{Store, sameLength}
+use Rattle.partitions.specs.Reading.{postingsOf, inPartitions, stored}
+use Rattle.partitions.specs.Formed.{partitionsFormed, listRule, sumsInRange}
+use Rattle.windows.specs.Flush.{flushingIf}
+use Rattle.windows.specs.Calls.{isOpen}
+
+-- the postings of window w
+abbrev pub ofWindow : ℕ → List Posting → List Posting
+ofWindow w l = keep (λ p. eqb (p .window) w) l
+
+-- a window's counts, read from the buffers: its sums that are not 0, by identifier
+unfoldable pub countsOf : ℕ → List Posting → List Posting
+countsOf w l = nonzero (pairs (ofWindow w l))
+
+-- read from the buffers, a window is live when a count of it is above 0
+abbrev pub isLive : List Posting → Bool
+isLive counts = any (λ p. isAbove (p .count)) counts
+
+-- refusal 3: all finished partitions and all their lists, the window's sums over the partitions and with the buffer, and more than 64 of them
+unfoldable pub removalFormed : List ℕ → State → ℕ → Bool
+removalFormed W s w =
+    partitionsFormed W (blocks s) (finished (s .partitions))
+    && (every (λ p. listRule (postingsOf W p)) (finished (s .partitions))
+    && (sumsInRange (ofWindow w (inPartitions W (finished (s .partitions))))
+    && (sumsInRange (ofWindow w (stored W s)) && leb (length (countsOf w (stored W s))) 64)))
+
+-- 1 where the open window is counted in N
+abbrev pub openCounted : State → ℕ
+openCounted s = cond (isOpen s && ltb 0 (s .windows .events)) 1 0
+
+-- a removal flushes first exactly when buffered postings and the window's identifiers together exceed 128
+unfoldable pub removalFlushes : State → List Posting → Bool
+removalFlushes s counts = ltb 128 (length (buffered (s .buffer)) + length counts)
+
+-- each of the window's counts is buffered negated, a sum of 0 is dropped, and N is one less
+unfoldable pub removed : State → List Posting → State
+removed s counts =
+    withBuffer
+    (withWindows s (record { last = s .windows .last; live = s .windows .live - 1; current = s .windows .current; events = s .windows .events }))
+    (bufferOf (nonzero (foldr put (buffered (s .buffer)) (negated counts))))
+
+-- what follows refusals 1 to 3, where these are the window's counts
+unfoldable pub removing : State → List ℕ → ℕ → List Posting → Outcome Store
+removing s card w counts =
+    refuseIf (isOpen s && eqb w (s .windows .current)) 5
+    (refuseIf (not (isLive counts) || (ltb (s .windows .last) w || leb (s .windows .live) (openCounted s))) 7
+    (flushingIf (removalFlushes s counts) s card (λ t after. leave done (record { state = removed t counts; card = after }))))
+
+unfoldable pub removeOf : Store → ℕ → Outcome Store
+removeOf p w =
+    refuseIf (not (stateRule (p .state))) 1
+    (refuseIf (not (sameLength (p .card) (p .state .lengths .card))) 2
+    (refuseIf (not (removalFormed (words (p .card)) (p .state) w)) 3
+    (removing (p .state) (p .card) w (countsOf w (stored (words (p .card)) (p .state))))))

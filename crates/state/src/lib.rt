@@ -1,0 +1,59 @@
+// What the probe remembers between calls.
+use postings::Posting;
+
+// The lengths in bytes of the buffers lent at the start.
+pub struct Lengths {
+    pub card: u32,
+    pub register: u32,
+}
+
+// The last window number given, how many windows exist (N), and the open window: its number, 0 for none, and its events.
+pub struct Windows {
+    pub last: u16,
+    pub live: u16,
+    pub current: u16,
+    pub events: u16,
+}
+
+// The open window's identifiers in order of first count.
+pub struct Listed {
+    pub used: u16,
+    pub ids: [u16; 64],
+}
+
+// The buffered postings.
+pub struct Buffer {
+    pub used: u16,
+    pub postings: [Posting; 128],
+}
+
+// A finished partition: its first block, its level and its length in bytes.
+pub struct Partition {
+    pub first: u16,
+    pub level: u16,
+    pub length: u32,
+}
+
+// The finished partitions, oldest first.
+pub struct Partitions {
+    pub used: u16,
+    pub records: [Partition; 51],
+}
+
+// The merge in progress: first output block, output length, steps done. All 0: none.
+pub struct MergeJob {
+    pub first: u16,
+    pub length: u32,
+    pub steps: u32,
+}
+
+pub struct State {
+    pub lengths: Lengths,
+    pub windows: Windows,
+    pub listed: Listed,
+    pub buffer: Buffer,
+    pub partitions: Partitions,
+    // the block last taken
+    pub taken: u16,
+    pub merge: MergeJob,
+}

@@ -1,0 +1,114 @@
+-- Start, open, event, close and flush: what each answers and leaves, for every input.
+use mathlib.Core.Bool.{Bool, _||_, _&&_, not, cond}
+use mathlib.Core.List.{List, [], _∷_, _++_}
+use Prim.Native.Nat.{ℕ, suc, _-_, _/_}
+use lib.Dec.{eqb, leb}
+use lib.IntN.{pos}
+use lib.ListN.{length, replicate}
+use Rattle.lists.specs.Lists.{any, elem}
+use Rattle.postings.specs.declared.Posting.{Posting}
+use Rattle.postings.specs.Order.{samePair}
+use Rattle.postings.specs.Merge.{put}
+use Rattle.answers.specs.Answers.{Outcome, refuse, leave, refuseIf, done, number}
+use Rattle.state.specs.declared.Windows.{Windows}
+use Rattle.state.specs.declared.State.{State}
+use Rattle.state.specs.Views.{entries, listed, buffered, listedOf, bufferOf, withWindows, withListed, withBuffer, emptyState}
+use Rattle.state.specs.Rules.{cardLength, registerLength, stateRule}
+use Rattle.state.specs.Probe.{Store, Probe, sameLength}
+use Rattle.identifiers.specs.Names.{Name, badLength, numberOf}
+use Rattle.identifiers.specs.Register.{names, registerRule, added}
+use Rattle.windows.specs.Flush.{flushing, flushingIf}
+
+-- ---- start
+
+-- a fresh card: 255 all over, a register of zeros, and a state without windows whose block last taken is the card's last
+unfoldable pub fresh : ℕ → ℕ → Probe
+fresh c r = record { state = emptyState c r (c / 4096 - 1); card = replicate c 255; register = replicate r 0 }
+
+-- both buffers have a length within the limits, or 2
+unfoldable pub startOf : List ℕ → List ℕ → Outcome Probe
+startOf card register =
+    refuseIf (not (cardLength (length card) && registerLength (length register))) 2
+    (leave done (fresh (length card) (length register)))
+
+-- a refused start gives a state of zeros and leaves the buffers
+unfoldable pub unstarted : List ℕ → List ℕ → Probe
+unstarted card register = record { state = emptyState 0 0 0; card = card; register = register }
+
+-- ---- open
+
+-- the next number is given, and its window has no events yet
+unfoldable pub opened : State → State
+opened s =
+    withWindows s (record { last = suc (s .windows .last); live = s .windows .live; current = suc (s .windows .last); events = 0 })
+
+-- is a window open
+abbrev pub isOpen : State → Bool
+isOpen s = not (eqb (s .windows .current) 0)
+
+unfoldable pub openOf : State → Outcome State
+openOf s =
+    refuseIf (not (stateRule s)) 1
+    (refuseIf (isOpen s) 5
+    (refuseIf (leb 65535 (s .windows .last)) 6
+    (leave (number (suc (s .windows .last))) (opened s))))
+
+-- ---- close
+
+-- no window is open; one without events gives its number back
+unfoldable pub closed : State → State
+closed s =
+    withListed
+    (withWindows s (record { last = cond (eqb (s .windows .events) 0) (s .windows .last - 1) (s .windows .last); live = s .windows .live; current = 0; events = 0 }))
+    (listedOf [])
+
+unfoldable pub closeOf : State → Outcome State
+closeOf s =
+    refuseIf (not (stateRule s)) 1
+    (refuseIf (not (isOpen s)) 5
+    (leave done (closed s)))
+
+-- ---- event
+
+-- one count of identifier i in the open window
+abbrev pub once : State → ℕ → Posting
+once s i = record { id = i; window = s .windows .current; count = pos 1 }
+
+-- an event flushes first exactly when its pair is new to a buffer of 128
+unfoldable pub eventFlushes : State → ℕ → Bool
+eventFlushes s i = eqb (length (buffered (s .buffer))) 128 && not (any (samePair (once s i)) (buffered (s .buffer)))
+
+-- the event is counted: N moves at the window's first, the identifier is listed at its first, and the pair's buffered count grows by 1
+unfoldable pub counted : State → ℕ → State
+counted s i =
+    withBuffer
+    (withListed
+    (withWindows s (record { last = s .windows .last; live = cond (eqb (s .windows .events) 0) (suc (s .windows .live)) (s .windows .live); current = s .windows .current; events = suc (s .windows .events) }))
+    (listedOf (cond (elem i (listed (s .listed))) (listed (s .listed)) (listed (s .listed) ++ (i ∷ [])))))
+    (bufferOf (put (once s i) (buffered (s .buffer))))
+
+-- is an identifier new to the register
+abbrev pub isNew : List ℕ → Name → Bool
+isNew register n = leb (length (names register)) (numberOf (names register) n)
+
+unfoldable pub eventOf : Probe → Name → Outcome Probe
+eventOf p n =
+    refuseIf (not (stateRule (p .state))) 1
+    (refuseIf (not (sameLength (p .card) (p .state .lengths .card) && sameLength (p .register) (p .state .lengths .register))) 2
+    (refuseIf (not (registerRule (p .register))) 3
+    (refuseIf (badLength n) 4
+    (refuseIf (not (isOpen (p .state))) 5
+    (refuseIf (leb 32767 (p .state .windows .events)) 6
+    (refuseIf (isNew (p .register) n && leb (entries (p .state)) (length (names (p .register)))) 8
+    (refuseIf (not (elem (numberOf (names (p .register)) n) (listed (p .state .listed))) && leb 64 (length (listed (p .state .listed)))) 9
+    (flushingIf (eventFlushes (p .state) (numberOf (names (p .register)) n)) (p .state) (p .card)
+    (λ s card. leave done
+    (record { state = counted s (numberOf (names (p .register)) n); card = card; register = cond (isNew (p .register) n) (added (p .register) n) (p .register) }))))))))))
+
+-- ---- flush
+
+unfoldable pub flushOf : Store → Outcome Store
+flushOf p =
+    refuseIf (not (stateRule (p .state))) 1
+    (refuseIf (not (sameLength (p .card) (p .state .lengths .card))) 2
+    (flushing (p .state) (p .card) (λ s card. leave done (record { state = s; card = card }))))

@@ -1,0 +1,1 @@
+// Start, open, event, close and flush.
