@@ -21,6 +21,11 @@ unfoldable pub refuseIf : {S : Type 0} → Bool → ℕ → Outcome S → Outcom
 refuseIf true n o = refuse n
 refuseIf false n o = o
 
+-- the one outcome where the test holds, else the other
+unfoldable pub choose : {S : Type 0} → Bool → Outcome S → Outcome S → Outcome S
+choose true o p = o
+choose false o p = p
+
 -- what is answered
 abbrev pub answerOf : {S : Type 0} → Outcome S → Answer
 answerOf (refuse n) = refused n

@@ -6,7 +6,7 @@ use lib.ListN.{take, length, replicate}
 use Rattle.lists.specs.Lists.{down, rising}
 use Rattle.weights.specs.Weights.{largest, tfWeight, idfWeight}
 use Rattle.postings.specs.Merge.{nonzero, pairs}
-use Rattle.answers.specs.Answers.{Answer, done, number, hits, refused, refuseIf}
+use Rattle.answers.specs.Answers.{Answer, done, number, hits, refused, refuseIf, choose}
 use Rattle.answers.specs.declared.Hit.{Hit}
 use Rattle.identifiers.specs.Names.{Name, badLength, numbersOf}
 use Rattle.partitions.specs.Layout.{lengthOf}
@@ -17,23 +17,23 @@ use Rattle.histories.specs.Account.{emptyAccount, takenFrom, blocksOf, b
 use Rattle.histories.specs.Ledger.{emptyLedger, live, existing, opens, closes, counts, removes}
 use Rattle.histories.specs.Books.{takenBack, books, expected}
 
-abbrev hit : ℕ → ℕ → Hit
+abbrev pub hit : ℕ → ℕ → Hit
 hit w s = record { window = w; score = s }
 
-abbrev LUCKY : Name
+abbrev pub LUCKY : Name
 LUCKY = 76 ∷ 85 ∷ 67 ∷ 75 ∷ 89 ∷ []
 
-abbrev TILT : Name
+abbrev pub TILT : Name
 TILT = 84 ∷ 73 ∷ 76 ∷ 84 ∷ []
 
-abbrev DOOR : Name
+abbrev pub DOOR : Name
 DOOR = 68 ∷ 79 ∷ 79 ∷ 82 ∷ []
 
 -- windows 1 to 3 of the worked case, all closed
-abbrev three : List Call
+abbrev pub three : List Call
 three = Open ∷ Event LUCKY ∷ Event LUCKY ∷ Event LUCKY ∷ Event TILT ∷ Close ∷ Open ∷ Event LUCKY ∷ Close ∷ Open ∷ Event TILT ∷ Event DOOR ∷ Close ∷ []
 
-abbrev lucky : List Name
+abbrev pub lucky : List Name
 lucky = LUCKY ∷ TILT ∷ []
 
 -- a history on a card of so many blocks, and the last answers that the document tells
@@ -66,9 +66,9 @@ cases =
     ∷ []
 
 -- the last answers, as many as are told
-abbrev latest : List Answer → List Answer → List Answer
+abbrev pub latest : List Answer → List Answer → List Answer
 latest told all = reverse (take (length told) (reverse all))
 
 table : map (λ t. latest (t .answers) (expected (t .blocks) 64 (t .calls))) cases ≡ map (λ t. t .answers) cases
-unfolding down rising largest tfWeight idfWeight nonzero pairs refuseIf badLength numbersOf lengthOf frequency score matching ranked badQuery run emptyAccount takenFrom blocksOf blocksIn inputsOf merged blocksAhead completed furthered steppedAccount flushedAccount overflows exceeds addedTo stepping flushing flushingIf emptyLedger live existing opens closes counts removes takenBack books expected
+unfolding down rising largest tfWeight idfWeight nonzero pairs refuseIf choose badLength numbersOf lengthOf frequency score matching ranked badQuery run emptyAccount takenFrom blocksOf blocksIn inputsOf merged blocksAhead completed furthered steppedAccount flushedAccount overflows exceeds addedTo stepping flushing flushingIf emptyLedger live existing opens closes counts removes takenBack books expected
 table = refl

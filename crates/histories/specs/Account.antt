@@ -7,7 +7,7 @@ use lib.ListN.{length, getD}
 use Rattle.lists.specs.Lists.{keep, any, empty, totalBy, joined, elem}
 use Rattle.postings.specs.declared.Posting.{Posting}
 use Rattle.postings.specs.Merge.{put, nonzero, pairs}
-use Rattle.answers.specs.Answers.{Outcome, refuseIf}
+use Rattle.answers.specs.Answers.{Outcome, refuseIf, choose}
 use Rattle.state.specs.Levels.{nextLevel, ofLevel, dueLevels, oldest, replaced}
 use Rattle.card.specs.Chains.{blocksFor}
 use Rattle.partitions.specs.Layout.{lengthOf}
@@ -111,7 +111,7 @@ module _ {S : Type 0} (blocks : ℕ) where
   -- block that is neither a finished partition's nor the output's
   unfoldable pub flushing : Account → (Account → Outcome S) → Outcome S
   flushing a k =
-      cond (empty (a .buffer)) (k a)
+      choose (empty (a .buffer)) (k a)
       (refuseIf (leb 16 (ofLevel (λ (p : Portion). p .level) 0 (a .partitions))) 10
       (refuseIf (ltb blocks (2 * suc (blocksIn a))) 11
       (refuseIf (ltb blocks (suc (blocksIn a + blocksAhead a))) 12
@@ -119,4 +119,4 @@ module _ {S : Type 0} (blocks : ℕ) where
 
   -- with a flush first where the test holds
   unfoldable pub flushingIf : Bool → Account → (Account → Outcome S) → Outcome S
-  flushingIf t a k = cond t (flushing a k) (k a)
+  flushingIf t a k = choose t (flushing a k) (k a)

@@ -3,9 +3,8 @@ use mathlib.Core.Bool.{true}
 use mathlib.Core.List.{List}
 use mathlib.Core.Path.{_≡_}
 use Prim.Native.Nat.{ℕ, _/_}
-use Rattle.answers.specs.Answers.{Answer, Outcome, refuse, stateOf}
+use Rattle.answers.specs.Answers.{Answer}
 use Rattle.state.specs.Rules.{cardLength, registerLength}
-use Rattle.state.specs.Probe.{Probe}
 use Rattle.windows.specs.Calls.{fresh}
 use Rattle.engine.specs.Calls.{Call, probeCall, run}
 use Rattle.histories.specs.Books.{expected}
@@ -17,7 +16,3 @@ answers c r cs = run probeCall (fresh c r) cs
 -- for all buffers within the limits and all lists of calls, the engine's answers are those of ledger and account
 unfoldable pub SameAnswers : Type 0
 SameAnswers = (c r : ℕ) → cardLength c ≡ true → registerLength r ≡ true → (cs : List Call) → answers c r cs ≡ expected (c / 4096) (r / 65) cs
-
--- a refused call changes nothing of what it works on
-unfoldable pub Unchanged : {S : Type 0} → (S → Outcome S) → Type 0
-Unchanged {S} f = (s : S) (n : ℕ) → f s ≡ refuse n → stateOf s (f s) ≡ s

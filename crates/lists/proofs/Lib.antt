@@ -2,3 +2,4 @@ pub mod Bools
 pub mod Tests
 pub mod Arrays
 pub mod Ints
+pub mod Falling

@@ -53,14 +53,15 @@ hitsOf W s k is = ranked (s .windows .live) (countIn W s) (down 65535) k is
 abbrev pub fill : List Hit → List Hit → List Hit
 fill found places = found ++ drop (length found) places
 
--- the answer, and the lent list as it is left
-unfoldable pub queryOf : Probe → List Name → List Hit → Outcome (List Hit)
-queryOf p ns places =
+-- the answer, and the lent list as it is left, where these are the hits
+unfoldable pub querying : Probe → List Name → List Hit → List Hit → Outcome (List Hit)
+querying p ns places found =
     refuseIf (not (stateRule (p .state))) 1
     (refuseIf (not (sameLength (p .card) (p .state .lengths .card) && sameLength (p .register) (p .state .lengths .register))) 2
     (refuseIf (not (queryFormed (words (p .card)) (p .state) (p .register) (numbers (p .register) ns))) 3
     (refuseIf (any badLength ns) 4
     (refuseIf (badQuery (length places) ns) 14
-    (leave
-    (hits (hitsOf (words (p .card)) (p .state) (length places) (numbers (p .register) ns)) (takenUp (words (p .card)) (p .state) (numbers (p .register) ns)))
-    (fill (hitsOf (words (p .card)) (p .state) (length places) (numbers (p .register) ns)) places))))))
+    (leave (hits found (takenUp (words (p .card)) (p .state) (numbers (p .register) ns))) (fill found places))))))
+
+unfoldable pub queryOf : Probe → List Name → List Hit → Outcome (List Hit)
+queryOf p ns places = querying p ns places (hitsOf (words (p .card)) (p .state) (length places) (numbers (p .register) ns))

@@ -1,5 +1,5 @@
 -- A flush: the buffer is written as one partition of level 0.
-use mathlib.Core.Bool.{Bool, cond}
+use mathlib.Core.Bool.{Bool}
 use mathlib.Core.List.{List, [], _∷_, _++_}
 use Prim.Native.Nat.{ℕ, suc, _*_}
 use lib.Dec.{ltb, leb}
@@ -7,7 +7,7 @@ use lib.ListN.{length, getD}
 use Rattle.lists.specs.Lists.{empty, totalBy}
 use Rattle.words.specs.Words.{words, bytes}
 use Rattle.postings.specs.declared.Posting.{Posting}
-use Rattle.answers.specs.Answers.{Outcome, refuseIf}
+use Rattle.answers.specs.Answers.{Outcome, refuseIf, choose}
 use Rattle.state.specs.declared.Partition.{Partition}
 use Rattle.state.specs.declared.State.{State}
 use Rattle.state.specs.Views.{blocks, buffered, finished, bufferOf, partitionsOf, withBuffer, withPartitions, withTaken}
@@ -42,7 +42,7 @@ flushedCard s W b = store W (b ∷ []) (encode 0 (buffered (s .buffer)))
 module _ {S : Type 0} where
   unfoldable pub flushing : State → List ℕ → (State → List ℕ → Outcome S) → Outcome S
   flushing s card k =
-      cond (empty (buffered (s .buffer))) (k s card)
+      choose (empty (buffered (s .buffer))) (k s card)
       (refuseIf (leb 16 (ofLevel (λ (p : Partition). p .level) 0 (finished (s .partitions)))) 10
       (refuseIf (ltb (blocks s) (2 * suc (finishedBlocks s))) 11
       (refuseIf (empty (freeBlocks (words card) (blocks s) (s .taken))) 12
@@ -50,4 +50,4 @@ module _ {S : Type 0} where
 
   -- with a flush first where the test holds
   unfoldable pub flushingIf : Bool → State → List ℕ → (State → List ℕ → Outcome S) → Outcome S
-  flushingIf t s card k = cond t (flushing s card k) (k s card)
+  flushingIf t s card k = choose t (flushing s card k) (k s card)
