@@ -87,7 +87,7 @@ larger-left a b = by-test (ltb a b) (λ e. let h = ltb-true a b e in rw e (omega
 pub larger-right : (a b : ℕ) → b ≤ larger a b
 larger-right a b = by-test (ltb a b) (λ e. rw e (omega arith)) (λ e. let h = ltb-false a b e in rw e h)
 
-larger-under : (a b m : ℕ) → a ≤ m → b ≤ m → larger a b ≤ m
+pub larger-under : (a b m : ℕ) → a ≤ m → b ≤ m → larger a b ≤ m
 larger-under a b m p q = by-test (ltb a b) (λ e. rw e q) (λ e. rw e p)
 
 top-from : (t : ℕ) (ls : List (List Item)) → t ≤ topFrom t ls
@@ -118,7 +118,7 @@ spent-falls m [] u = refl
 spent-falls m ([] ∷ ls) (more a u) = spent-falls m ls u
 spent-falls m ((x ∷ l) ∷ ls) (more a u) = absurd (omega arith)
 
-spent-sums : (j : ℕ) (ls : List (List Item)) → Under 0 ls → sums j ls ≡ pos 0
+pub spent-sums : (j : ℕ) (ls : List (List Item)) → Under 0 ls → sums j ls ≡ pos 0
 spent-sums j ls u = sums-high 0 j zero-le ls (spent-falls 0 ls u)
 
 -- ---- which keys are held

@@ -2,7 +2,7 @@
 use mathlib.Core.Bool.{Bool, true, _&&_}
 use mathlib.Core.List.{List, [], _∷_, map}
 use Prim.Native.Nat.{ℕ}
-use Rattle.keyed.specs.Keys.{Item, allFall, larger, topFrom, rest}
+use Rattle.keyed.specs.Keys.{Item, allFall, larger, topFrom, rest, headsFine}
 
 -- the lists of one group
 abbrev pub Group : Type 0
@@ -21,3 +21,8 @@ allFallAll m (g ∷ gs) = allFall m g && allFallAll m gs
 -- every list of every group moved past the key k
 abbrev pub moveAll : ℕ → List Group → List Group
 moveAll k gs = map (λ (g : Group). map (rest k) g) gs
+
+-- every head with the key k is well formed
+abbrev pub headsFineAll : ℕ → List Group → Bool
+headsFineAll k [] = true
+headsFineAll k (g ∷ gs) = headsFine k g && headsFineAll k gs
