@@ -1,1 +1,84 @@
-// The card's blocks: links, chains, free blocks.
+// The card's blocks: links, chains, free blocks. A block's words begin at 1,024 times its number; the last one is its link.
+ghost use mathlib.Core.Path.{_≡_};
+ghost use Prim.Native.Nat.{ℕ, _+_, _*_, _≤_, _<_};
+ghost use lib.ListN.{length, getD, take, drop};
+ghost use Rattle.words.specs.Words.{words as wordsOf};
+ghost use Rattle.card.specs.Blocks.{link};
+ghost use Rattle.card.specs.Chains.{chain, content};
+ghost use Rattle.card.specs.Cursors.{InCard, Chained, ahead, Good, headOf, movedOf};
+
+// A place in the content of a chain: a word of a block, and how many words are still to come from there on.
+pub struct Cursor {
+    pub block: u16,
+    pub word: u16,
+    pub left: u32,
+}
+
+// A word of a block.
+pub fn block_word(card: &[u8], block: u16, at: u16) -> u32
+    requires { ⌜ 1024 * block + at < length (wordsOf (now card)) ⌝ }
+    ensures { λ r. ⌜ r ≡ getD (wordsOf (now (card .entry))) (1024 * block + at) 0 ⌝ }
+{
+    words::word_at(card, 1024 * block as usize + at as usize)
+}
+
+// The block that a block names as the next.
+fn next_block(card: &[u8], block: u16) -> u16
+    requires { ⌜ InCard (wordsOf (now card)) block × InCard (wordsOf (now card)) (link (wordsOf (now card)) block) ⌝ }
+    ensures { λ r. ⌜ r ≡ link (wordsOf (now (card .entry))) block ⌝ }
+{
+    block_word(card, block, 1023) as u16
+}
+
+// The first word to come.
+pub fn head(card: &[u8], c: Cursor) -> u32
+    requires { ⌜ (0 < c .left) × Good (wordsOf (now card)) c ⌝ }
+    ensures { λ r. ⌜ r ≡ headOf (wordsOf (now (card .entry))) c ⌝ }
+{
+    block_word(card, c.block, c.word)
+}
+
+// The cursor past its first word. The last link of a chain names no block, so a link is followed only to a word that is to come.
+pub fn moved(card: &[u8], c: Cursor) -> Cursor
+    requires { ⌜ (0 < c .left) × Good (wordsOf (now card)) c ⌝ }
+    ensures { λ r. ⌜ r ≡ movedOf (wordsOf (now (card .entry))) c ⌝ }
+{
+    let block = c.block;
+    let word = c.word;
+    let left = c.left;
+    if word == 1022 && 1 < left {
+        let next = next_block(card, block);
+        Cursor {
+            block: next,
+            word: 0,
+            left: left - 1,
+        }
+    } else {
+        Cursor {
+            block: block,
+            word: word + 1,
+            left: left - 1,
+        }
+    }
+}
+
+// The cursor at word `offset` of the content of the chain of n blocks from `first` on, with `left` words to come.
+pub fn seek(card: &[u8], first: u16, n: u32, offset: u32, left: u32) -> Cursor
+    requires { ⌜ (offset + left ≤ 1023 * n) × Chained (wordsOf (now card)) first n ⌝ }
+    ensures { λ r. ⌜ (ahead (wordsOf (now (card .entry))) r ≡ take left (drop offset (content (wordsOf (now (card .entry))) (chain (wordsOf (now (card .entry))) first n))))
+        × Good (wordsOf (now (card .entry))) r ⌝ }
+{
+    let mut block = first;
+    let mut m = n;
+    let mut k = offset;
+    while 1023 <= k && 1 < m {
+        block = next_block(card, block);
+        m -= 1;
+        k -= 1023;
+    }
+    Cursor {
+        block: block,
+        word: k as u16,
+        left: left,
+    }
+}
