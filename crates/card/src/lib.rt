@@ -4,7 +4,7 @@ ghost use Prim.Native.Nat.{ℕ, _+_, _*_, _≤_, _<_};
 ghost use lib.ListN.{length, getD, take, drop};
 ghost use Rattle.words.specs.Words.{words as wordsOf};
 ghost use Rattle.card.specs.Blocks.{link};
-ghost use Rattle.card.specs.Chains.{chain, content};
+ghost use Rattle.card.specs.Chains.{chain, chainRule, content};
 ghost use Rattle.card.specs.Cursors.{InCard, Chained, ahead, Good, headOf, movedOf};
 
 // A place in the content of a chain: a word of a block, and how many words are still to come from there on.
@@ -81,4 +81,21 @@ pub fn seek(card: &[u8], first: u16, n: u32, offset: u32, left: u32) -> Cursor
         word: k as u16,
         left: left,
     }
+}
+
+// Whether the n blocks from `first` on are a chain: at least one, each on the card, and the last one names no next block.
+pub fn chain_ok(card: &[u8], blocks: u32, first: u16, n: u32) -> bool
+    requires { ⌜ (length (wordsOf (now card)) ≡ 1024 * blocks) × (blocks ≤ 4096) ⌝ }
+    ensures { λ r. ⌜ r ≡ chainRule (wordsOf (now (card .entry))) blocks first n ⌝ }
+{
+    let mut next = first as u32;
+    let mut m = n;
+    while 0 < m {
+        if blocks <= next {
+            return false;
+        }
+        next = block_word(card, next as u16, 1023);
+        m -= 1;
+    }
+    0 < n && next == 65534
 }

@@ -1,0 +1,42 @@
+-- A chain block by block: the rule of the whole is the rule of what is left.
+use mathlib.Core.Bool.{Bool, true, false, _&&_, cond}
+use mathlib.Core.List.{List}
+use mathlib.Core.Path.{_≡_, refl}
+use Prim.Native.Nat.{ℕ, zero, suc, _-_, _<_, _≤_}
+use native.Mathlib.Omega.{arith}
+use lib.Dec.{eqb, ltb}
+use borrow.Author.Tests.{lt-ltb, le-ltb}
+use Rattle.card.specs.Blocks.{noBlock, link}
+use Rattle.card.specs.Chains.{chain, chainRule}
+
+-- the rule resumed: n blocks from b on, or none any more, where b is the last link
+unfoldable pub restRule : List ℕ → ℕ → ℕ → ℕ → Bool
+restRule W limit b zero = eqb b noBlock
+restRule W limit b (suc n) = ltb b limit && restRule W limit (link W b) n
+
+module _ (W : List ℕ) (limit : ℕ) where
+  -- a chain of at least one block keeps the rule where what is left of it at the start does
+  pub rule-rest : (b n : ℕ) → 0 < n → chainRule W limit b n ≡ restRule W limit b n
+  unfolding chainRule restRule
+  rule-rest b zero h = absurd (omega arith)
+  rule-rest b (suc zero) h = refl
+  rule-rest b (suc (suc n)) h = rw (rule-rest (link W b) (suc n) (omega arith))
+
+  pub rule-none : (b n : ℕ) → n ≡ 0 → chainRule W limit b n ≡ false
+  unfolding chainRule
+  rule-none b n e = rw e
+
+  -- what is left from a block that is not on the card, from one that is, and past the last
+  pub rest-out : (b n : ℕ) → 0 < n → limit ≤ b → restRule W limit b n ≡ false
+  unfolding restRule
+  rest-out b zero h l = absurd (omega arith)
+  rest-out b (suc n) h l = rw (le-ltb b limit l)
+
+  pub rest-on : (b n : ℕ) → 0 < n → b < limit → restRule W limit b n ≡ restRule W limit (link W b) (n - 1)
+  unfolding restRule
+  rest-on b zero h l = absurd (omega arith)
+  rest-on b (suc n) h l = let e : suc n - 1 ≡ n = omega arith in rw (lt-ltb b limit l, e)
+
+  pub rest-end : (b n : ℕ) → n ≡ 0 → restRule W limit b n ≡ eqb b noBlock
+  unfolding restRule
+  rest-end b n e = rw e
