@@ -18,7 +18,7 @@ use Rattle.card.specs.Chains.{chain, chainRule, content}
 use Rattle.card.specs.Writes.{store, release}
 use Rattle.partitions.specs.Layout.{lengthOf, encode}
 use Rattle.partitions.specs.Reading.{decode, postingsOf, inPartitions, stored}
-use Rattle.partitions.specs.Formed.{partitionRule, chainsOf, partitionsFormed, listRule, sumsInRange}
+use Rattle.partitions.specs.Formed.{partitionRule, chainsOf, partitionsFormed, listRule, sumsInRange, identifierFormed}
 use Rattle.windows.specs.Flush.{finishedBlocks, flushedTo, flushedCard, flushing, flushingIf}
 use Rattle.windows.specs.Calls.{fresh, opened, openOf, closed, closeOf, eventFlushes, counted, eventOf, flushOf}
 use Rattle.queries.specs.Hits.{frequency, score, matching, ranked}
@@ -70,7 +70,7 @@ cases =
     ∷ []
 
 quick-table : map (λ t. latest (t .told) (run quickCall (fresh 16384 195) (t .calls))) cases ≡ map (λ t. t .told) cases
-unfolding quickCall rising largest tfWeight idfWeight words bytes nonzero pairs negated refuseIf choose lengthsRule windowsRule listedRule postingRule bufferRule recordRule partitionsRule mergeRule stateRule badLength numbersOf names registerRule added freeBlocks chain chainRule content store release lengthOf encode decode postingsOf inPartitions stored partitionRule chainsOf partitionsFormed listRule sumsInRange finishedBlocks flushedTo flushedCard flushing flushingIf fresh opened openOf closed closeOf eventFlushes counted eventOf flushOf frequency score matching ranked countIn takenUp queryFormed badQuery querying quickHits quickQuery countsOf removalFormed removalFlushes removed removing removeOf taking progress outputContent outputRule stepFormed outputOn steppedOn writtenOn stepping stepOf probeCall run
+unfolding quickCall rising largest tfWeight idfWeight words bytes nonzero pairs negated refuseIf choose lengthsRule windowsRule listedRule postingRule bufferRule recordRule partitionsRule mergeRule stateRule badLength numbersOf names registerRule added freeBlocks chain chainRule content store release lengthOf encode decode postingsOf inPartitions stored partitionRule chainsOf partitionsFormed listRule sumsInRange identifierFormed finishedBlocks flushedTo flushedCard flushing flushingIf fresh opened openOf closed closeOf eventFlushes counted eventOf flushOf frequency score matching ranked countIn takenUp queryFormed badQuery querying quickHits quickQuery countsOf removalFormed removalFlushes removed removing removeOf taking progress outputContent outputRule stepFormed outputOn steppedOn writtenOn stepping stepOf probeCall run
 quick-table = refl
 
 -- the engine's answers, byte by byte

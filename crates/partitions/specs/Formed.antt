@@ -10,9 +10,11 @@ use Rattle.postings.specs.Order.{ordered}
 use Rattle.postings.specs.Merge.{isZero, pairs}
 use Rattle.postings.specs.Sums.{under}
 use Rattle.state.specs.declared.Partition.{Partition}
+use Rattle.state.specs.declared.State.{State}
+use Rattle.state.specs.Views.{finished}
 use Rattle.card.specs.Chains.{blocksFor, chainRule, content}
 use Rattle.partitions.specs.Layout.{totalLength}
-use Rattle.partitions.specs.Reading.{field, entryNumber, entryCount, entryFirst, chainOf, postingsOf}
+use Rattle.partitions.specs.Reading.{field, entryNumber, entryCount, entryFirst, chainOf, postingsOf, inPartitions, stored}
 
 -- a header names at least one identifier and one posting, the layout's offsets, the record's length and level, and twice 0
 abbrev pub headerRule : Partition → List ℕ → Bool
@@ -68,3 +70,9 @@ inRange z = leb (natAbs z) 32767
 -- every pair's sum fits; a pair that does not occur has the sum 0
 unfoldable pub sumsInRange : List Posting → Bool
 sumsInRange l = every (λ p. inRange (p .count)) (pairs l)
+
+-- what is read of one identifier: its lists in the finished partitions, and the sums of its pairs, over the partitions and with the buffer
+unfoldable pub identifierFormed : List ℕ → State → ℕ → Bool
+identifierFormed W s i =
+    every (λ p. listRule (under i (postingsOf W p))) (finished (s .partitions))
+    && (sumsInRange (under i (inPartitions W (finished (s .partitions)))) && sumsInRange (under i (stored W s)))

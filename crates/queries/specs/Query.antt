@@ -7,7 +7,7 @@ use lib.ListN.{length, drop}
 use Rattle.lists.specs.Lists.{keep, any, every, empty, elem, down}
 use Rattle.words.specs.Words.{words}
 use Rattle.postings.specs.declared.Posting.{Posting}
-use Rattle.postings.specs.Sums.{sum, under, above}
+use Rattle.postings.specs.Sums.{sum, above}
 use Rattle.answers.specs.Answers.{Outcome, refuse, leave, refuseIf, hits}
 use Rattle.answers.specs.declared.Hit.{Hit}
 use Rattle.state.specs.declared.State.{State}
@@ -16,8 +16,8 @@ use Rattle.state.specs.Rules.{stateRule}
 use Rattle.state.specs.Probe.{Probe, sameLength}
 use Rattle.identifiers.specs.Names.{Name, badLength, distinct, numbersOf}
 use Rattle.identifiers.specs.Register.{names, registerRule}
-use Rattle.partitions.specs.Reading.{postingsOf, inPartitions, stored}
-use Rattle.partitions.specs.Formed.{partitionsFormed, listRule, sumsInRange}
+use Rattle.partitions.specs.Reading.{stored}
+use Rattle.partitions.specs.Formed.{partitionsFormed, identifierFormed}
 use Rattle.queries.specs.Hits.{ranked}
 
 -- the count of a pair: the sum of what is stored, and nothing where that is not above 0
@@ -32,14 +32,10 @@ takenUp W s is = length (keep (λ p. elem (p .id) is) (stored W s))
 abbrev pub numbers : List ℕ → List Name → List ℕ
 numbers register ns = numbersOf (names register) ns
 
--- refusal 3: the register, all finished partitions, and for each identifier its lists and the sums of its pairs, over the partitions and with
--- the buffer
+-- refusal 3: the register, all finished partitions, and what is read of each identifier
 unfoldable pub queryFormed : List ℕ → State → List ℕ → List ℕ → Bool
 queryFormed W s register is =
-    registerRule register
-    && (partitionsFormed W (blocks s) (finished (s .partitions))
-    && (every (λ i. every (λ p. listRule (under i (postingsOf W p))) (finished (s .partitions))) is
-    && every (λ i. sumsInRange (under i (inPartitions W (finished (s .partitions)))) && sumsInRange (under i (stored W s))) is))
+    registerRule register && (partitionsFormed W (blocks s) (finished (s .partitions)) && every (identifierFormed W s) is)
 
 -- refusal 14: no identifier or more than 5, one of them twice, or a list of no places or more than 32
 unfoldable pub badQuery : ℕ → List Name → Bool
