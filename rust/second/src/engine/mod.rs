@@ -1,0 +1,22 @@
+//! The calls, a file each.
+//!
+//! Every call checks its refusals in the order of their numbers and writes only
+//! when none is left, so that a refused call changes nothing.
+
+mod close;
+mod event;
+mod flush;
+mod open;
+mod query;
+mod remove;
+mod start;
+mod step;
+
+pub use close::close;
+pub use event::event;
+pub use flush::flush;
+pub use open::open;
+pub use query::{Found, query};
+pub use remove::remove;
+pub use start::start;
+pub use step::step;

@@ -1,0 +1,77 @@
+//! Remove a closed window.
+
+use super::flush::write_buffer;
+use crate::limits::{BUFFER, WINDOW_IDENTIFIERS};
+use crate::partition::{Stored, read_all};
+use crate::postings::{Sums, add, are_counts, nonzero};
+use crate::refusal::Refusal;
+use crate::rules::{check_card, check_state};
+use crate::state::{Buffer, Posting, State, Windows};
+
+/// Takes out a closed window: each of its counts is buffered negated.
+pub fn remove(state: &mut State, card: &mut [u8], window: u32) -> Result<(), Refusal> {
+    check_state(state)?;
+    check_card(state, card)?;
+    let stored = read_all(&state.partitions.to_list(), card).ok_or(Refusal::Malformed)?;
+    let counts = counts_of(state, &stored, window).ok_or(Refusal::Malformed)?;
+    if state.windows.open != 0 && window == u32::from(state.windows.open) {
+        return Err(Refusal::WrongWindow);
+    }
+    let is_live = counts.iter().any(|posting| posting.count > 0);
+    if !is_live || window > u32::from(state.windows.last) || closed_windows(&state.windows) == 0 {
+        return Err(Refusal::NotLive);
+    }
+    if usize::from(state.buffer.used) + counts.len() > BUFFER {
+        write_buffer(state, card)?;
+    }
+    take_back(state, &counts);
+    state.windows.live -= 1;
+    Ok(())
+}
+
+/// The window's counts over partitions and buffer, or `None` if a list is
+/// malformed, a sum is no count or there are too many.
+fn counts_of(state: &State, stored: &[Stored], window: u32) -> Option<Vec<Posting>> {
+    let of_window = |postings: Vec<Posting>| -> Vec<Posting> {
+        postings
+            .into_iter()
+            .filter(|posting| u32::from(posting.window) == window)
+            .collect()
+    };
+    let mut sums = Sums::new();
+    for partition in stored {
+        add(&mut sums, &of_window(partition.all_lists()?));
+    }
+    let on_card = are_counts(&sums);
+    add(&mut sums, &of_window(state.buffer.to_list()));
+    if !on_card || !are_counts(&sums) {
+        return None;
+    }
+    let counts = nonzero(&sums);
+    (counts.len() <= WINDOW_IDENTIFIERS).then_some(counts)
+}
+
+/// How many windows exist beside the open one.
+fn closed_windows(windows: &Windows) -> u16 {
+    if windows.events > 0 {
+        windows.live - 1
+    } else {
+        windows.live
+    }
+}
+
+/// Buffers the counts negated. What remains of a pair in the buffer is its sum
+/// on the card negated, so it is a count or 0.
+fn take_back(state: &mut State, counts: &[Posting]) {
+    let negated: Vec<Posting> = counts
+        .iter()
+        .map(|posting| Posting {
+            count: -posting.count,
+            ..*posting
+        })
+        .collect();
+    let mut sums = Sums::new();
+    add(&mut sums, &state.buffer.to_list());
+    add(&mut sums, &negated);
+    state.buffer = Buffer::from_list(&nonzero(&sums));
+}

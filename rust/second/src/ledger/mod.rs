@@ -1,0 +1,220 @@
+//! What the calls must answer, kept without bytes.
+//!
+//! The ledger maps each live window to its counts and answers from that alone.
+//! Beside it runs an account of the card: how many postings lie where, which
+//! decides when there is no room and what a query takes up. Neither uses any
+//! code or type of the engine, so that an error is not made twice.
+
+pub mod account;
+
+use account::Account;
+use std::collections::{BTreeMap, BTreeSet};
+
+/// An answer, or the number of the refusal.
+pub type Answer<T> = Result<T, u8>;
+
+/// What a query answers.
+#[derive(Clone, PartialEq, Eq, Debug)]
+pub struct Reply {
+    /// Window and score of each hit.
+    pub hits: Vec<(u32, u32)>,
+    /// Stored postings taken up.
+    pub taken: usize,
+}
+
+/// The live windows and what the calls have done to them.
+#[derive(Clone, PartialEq, Eq, Debug)]
+pub struct Ledger {
+    /// The counts of each window that exists, by identifier.
+    pub live: BTreeMap<u32, BTreeMap<Vec<u8>, u32>>,
+    /// The last window number given.
+    pub last: u32,
+    /// The open window.
+    pub open: Option<u32>,
+    /// The open window's identifiers in order of first count.
+    pub listed: Vec<Vec<u8>>,
+    /// The identifiers ever counted, in order; the place is the number.
+    pub known: Vec<Vec<u8>>,
+    /// The most identifiers that can be known.
+    pub entries: usize,
+    /// The account of the card.
+    pub account: Account,
+}
+
+impl Ledger {
+    /// The ledger of a fresh card.
+    pub fn new(blocks: usize, entries: usize) -> Self {
+        Ledger {
+            live: BTreeMap::new(),
+            last: 0,
+            open: None,
+            listed: Vec::new(),
+            known: Vec::new(),
+            entries,
+            account: Account::new(blocks),
+        }
+    }
+
+    /// Opens a window.
+    pub fn open(&mut self) -> Answer<u32> {
+        if self.open.is_some() {
+            return Err(5);
+        }
+        if self.last == 65_535 {
+            return Err(6);
+        }
+        self.last += 1;
+        self.open = Some(self.last);
+        Ok(self.last)
+    }
+
+    /// Counts an identifier in the open window.
+    pub fn event(&mut self, identifier: &[u8]) -> Answer<()> {
+        if !is_identifier(identifier) {
+            return Err(4);
+        }
+        let window = self.open.ok_or(5)?;
+        if self.events() == 32_767 {
+            return Err(6);
+        }
+        let number = match self.number(identifier) {
+            Some(number) => number,
+            None if self.known.len() == self.entries => return Err(8),
+            None => self.known.len(),
+        };
+        let is_listed = self.listed.iter().any(|listed| listed == identifier);
+        if !is_listed && self.listed.len() == 64 {
+            return Err(9);
+        }
+        if !self.account.has_room_for(number, window) {
+            self.account.flush()?;
+        }
+        if number == self.known.len() {
+            self.known.push(identifier.to_vec());
+        }
+        if !is_listed {
+            self.listed.push(identifier.to_vec());
+        }
+        let counts = self.live.entry(window).or_default();
+        *counts.entry(identifier.to_vec()).or_insert(0) += 1;
+        self.account.add(number, window, 1);
+        Ok(())
+    }
+
+    /// Closes the open window.
+    pub fn close(&mut self) -> Answer<()> {
+        let window = self.open.ok_or(5)?;
+        if !self.live.contains_key(&window) {
+            self.last -= 1;
+        }
+        self.open = None;
+        self.listed.clear();
+        Ok(())
+    }
+
+    /// Takes out a closed window.
+    pub fn remove(&mut self, window: u32) -> Answer<()> {
+        if self.open == Some(window) {
+            return Err(5);
+        }
+        let counts = self.live.get(&window).ok_or(7)?.clone();
+        if self.account.buffer.len() + counts.len() > 128 {
+            self.account.flush()?;
+        }
+        for (identifier, count) in &counts {
+            let number = self.number(identifier).expect("a counted one is known");
+            self.account.add(number, window, -i64::from(*count));
+        }
+        self.live.remove(&window);
+        Ok(())
+    }
+
+    /// Writes the buffer to the card.
+    pub fn flush(&mut self) -> Answer<()> {
+        if self.account.buffer.is_empty() {
+            return Ok(());
+        }
+        self.account.flush()
+    }
+
+    /// Takes a step of a merge.
+    pub fn step(&mut self) -> Answer<()> {
+        self.account.step()
+    }
+
+    /// The best windows for the identifiers, at most so many.
+    pub fn query(&self, ids: &[&[u8]], places: usize) -> Answer<Reply> {
+        if !ids.iter().all(|id| is_identifier(id)) {
+            return Err(4);
+        }
+        let different: BTreeSet<&[u8]> = ids.iter().copied().collect();
+        if ids.is_empty() || ids.len() > 5 || different.len() < ids.len() {
+            return Err(14);
+        }
+        if places == 0 || places > 32 {
+            return Err(14);
+        }
+        let numbers: Vec<usize> = ids.iter().filter_map(|id| self.number(id)).collect();
+        let mut hits = self.scores(ids);
+        hits.sort_by(|a, b| b.1.cmp(&a.1).then(b.0.cmp(&a.0)));
+        hits.truncate(places);
+        Ok(Reply {
+            hits,
+            taken: self.account.stored(&numbers),
+        })
+    }
+
+    /// The open window's events.
+    pub fn events(&self) -> u32 {
+        let counts = self.open.and_then(|window| self.live.get(&window));
+        counts.map_or(0, |counts| counts.values().sum())
+    }
+
+    /// An identifier's number.
+    pub fn number(&self, identifier: &[u8]) -> Option<usize> {
+        self.known.iter().position(|known| known == identifier)
+    }
+
+    /// Every window with one of the identifiers, and its score.
+    fn scores(&self, ids: &[&[u8]]) -> Vec<(u32, u32)> {
+        let rarities: Vec<u32> = ids
+            .iter()
+            .map(|&id| rarity_weight(self.live.len() as u128, self.windows_with(id)))
+            .collect();
+        let mut scores = Vec::new();
+        for (&window, counts) in &self.live {
+            let found = ids.iter().zip(&rarities);
+            let products: Vec<u32> = found
+                .filter_map(|(&id, rarity)| Some(count_weight(*counts.get(id)?) * rarity))
+                .collect();
+            if !products.is_empty() {
+                scores.push((window, products.iter().sum()));
+            }
+        }
+        scores
+    }
+
+    fn windows_with(&self, id: &[u8]) -> u128 {
+        let with = self.live.values().filter(|counts| counts.contains_key(id));
+        with.count() as u128
+    }
+}
+
+fn is_identifier(bytes: &[u8]) -> bool {
+    !bytes.is_empty() && bytes.len() <= 64
+}
+
+/// The largest a with 2^a at most (count + 1)^4.
+pub fn count_weight(count: u32) -> u32 {
+    let power = (u128::from(count) + 1).pow(4);
+    (0..127).rfind(|&a| 1 << a <= power).unwrap_or(0)
+}
+
+/// The largest b with 2^b times with^4 at most live^4; 0 if `with` is 0 or above `live`.
+pub fn rarity_weight(live: u128, with: u128) -> u32 {
+    if with == 0 || with > live {
+        return 0;
+    }
+    let fits = |&b: &u32| (1 << b) * with.pow(4) <= live.pow(4);
+    (0..64).rfind(fits).unwrap_or(0)
+}

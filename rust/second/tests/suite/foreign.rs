@@ -1,0 +1,237 @@
+//! What the calls do with states and cards that no history of theirs made.
+
+use crate::calls::{Call, event, make, outcome, query};
+use crate::image::BLOCK;
+use crate::malformed::{card_of, part};
+use second::commands::Probe;
+use second::engine;
+use second::state::{Hit, Posting};
+
+fn posting(id: u16, window: u16, count: i16) -> Posting {
+    Posting { id, window, count }
+}
+
+/// Puts a list of postings into the buffer.
+fn buffered(probe: &mut Probe, postings: &[Posting]) {
+    probe.state.buffer = Default::default();
+    probe.state.buffer.postings[..postings.len()].copy_from_slice(postings);
+    probe.state.buffer.used = postings.len() as u16;
+}
+
+/// A buffer of 128 postings of window 7.
+fn full(probe: &mut Probe) {
+    let postings: Vec<Posting> = (0..128).map(|id| posting(id, 7, 1)).collect();
+    buffered(probe, &postings);
+}
+
+/// So many partitions of level 0 with one posting each, on 16 blocks.
+fn small_parts(count: u32) -> Probe {
+    let parts = (1..=count).map(|window| part(0, vec![(0, window, 1)]));
+    card_of(parts.collect())
+}
+
+/// The next number is listed for the open window before it is in the register.
+#[test]
+fn a_coming_number_may_be_listed_already() {
+    let mut probe = small_parts(0);
+    probe.state.listed.used = 64;
+    probe.state.listed.ids = std::array::from_fn(|place| 63 - place as u16);
+    let listed = probe.state.listed.clone();
+    make(&mut probe, &event(b"E")).unwrap();
+    assert_eq!(probe.state.listed, listed);
+    assert_eq!(probe.register[4 * 65..][..2], [1, b'E']);
+    let expected = [posting(0, 2000, 1), posting(4, 2000, 1)];
+    assert_eq!(probe.state.buffer.to_list(), expected);
+    // Without it among the 64, it is a 65th.
+    let mut probe = small_parts(0);
+    probe.state.listed.used = 64;
+    probe.state.listed.ids = std::array::from_fn(|place| place as u16 + 10);
+    assert_eq!(outcome(&probe, &event(b"E")), 9);
+}
+
+/// The pair of a new identifier is in a full buffer already.
+#[test]
+fn a_coming_number_may_be_buffered_already() {
+    let mut probe = small_parts(0);
+    full(&mut probe);
+    probe.state.buffer.postings[4].window = 2000;
+    make(&mut probe, &event(b"E")).unwrap();
+    assert_eq!(probe.state.partitions.used, 0);
+    assert_eq!(probe.state.buffer.postings[4], posting(4, 2000, 2));
+}
+
+#[test]
+fn more_windows_than_there_are_weigh_nothing() {
+    let mut probe = small_parts(3);
+    let mut hits = [Hit::default(); 4];
+    let mut ask = |live: u16, probe: &mut Probe| {
+        probe.state.windows.live = live;
+        let (card, register) = (&probe.card, &probe.register);
+        let found = engine::query(&probe.state, card, register, &[b"A"], &mut hits);
+        (
+            found.map(|found| (found.hits, found.taken)),
+            hits.map(|hit| hit.score),
+        )
+    };
+    // The open window has A as well.
+    assert_eq!(ask(3, &mut probe), (Ok((4, 4)), [0; 4]));
+    assert_eq!(ask(4, &mut probe), (Ok((4, 4)), [0; 4]));
+    assert_eq!(ask(8, &mut probe), (Ok((4, 4)), [16; 4]));
+}
+
+/// A sum below 0 is no hit, adds nothing to a score and is no window with it.
+#[test]
+fn sums_below_0_are_passed_over() {
+    let parts = vec![part(0, vec![(1, 9, -3), (1, 5, 3), (2, 9, 1)])];
+    let mut probe = card_of(parts);
+    probe.state.windows.live = 2;
+    let mut hits = [Hit::default(); 4];
+    let (card, register) = (&probe.card, &probe.register);
+    let found = engine::query(&probe.state, card, register, &[b"B"], &mut hits);
+    assert_eq!(found.map(|found| (found.hits, found.taken)), Ok((1, 2)));
+    assert_eq!((hits[0].window, hits[0].score), (5, 8 * 4));
+    let found = engine::query(&probe.state, card, register, &[b"B", b"C"], &mut hits);
+    assert_eq!(found.map(|found| (found.hits, found.taken)), Ok((2, 3)));
+    assert_eq!((hits[1].window, hits[1].score), (9, 4 * 4));
+}
+
+#[test]
+fn removal_needs_a_live_closed_window() {
+    let cases = [
+        (1, 0),
+        (4, 7),
+        (0, 7),
+        (2000, 5),
+        (2001, 7),
+        (65_536, 7),
+        (65_537, 7),
+    ];
+    for (window, expected) in cases {
+        assert_eq!(outcome(&small_parts(3), &Call::Remove(window)), expected);
+    }
+    // N counts the open window, which has an event, and no other.
+    let mut probe = small_parts(3);
+    probe.state.windows.live = 1;
+    assert_eq!(outcome(&probe, &Call::Remove(1)), 7);
+    make(&mut probe, &Call::Close).unwrap();
+    assert_eq!(outcome(&probe, &Call::Remove(1)), 0);
+    assert_eq!(outcome(&probe, &Call::Remove(0)), 7);
+    // A window above the last number given, with a count above 0.
+    let probe = card_of(vec![part(0, vec![(0, 2001, 1)])]);
+    assert_eq!(outcome(&probe, &Call::Remove(2001)), 7);
+    // Counts below 0 only.
+    let probe = card_of(vec![part(0, vec![(0, 9, -1)])]);
+    assert_eq!(outcome(&probe, &Call::Remove(9)), 7);
+}
+
+/// Counts below 0 go as well, and a sum of 0 leaves the buffer.
+#[test]
+fn removal_takes_back_every_count() {
+    let mut probe = card_of(vec![part(0, vec![(0, 9, 3), (1, 9, -2), (2, 9, 5)])]);
+    let before = [posting(0, 9, 4), posting(2, 9, -5), posting(3, 9, 6)];
+    buffered(&mut probe, &before);
+    make(&mut probe, &Call::Remove(9)).unwrap();
+    let after = [posting(0, 9, -3), posting(1, 9, 2), posting(2, 9, -5)];
+    assert_eq!(probe.state.buffer.to_list(), after);
+    assert_eq!(probe.state.windows.live, 1499);
+    assert_eq!(outcome(&probe, &Call::Remove(9)), 7);
+}
+
+/// Makes the free blocks hold something, all but so many.
+fn occupied(mut probe: Probe, used: usize, free: usize) -> Probe {
+    for number in used + free..16 {
+        probe.card[number * BLOCK + 4095] = 254;
+    }
+    probe
+}
+
+#[test]
+fn blocks_that_are_not_all_255_are_not_free() {
+    // Of one block: a flush, inside other calls too.
+    for (free, expected) in [(0, 12), (1, 0)] {
+        let mut probe = occupied(small_parts(3), 3, free);
+        assert_eq!(outcome(&probe, &Call::Flush), expected);
+        full(&mut probe);
+        assert_eq!(outcome(&probe, &event(b"A")), expected);
+        assert_eq!(outcome(&probe, &Call::Remove(1)), expected);
+    }
+    // Of two blocks: a merge of many postings.
+    for (free, expected) in [(0, 12), (1, 12), (2, 0)] {
+        let lists = (0..8).map(|input| {
+            let windows = (1..=200).rev().map(|window| input * 200 + window);
+            part(0, windows.map(|window| (0, window, 1)).collect())
+        });
+        let probe = occupied(card_of(lists.collect()), 8, free);
+        assert_eq!(outcome(&probe, &Call::Step), expected);
+    }
+    // Nothing due: nothing to take.
+    assert_eq!(outcome(&occupied(small_parts(7), 7, 0), &Call::Step), 13);
+}
+
+/// The blocks after the one last taken come first, that one itself last.
+#[test]
+fn the_block_last_taken_comes_last() {
+    for (taken, free, expected) in [(5, [5, 9], 9), (5, [5, 2], 2), (5, [5, 5], 5)] {
+        let mut probe = occupied(small_parts(1), 1, 0);
+        for number in free {
+            probe.card[number * BLOCK..][..BLOCK].fill(255);
+        }
+        probe.state.taken = taken;
+        make(&mut probe, &Call::Flush).unwrap();
+        assert_eq!(probe.state.taken as usize, expected);
+        assert_eq!(probe.state.partitions.records[1].first as usize, expected);
+    }
+}
+
+/// The blocks of finished partitions are counted by their records, whatever
+/// the card holds.
+#[test]
+fn room_is_reckoned_by_the_records() {
+    let mut probe = small_parts(7);
+    assert_eq!(outcome(&probe, &Call::Flush), 0);
+    probe.state.partitions.records[0].length = 4092;
+    assert_eq!(outcome(&probe, &Call::Flush), 0);
+    probe.state.partitions.records[0].length = 4093;
+    assert_eq!(outcome(&probe, &Call::Flush), 11);
+    // Nothing to write, nothing to refuse.
+    probe.state.buffer = Default::default();
+    assert_eq!(outcome(&probe, &Call::Flush), 0);
+}
+
+#[test]
+fn reasons_come_in_their_order() {
+    // 10 before 11 before 12, for a flush and inside an event.
+    let mut probe = occupied(small_parts(16), 16, 0);
+    full(&mut probe);
+    assert_eq!(outcome(&probe, &Call::Flush), 10);
+    assert_eq!(outcome(&probe, &event(b"A")), 10);
+    let mut probe = occupied(small_parts(8), 8, 0);
+    full(&mut probe);
+    assert_eq!(outcome(&probe, &Call::Flush), 11);
+    assert_eq!(outcome(&probe, &event(b"A")), 11);
+    assert_eq!(outcome(&probe, &Call::Remove(1)), 11);
+    // 9 before 10, 8 before 9, 6 before 8, 5 before 6, 4 before 5.
+    probe.state.listed.used = 64;
+    probe.state.listed.ids = std::array::from_fn(|place| place as u16 + 10);
+    assert_eq!(outcome(&probe, &event(b"A")), 9);
+    probe.register[4 * 65..][..2].copy_from_slice(b"\x01E");
+    assert_eq!(outcome(&probe, &event(b"A")), 9);
+    assert_eq!(outcome(&probe, &event(b"F")), 8);
+    probe.state.windows.events = 32_767;
+    assert_eq!(outcome(&probe, &event(b"F")), 6);
+    make(&mut probe, &Call::Close).unwrap();
+    assert_eq!(outcome(&probe, &event(b"F")), 5);
+    assert_eq!(outcome(&probe, &event(b"")), 4);
+    // 4 before 14.
+    assert_eq!(outcome(&probe, &Call::Query(vec![vec![0; 65]], 0)), 4);
+    assert_eq!(outcome(&probe, &query(&[b"A", b"A", b""])), 4);
+    assert_eq!(outcome(&probe, &query(&[b"A", b"A"])), 14);
+    // 5 before 6.
+    let mut probe = small_parts(0);
+    probe.state.buffer = Default::default();
+    probe.state.windows.last = 65_535;
+    probe.state.windows.open = 65_535;
+    assert_eq!(outcome(&probe, &Call::Open), 5);
+    make(&mut probe, &Call::Close).unwrap();
+    assert_eq!(outcome(&probe, &Call::Open), 6);
+}

@@ -1,0 +1,210 @@
+//! Random histories in which the engine is held against the ledger at every call.
+
+use crate::history::{Odds, Plan, act, name, run};
+use crate::rng::Rng;
+use crate::tally::Tally;
+use crate::twin::Twin;
+
+const EVEN: Odds = Odds {
+    turn: 10,
+    event: 60,
+    remove: 8,
+    flush: 4,
+    step: 10,
+    query: 8,
+    odd: 3,
+};
+
+/// Flushes and merges often, with few postings in each.
+const MERGING: Odds = Odds {
+    turn: 12,
+    event: 25,
+    remove: 10,
+    flush: 20,
+    step: 30,
+    query: 5,
+    odd: 2,
+};
+
+/// Removes as much as it counts, so that merges come out empty.
+const CANCELLING: Odds = Odds {
+    turn: 20,
+    event: 20,
+    remove: 20,
+    flush: 25,
+    step: 15,
+    query: 3,
+    odd: 1,
+};
+
+/// Never merges of itself, so that level 0 or the card fills up.
+const JAMMED: Odds = Odds {
+    step: 1,
+    flush: 10,
+    ..EVEN
+};
+
+/// Long windows, so that they fill up and split.
+const WIDE: Odds = Odds {
+    turn: 1,
+    event: 150,
+    remove: 8,
+    flush: 4,
+    step: 12,
+    query: 6,
+    odd: 2,
+};
+
+/// Fills the buffer and lets it overflow, with merges of many postings.
+const GROWING: Odds = Odds {
+    turn: 5,
+    event: 80,
+    remove: 1,
+    flush: 0,
+    step: 12,
+    query: 2,
+    odd: 1,
+};
+
+fn plan(seed: u64, blocks: usize, entries: usize, calls: usize) -> Plan {
+    Plan {
+        seed,
+        blocks,
+        entries,
+        calls,
+        names: entries + 2,
+        keep: 8,
+        odds: EVEN,
+    }
+}
+
+/// The histories that between them meet everything.
+fn plans() -> Vec<Plan> {
+    let mut plans = Vec::new();
+    for seed in 0..4 {
+        plans.extend([
+            plan(seed, 16, 64, 4000),
+            Plan {
+                names: 30,
+                odds: MERGING,
+                ..plan(seed + 10, 64, 32, 12_000)
+            },
+            Plan {
+                names: 3,
+                keep: 0,
+                odds: CANCELLING,
+                ..plan(seed + 20, 40, 4, 6000)
+            },
+            Plan {
+                odds: JAMMED,
+                ..plan(seed + 30, 4 + seed as usize * 16, 12, 2000)
+            },
+            Plan {
+                names: 200,
+                keep: 3,
+                odds: WIDE,
+                ..plan(seed + 40, 48, 180, 8000)
+            },
+            Plan {
+                names: 100,
+                keep: 300,
+                odds: GROWING,
+                ..plan(seed + 50, 96, 128, 7000)
+            },
+        ]);
+    }
+    plans
+}
+
+/// Counts, flushes, removes and flushes again, so that whole merges cancel.
+fn sweep(seed: u64) -> Twin {
+    let mut twin = Twin::new(24, 32);
+    let mut rng = Rng(seed);
+    for _ in 0..200 {
+        let window = twin.open().expect("a number is left");
+        for _ in 0..1 + rng.below(20) {
+            twin.event(&name(rng.below(32))).expect("there is room");
+        }
+        twin.close().expect("it is open");
+        twin.flush().expect("there is room");
+        twin.query(&[&name(0), &name(1)], 5).expect("a query");
+        twin.remove(window).expect("it is live");
+        twin.flush().expect("there is room");
+        while rng.one_in(2) || twin.ledger.account.parts.len() > 10 {
+            let is_due = twin.ledger.account.due_inputs().is_some();
+            assert_eq!(twin.step().is_ok(), is_due);
+            twin.query(&[&name(0), &name(1)], 5).expect("a query");
+        }
+    }
+    twin
+}
+
+/// What must have been seen, or a test would be empty.
+const SIGHTS: [&str; 17] = [
+    "blocks taken round the end",
+    "empty results after several steps",
+    "flushes during a merge",
+    "flushes inside events",
+    "flushes inside removals",
+    "flushes of an empty buffer",
+    "merges that drop a sum of 0",
+    "merges that keep a negative posting",
+    "merges to level 1",
+    "merges to level 2",
+    "merges to level 3",
+    "merges with an empty result",
+    "numbers given back",
+    "outputs of several blocks",
+    "queries during a merge",
+    "queries of a window split over three partitions",
+    "queries of a window that skips a partition",
+];
+
+#[test]
+fn engine_and_ledger_agree_at_every_call() {
+    let mut tally = Tally::default();
+    for plan in plans() {
+        tally.absorb(&run(&plan).tally);
+    }
+    for seed in 60..64 {
+        tally.absorb(&sweep(seed).tally);
+    }
+    tally.print("Random histories:");
+    for sight in SIGHTS {
+        assert!(tally.sights.contains_key(sight), "never seen: {sight}");
+    }
+    for number in [4, 5, 7, 8, 9, 10, 11, 13, 14] {
+        assert!(tally.refusals.contains_key(&number), "never met: {number}");
+    }
+    // The room that refusal 11 keeps is enough for every merge: an output is no
+    // longer than its inputs.
+    assert!(!tally.refusals.contains_key(&12));
+}
+
+/// Short histories on cards and registers of all sizes.
+#[test]
+fn cards_and_registers_of_all_sizes_agree() {
+    let mut rng = Rng(77);
+    let mut tally = Tally::default();
+    for round in 0..60 {
+        let blocks = 4 + rng.below(1 << (2 + round % 7));
+        let entries = 1 + rng.below(1 << (round % 11));
+        let plan = Plan {
+            odds: rng.pick(&[EVEN, MERGING, JAMMED]),
+            ..plan(round, blocks, entries, 300)
+        };
+        tally.absorb(&run(&plan).tally);
+    }
+    for (blocks, entries) in [(4, 1), (4, 1024), (4096, 1), (4096, 1024)] {
+        let plan = Plan {
+            odds: MERGING,
+            ..plan(9, blocks, entries, 200)
+        };
+        let mut twin = Twin::new(blocks, entries);
+        for _ in 0..plan.calls {
+            act(&mut twin, &mut rng, &plan);
+        }
+        tally.absorb(&twin.tally);
+    }
+    tally.print("Cards and registers of all sizes:");
+}

@@ -1,0 +1,151 @@
+//! Random histories: calls at random, weighted by a plan.
+
+use crate::rng::Rng;
+use crate::twin::Twin;
+
+/// How likely each kind of call is, against the others.
+#[derive(Clone, Copy)]
+pub struct Odds {
+    /// Open a window, or close the open one.
+    pub turn: usize,
+    pub event: usize,
+    pub remove: usize,
+    pub flush: usize,
+    pub step: usize,
+    pub query: usize,
+    /// A call that is likely to be refused.
+    pub odd: usize,
+}
+
+#[derive(Clone, Copy)]
+pub struct Plan {
+    pub seed: u64,
+    pub blocks: usize,
+    pub entries: usize,
+    pub calls: usize,
+    /// How many different identifiers are used.
+    pub names: usize,
+    /// Windows are removed when more than this are live.
+    pub keep: usize,
+    pub odds: Odds,
+}
+
+/// The identifier of a number: of all lengths, with common beginnings and zeros.
+pub fn name(number: usize) -> Vec<u8> {
+    let mut name = match number % 4 {
+        0 => vec![b'A'; 1 + number / 4 % 60],
+        1 => b"SWITCH".to_vec(),
+        2 => vec![255; 60],
+        _ => vec![0; 1 + number / 4 % 7],
+    };
+    name.extend((number as u16).to_le_bytes());
+    name
+}
+
+/// Runs a history to its end.
+pub fn run(plan: &Plan) -> Twin {
+    let mut twin = Twin::new(plan.blocks, plan.entries);
+    let mut rng = Rng(plan.seed);
+    for _ in 0..plan.calls {
+        act(&mut twin, &mut rng, plan);
+    }
+    twin
+}
+
+/// A kind of call; tells whether it was done.
+type Call = fn(&mut Twin, &mut Rng, &Plan) -> bool;
+
+/// Makes one call.
+pub fn act(twin: &mut Twin, rng: &mut Rng, plan: &Plan) -> bool {
+    let odds = &plan.odds;
+    let kinds: [(usize, Call); 7] = [
+        (odds.turn, turn),
+        (odds.event, event),
+        (odds.remove, remove),
+        (odds.flush, |twin, _, _| twin.flush().is_ok()),
+        (odds.step, step),
+        (odds.query, query),
+        (odds.odd, odd),
+    ];
+    let mut place = rng.below(kinds.iter().map(|kind| kind.0).sum());
+    for (weight, call) in kinds {
+        if place < weight {
+            return call(twin, rng, plan);
+        }
+        place -= weight;
+    }
+    unreachable!("the weights have been added up")
+}
+
+fn turn(twin: &mut Twin, _: &mut Rng, _: &Plan) -> bool {
+    if twin.ledger.open.is_some() {
+        twin.close().is_ok()
+    } else {
+        twin.open().is_ok()
+    }
+}
+
+fn event(twin: &mut Twin, rng: &mut Rng, plan: &Plan) -> bool {
+    if twin.ledger.open.is_none() && !rng.one_in(20) {
+        twin.open().expect("a number is left");
+    }
+    twin.event(&name(rng.below(plan.names))).is_ok()
+}
+
+/// Removes an old window or any one.
+fn remove(twin: &mut Twin, rng: &mut Rng, plan: &Plan) -> bool {
+    let live: Vec<u32> = twin.ledger.live.keys().copied().collect();
+    if live.len() <= plan.keep {
+        return false;
+    }
+    let among = if rng.one_in(2) { 1 } else { live.len() };
+    twin.remove(live[rng.below(among)]).is_ok()
+}
+
+/// Steps where there is work, and now and then where there is none.
+fn step(twin: &mut Twin, rng: &mut Rng, _: &Plan) -> bool {
+    let is_due = twin.ledger.account.due_inputs().is_some();
+    (is_due || rng.one_in(20)) && twin.step().is_ok()
+}
+
+fn query(twin: &mut Twin, rng: &mut Rng, plan: &Plan) -> bool {
+    let names: Vec<Vec<u8>> = (0..1 + rng.below(5))
+        .map(|_| name(rng.below(plan.names + 2)))
+        .collect();
+    let ids: Vec<&[u8]> = names.iter().map(|name| &name[..]).collect();
+    twin.query(&ids, 1 + rng.below(32)).is_ok()
+}
+
+/// A call beyond a limit.
+fn odd(twin: &mut Twin, rng: &mut Rng, plan: &Plan) -> bool {
+    match rng.below(10) {
+        0 => twin.open().is_ok(),
+        1 => twin.close().is_ok(),
+        2 => twin.event(&vec![b'X'; rng.pick(&[0, 65, 66, 300])]).is_ok(),
+        3 => twin
+            .remove(rng.pick(&[0, 65_535, 65_536, u32::MAX]))
+            .is_ok(),
+        4 => twin.remove(twin.ledger.last + rng.below(3) as u32).is_ok(),
+        5 => twin
+            .remove(rng.below(twin.ledger.last as usize + 2) as u32)
+            .is_ok(),
+        6 => odd_query(twin, rng, plan),
+        7 => twin
+            .query(&[&name(0)], rng.pick(&[0, 1, 32, 33, 100]))
+            .is_ok(),
+        8 => twin.query(&[b"X", &[b'Y'; 65]], rng.below(34)).is_ok(),
+        _ => twin.query(&[&name(1), b""], rng.below(34)).is_ok(),
+    }
+}
+
+/// A query of too few, too many or equal identifiers.
+fn odd_query(twin: &mut Twin, rng: &mut Rng, plan: &Plan) -> bool {
+    let mut names: Vec<Vec<u8>> = (0..rng.below(8)).map(name).collect();
+    if rng.one_in(2) && !names.is_empty() {
+        names.push(names[0].clone());
+    }
+    let turns = rng.below(names.len().max(1));
+    names.rotate_left(turns);
+    let ids: Vec<&[u8]> = names.iter().map(|name| &name[..]).collect();
+    twin.query(&ids, 1 + plan.names % 32).is_ok()
+}

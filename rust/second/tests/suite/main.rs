@@ -1,0 +1,20 @@
+//! The tests of the second engine, a file for each subject.
+
+mod build;
+mod calls;
+mod damage;
+mod foreign;
+mod histories;
+mod history;
+mod image;
+mod layout;
+mod levels;
+mod limits;
+mod malformed;
+mod program;
+mod reading;
+mod rng;
+mod state_rules;
+mod tally;
+mod twin;
+mod worked_cases;

@@ -1,0 +1,135 @@
+//! Queries and removals on damaged cards that are still well-formed, held
+//! against a plain reading of the bytes.
+
+use crate::damage::{PLAN, any_name, damage};
+use crate::history::act;
+use crate::image::{decode, walk};
+use crate::rng::Rng;
+use crate::twin::Twin;
+use second::commands::Probe;
+use second::engine;
+use second::ledger::account::Entry;
+use second::ledger::{count_weight, rarity_weight};
+use second::state::{Hit, State};
+use std::cmp::Reverse;
+use std::collections::{BTreeMap, BTreeSet};
+
+/// Sums by identifier ascending, then window descending.
+type Sums = BTreeMap<(usize, Reverse<u32>), i64>;
+
+fn buffered(state: &State) -> Vec<Entry> {
+    let list = state.buffer.to_list().into_iter();
+    list.map(|p| (p.id.into(), p.window.into(), p.count.into()))
+        .collect()
+}
+
+/// All postings of a well-formed card and the buffer.
+fn all_entries(probe: &Probe) -> Vec<Entry> {
+    let mut entries = buffered(&probe.state);
+    for record in probe.state.partitions.to_list() {
+        let count = record.length.div_ceil(4092) as usize;
+        let blocks = walk(&probe.card, record.first.into(), count);
+        entries.extend(decode(&probe.card, &blocks));
+    }
+    entries
+}
+
+fn sums(entries: &[Entry]) -> Sums {
+    let mut sums = Sums::new();
+    for &(id, window, count) in entries {
+        *sums.entry((id, Reverse(window))).or_insert(0) += count;
+    }
+    sums.retain(|_, sum| *sum != 0);
+    sums
+}
+
+fn number(register: &[u8], id: &[u8]) -> Option<usize> {
+    let mut entries = register.chunks_exact(65);
+    entries.position(|entry| usize::from(entry[0]) == id.len() && entry[1..].starts_with(id))
+}
+
+/// The ranked windows and the postings taken up.
+fn plain_query(probe: &Probe, ids: &BTreeSet<Vec<u8>>) -> (Vec<(u32, u32)>, usize) {
+    let numbers: Vec<usize> = ids
+        .iter()
+        .filter_map(|id| number(&probe.register, id))
+        .collect();
+    let mut entries = all_entries(probe);
+    entries.retain(|entry| numbers.contains(&entry.0));
+    let mut sums = sums(&entries);
+    sums.retain(|_, sum| *sum > 0);
+    let live = probe.state.windows.live.into();
+    let mut scores: BTreeMap<u32, u32> = BTreeMap::new();
+    for (&(id, Reverse(window)), &count) in &sums {
+        let with = sums.keys().filter(|pair| pair.0 == id).count();
+        let weight = count_weight(count as u32) * rarity_weight(live, with as u128);
+        *scores.entry(window).or_insert(0) += weight;
+    }
+    let mut ranked: Vec<(u32, u32)> = scores.into_iter().collect();
+    ranked.sort_by_key(|&(window, score)| Reverse((score, window)));
+    (ranked, entries.len())
+}
+
+/// The buffer after a window is taken out.
+fn plain_removal(probe: &Probe, window: u32) -> Vec<Entry> {
+    let counts = sums(&all_entries(probe));
+    let counts = counts.iter().filter(|(pair, _)| pair.1.0 == window);
+    let negated: Vec<Entry> = counts.map(|(pair, sum)| (pair.0, window, -sum)).collect();
+    let mut entries = buffered(&probe.state);
+    if entries.len() + negated.len() > 128 {
+        entries.clear();
+    }
+    entries.extend(negated);
+    let after = sums(&entries);
+    let list = after.iter().map(|(pair, &sum)| (pair.0, pair.1.0, sum));
+    list.collect()
+}
+
+/// Makes both calls; tells which were done.
+fn compare(probe: &Probe, rng: &mut Rng) -> (bool, bool) {
+    let names: BTreeSet<Vec<u8>> = (0..1 + rng.below(4)).map(|_| any_name(rng)).collect();
+    let ids: Vec<&[u8]> = names.iter().map(|name| &name[..]).collect();
+    let mut hits = vec![Hit::default(); 1 + rng.below(32)];
+    let (card, register) = (&probe.card, &probe.register);
+    let found = engine::query(&probe.state, card, register, &ids, &mut hits);
+    if let Ok(found) = found {
+        let (ranked, taken) = plain_query(probe, &names);
+        let listed = ranked.len().min(hits.len());
+        assert_eq!((found.hits as usize, found.taken as usize), (listed, taken));
+        let list = hits.iter().map(|hit| (hit.window.into(), hit.score));
+        assert!(list.take(listed).eq(ranked.into_iter().take(listed)));
+    }
+    let mut after = probe.clone();
+    let window = rng.below(usize::from(probe.state.windows.last) + 1) as u32;
+    let removed = engine::remove(&mut after.state, &mut after.card, window);
+    if removed.is_ok() {
+        assert_eq!(buffered(&after.state), plain_removal(probe, window));
+        assert_eq!(after.state.windows.live + 1, probe.state.windows.live);
+    }
+    (found.is_ok(), removed.is_ok())
+}
+
+#[test]
+fn well_formed_damage_is_read_as_it_stands() {
+    let mut rng = Rng(31);
+    let (mut queries, mut removals) = (0, 0);
+    for _ in 0..6 {
+        let mut twin = Twin::new(PLAN.blocks, PLAN.entries);
+        for _ in 0..1000 {
+            act(&mut twin, &mut rng, &PLAN);
+            let mut probe = Probe {
+                state: twin.state.clone(),
+                card: twin.card.clone(),
+                register: twin.register.clone(),
+            };
+            for _ in 0..1 + rng.below(3) {
+                damage(&mut probe, &mut rng);
+            }
+            let (queried, removed) = compare(&probe, &mut rng);
+            queries += usize::from(queried);
+            removals += usize::from(removed);
+        }
+    }
+    println!("Well-formed damage: {queries} queries, {removals} removals");
+    assert!(queries > 1000 && removals > 200);
+}
