@@ -3,3 +3,5 @@ pub mod Tests
 pub mod Arrays
 pub mod Ints
 pub mod Falling
+pub mod Ranges
+pub mod Sets
