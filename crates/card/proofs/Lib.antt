@@ -1,3 +1,5 @@
 pub mod Cursors
 pub mod Seeking
 pub mod Chains
+pub mod Stores
+pub mod Stored

@@ -1,0 +1,135 @@
+-- What storing and releasing leave: the card's length, every block that they do not name, and every chain of such blocks.
+use mathlib.Core.Bool.{Bool, true, false, not, _&&_}
+use mathlib.Core.List.{List, [], _∷_, _++_}
+use mathlib.Core.Path.{_≡_, refl, sym, ap, ap₂, _∙_}
+use Prim.Native.Nat.{ℕ, zero, suc, _+_, _*_, _-_, _<_, _≤_}
+use native.Mathlib.Omega.{arith}
+use lib.Dec.{eqb, ltb}
+use lib.ListN.{length, getD, take, drop, replicate, length-append, length-replicate, length-take}
+use lib.Seq.{sets, length-sets, getD-take, getD-drop}
+use borrow.Author.Tests.{ltb-true, ltb-false, eqb-false, eq-eqb, not-true}
+use Rattle.lists.specs.Lists.{any, every, elem}
+use Rattle.lists.proofs.Bools.{by-test, and-left, and-right, or-right, or-none}
+use Rattle.lists.proofs.Sets.{sets-before, sets-past, every-elem}
+use Rattle.words.specs.Words.{allOnes}
+use Rattle.card.specs.Blocks.{noBlock, block, contentOf, link, isFree}
+use Rattle.card.specs.Chains.{chain, chainRule, content}
+use Rattle.card.specs.Writes.{putBlock, store, release}
+
+-- the link is the block's last word
+pub link-block : (W : List ℕ) (b : ℕ) → link W b ≡ getD (block W b) 1023 0
+link-block W b = sym (getD-take 1024 (drop (1024 * b) W) 1023 0 (omega arith) ∙ getD-drop (1024 * b) W 1023 0)
+
+-- One block --------------------------------------------------------------------------------------------------------
+
+-- the words that a block is written with
+abbrev pub laid : List ℕ → ℕ → List ℕ
+laid c next = c ++ replicate (1023 - length c) allOnes ++ (next ∷ [])
+
+pub length-laid : (c : List ℕ) (next : ℕ) → length c ≤ 1023 → length (laid c next) ≡ 1024
+length-laid c next h =
+    omega
+    ( arith
+    , length-append (c ++ replicate (1023 - length c) allOnes) (next ∷ [])
+    , length-append c (replicate (1023 - length c) allOnes)
+    , length-replicate (1023 - length c) allOnes
+    )
+
+-- what is put into one block has room there
+pub short : (c : List ℕ) → length (take 1023 c) ≤ 1023
+short c = omega (arith, length-take 1023 c)
+
+-- a block written over leaves every other
+pub block-other : (W vs : List ℕ) (b d : ℕ) → length vs ≡ 1024 → (b ≡ d → ⊥) → block (sets W (1024 * b) vs) d ≡ block W d
+block-other W vs b d e h =
+    by-test (ltb b d)
+    (λ y. let l : b < d = ltb-true b d y in ap (λ (r : List ℕ). take 1024 r) (sets-past W (1024 * b) vs (1024 * d) (omega arith)))
+    (λ f. let l : d ≤ b = ltb-false b d f in sets-before W (1024 * b) vs (1024 * d) 1024 (omega (arith, h)))
+
+-- Many blocks ------------------------------------------------------------------------------------------------------
+
+-- the card keeps its length
+pub length-store : (W bs c : List ℕ) → length (store W bs c) ≡ length W
+unfolding store
+length-store W [] c = refl
+length-store W (b ∷ []) c = length-sets W (1024 * b) (laid (take 1023 c) noBlock)
+length-store W (b ∷ d ∷ bs) c =
+    length-store (putBlock W b (take 1023 c) d) (d ∷ bs) (drop 1023 c) ∙ length-sets W (1024 * b) (laid (take 1023 c) d)
+
+pub length-release : (W bs : List ℕ) → length (release W bs) ≡ length W
+unfolding release
+length-release W [] = refl
+length-release W (b ∷ bs) =
+    length-release (sets W (1024 * b) (replicate 1024 allOnes)) bs ∙ length-sets W (1024 * b) (replicate 1024 allOnes)
+
+-- a block that is not named keeps its words
+pub store-apart : (W bs c : List ℕ) (d : ℕ) → elem d bs ≡ false → block (store W bs c) d ≡ block W d
+unfolding store
+store-apart W [] c d n = refl
+store-apart W (b ∷ []) c d n =
+    block-other W (laid (take 1023 c) noBlock) b d (length-laid (take 1023 c) noBlock (short c)) (eqb-false b d (or-none (eqb b d) false n .0))
+store-apart W (b ∷ e ∷ bs) c d n =
+    let o = or-none (eqb b d) (elem d (e ∷ bs)) n in
+    store-apart (putBlock W b (take 1023 c) e) (e ∷ bs) (drop 1023 c) d (o .1)
+    ∙ block-other W (laid (take 1023 c) e) b d (length-laid (take 1023 c) e (short c)) (eqb-false b d (o .0))
+
+pub release-apart : (W bs : List ℕ) (d : ℕ) → elem d bs ≡ false → block (release W bs) d ≡ block W d
+unfolding release
+release-apart W [] d n = refl
+release-apart W (b ∷ bs) d n =
+    let o = or-none (eqb b d) (elem d bs) n in
+    release-apart (sets W (1024 * b) (replicate 1024 allOnes)) bs d (o .1)
+    ∙ block-other W (replicate 1024 allOnes) b d (length-replicate 1024 allOnes) (eqb-false b d (o .0))
+
+-- Two cards that agree ---------------------------------------------------------------------------------------------
+
+-- W′ and W have the same words in these blocks
+abbrev pub Agree : List ℕ → List ℕ → List ℕ → Type 0
+Agree W′ W bs = (d : ℕ) → elem d bs ≡ true → block W′ d ≡ block W d
+
+-- no number of the first list is in the second
+abbrev pub apart : List ℕ → List ℕ → Bool
+apart ds bs = every (λ d. not (elem d bs)) ds
+
+pub store-agrees : (W bs c ds : List ℕ) → apart ds bs ≡ true → Agree (store W bs c) W ds
+store-agrees W bs c ds e d m = store-apart W bs c d (not-true (elem d bs) (every-elem (λ d. not (elem d bs)) ds d e m))
+
+pub release-agrees : (W bs ds : List ℕ) → apart ds bs ≡ true → Agree (release W bs) W ds
+release-agrees W bs ds e d m = release-apart W bs d (not-true (elem d bs) (every-elem (λ d. not (elem d bs)) ds d e m))
+
+module _ (W′ W : List ℕ) where
+  link-agree : (b : ℕ) → block W′ b ≡ block W b → link W′ b ≡ link W b
+  link-agree b e = link-block W′ b ∙ ap (λ (r : List ℕ). getD r 1023 0) e ∙ sym (link-block W b)
+
+  first : (b : ℕ) (bs : List ℕ) → Agree W′ W (b ∷ bs) → block W′ b ≡ block W b
+  first b bs h = h b (rw (eq-eqb b b refl))
+
+  later : (b : ℕ) (bs : List ℕ) → Agree W′ W (b ∷ bs) → Agree W′ W bs
+  later b bs h d m = h d (or-right (eqb b d) (elem d bs) m)
+
+  -- a chain is the same on both
+  pub chain-agree : (b n : ℕ) → Agree W′ W (chain W b n) → chain W′ b n ≡ chain W b n
+  unfolding chain
+  chain-agree b zero h = refl
+  chain-agree b (suc n) h =
+      let e = link-agree b (first b (chain W (link W b) n) h) in
+      ap (λ (r : List ℕ). b ∷ r) (ap (λ (k : ℕ). chain W′ k n) e ∙ chain-agree (link W b) n (later b (chain W (link W b) n) h))
+
+  -- and so is whether it keeps the rule
+  pub rule-agree : (limit b n : ℕ) → Agree W′ W (chain W b n) → chainRule W′ limit b n ≡ chainRule W limit b n
+  unfolding chain chainRule
+  rule-agree limit b zero h = refl
+  rule-agree limit b (suc zero) h =
+      let e = link-agree b (first b (chain W (link W b) 0) h) in
+      ap (λ (k : ℕ). ltb b limit && eqb k noBlock) e
+  rule-agree limit b (suc (suc n)) h =
+      let e = link-agree b (first b (chain W (link W b) (suc n)) h) in
+      ap (λ (r : Bool). ltb b limit && r)
+      (ap (λ (k : ℕ). chainRule W′ limit k (suc n)) e ∙ rule-agree limit (link W b) (suc n) (later b (chain W (link W b) (suc n)) h))
+
+  -- and so is the content
+  pub content-agree : (bs : List ℕ) → Agree W′ W bs → content W′ bs ≡ content W bs
+  unfolding content
+  content-agree [] h = refl
+  content-agree (b ∷ bs) h =
+      ap₂ (λ (r s : List ℕ). r ++ s) (ap (λ (r : List ℕ). take 1023 r) (first b bs h)) (content-agree bs (later b bs h))
