@@ -1,13 +1,13 @@
 -- Numbers in a row, and lists that are told by the numbers of their places.
 use mathlib.Core.Bool.{Bool, true, false, not, _&&_, _||_}
-use mathlib.Core.List.{List, [], _∷_, _++_, map, append-assoc, append-nil}
+use mathlib.Core.List.{List, [], _∷_, _++_, map, map-append, append-assoc, append-nil}
 use mathlib.Core.Path.{_≡_, refl, sym, ap, ap₂, _∙_}
 use Prim.Native.Nat.{ℕ, zero, suc, _+_, _*_, _-_, _<_, _≤_}
 use native.Mathlib.Nat.{add-zero, add-suc, suc-add, zero-add}
 use native.Mathlib.Omega.{arith}
 use lib.Dec.{eqb, ltb}
 use lib.ListN.{length, getD, take, drop, length-append, length-map, List·getD-append}
-use lib.Seq.{getD-append-add}
+use lib.Seq.{getD-append-add, take-at, drop-at}
 use borrow.Author.Tests.{ltb-true, ltb-false, eqb-true, eqb-false, ne-eqb}
 use Rattle.lists.specs.Lists.{keep, any, every, totalBy, joined, elem, different, rising, upTo}
 use Rattle.lists.proofs.Bools.{by-test, and-left, and-right, and-both, or-right}
@@ -64,6 +64,19 @@ module _ {A B : Type 0} where
   pub map-upTo : (g : ℕ → B) (f : A → B) (l : List A) (d : A) (k : ℕ) → length l ≡ k → ((j : ℕ) → j < k → g j ≡ f (getD l j d)) → map g (upTo k) ≡ map f l
   map-upTo g f l d k e h =
       rw (← e) (map-rising g f l d 0 (λ j a. ap g (zero-add j) ∙ h j (omega arith)))
+
+  -- two functions that are equal on what passes a test, on a list that passes it
+  pub map-where : (t : A → Bool) (f g : A → B) → ((x : A) → t x ≡ true → f x ≡ g x) → (l : List A) → every t l ≡ true → map f l ≡ map g l
+  map-where t f g h [] e = refl
+  map-where t f g h (x ∷ l) e =
+      ap₂ (λ (b : B) (r : List B). b ∷ r) (h x (and-left (t x) _ e)) (map-where t f g h l (and-right (t x) _ e))
+
+  -- the middle of a list of three parts, f taken over all, whatever follows
+  pub map-middle : (f : A → B) (a m z : List A) (rest : List B) → take (length m) (drop (length a) (map f (a ++ (m ++ z)) ++ rest)) ≡ map f m
+  map-middle f a m z rest =
+      rw (map-append f a (m ++ z), map-append f m z, append-assoc (map f a) (map f m ++ map f z) rest, append-assoc (map f m) (map f z) rest)
+      (ap (λ (r : List B). take (length m) r) (drop-at (map f a) (map f m ++ (map f z ++ rest)) (length a) (length-map a f))
+      ∙ take-at (map f m) (map f z ++ rest) (length m) (length-map m f))
 
   pub every-map : (t : B → Bool) (f : A → B) (l : List A) → every t (map f l) ≡ every (λ x. t (f x)) l
   every-map t f [] = refl

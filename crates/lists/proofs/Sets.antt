@@ -1,7 +1,7 @@
 -- Runs of stores into a list, padding, and lists of numbers of which none stands twice.
 use mathlib.Core.Bool.{Bool, true, false, not, _&&_, _||_, true≢false}
 use mathlib.Core.List.{List, [], _∷_, _++_, append-assoc, append-nil}
-use mathlib.Core.Path.{_≡_, refl, sym, ap, _∙_}
+use mathlib.Core.Path.{_≡_, refl, sym, ap, ap₂, _∙_}
 use Prim.Native.Nat.{ℕ, zero, suc, _+_, _-_, _<_, _≤_}
 use native.Mathlib.Nat.{zero-add, suc-sub-suc, suc-add, sub-zero}
 use native.Mathlib.Omega.{arith}
@@ -9,7 +9,7 @@ use lib.Dec.{eqb}
 use lib.ListN.{length, take, drop, set, replicate, replicate-append-replicate}
 use lib.Seq.{sets, sets-eq, take-set-le, drop-set-lt, length-take-le, take-at, drop-at}
 use borrow.Author.Tests.{eqb-true, eqb-false, eq-eqb, ne-eqb, not-true}
-use Rattle.lists.specs.Lists.{keep, any, every, elem, different}
+use Rattle.lists.specs.Lists.{keep, any, every, elem, different, same}
 use Rattle.lists.proofs.Bools.{by-test, and-left, and-right, and-both, or-right, or-none}
 
 -- Stores ------------------------------------------------------------------------------------------------------------
@@ -59,6 +59,11 @@ module _ {A : Type 0} where
   any-keep t u (x ∷ l) e =
       let n = or-none (t x) (any t l) e in
       by-test (u x) (λ y. rw (y, n .0) (any-keep t u l (n .1))) (λ m. rw m (any-keep t u l (n .1)))
+
+  -- where all pass one test, and what passes it fails another, none passes the other
+  pub none-from : (t u : A → Bool) → ((x : A) → t x ≡ true → u x ≡ false) → (l : List A) → every t l ≡ true → any u l ≡ false
+  none-from t u h [] e = refl
+  none-from t u h (x ∷ l) e = rw (h x (and-left (t x) _ e)) (none-from t u h l (and-right (t x) _ e))
 
   -- a test of all goes over two lists one by one
   pub every-append : (t : A → Bool) (l m : List A) → every t (l ++ m) ≡ (every t l && every t m)
@@ -118,3 +123,16 @@ different-swap (x ∷ a) b e =
     let n = not-true (elem x (a ++ b)) (and-left (not (elem x (a ++ b))) _ e) in
     let g = or-none (elem x a) (elem x b) (sym (any-append (λ m. eqb m x) a b) ∙ n) in
     different-insert b a x (rw (any-append (λ m. eqb m x) b a, g .1) (g .0)) (different-swap a b (and-right (not (elem x (a ++ b))) _ e))
+
+-- Equal lists ------------------------------------------------------------------------------------------------------
+
+pub same-self : (l : List ℕ) → same l l ≡ true
+same-self [] = refl
+same-self (x ∷ l) = and-both (eqb x x) _ (eq-eqb x x refl) (same-self l)
+
+pub same-true : (l m : List ℕ) → same l m ≡ true → l ≡ m
+same-true [] [] e = refl
+same-true [] (y ∷ m) e = absurd (true≢false (sym e))
+same-true (x ∷ l) [] e = absurd (true≢false (sym e))
+same-true (x ∷ l) (y ∷ m) e =
+    ap₂ (λ (n : ℕ) (r : List ℕ). n ∷ r) (eqb-true x y (and-left (eqb x y) _ e)) (same-true l m (and-right (eqb x y) _ e))
