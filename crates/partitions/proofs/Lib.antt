@@ -1,1 +1,6 @@
 pub mod Groups
+pub mod Lengths
+pub mod Entries
+pub mod Trips
+pub mod Rules
+pub mod Kept

@@ -1,0 +1,121 @@
+-- A partition that is written to free blocks is read back, and every other one is read as before.
+use mathlib.Core.Bool.{Bool, true, _&&_}
+use mathlib.Core.List.{List, [], _∷_, _++_, map}
+use mathlib.Core.Path.{_≡_, refl, sym, ap, ap₂, _∙_}
+use Prim.Native.Nat.{ℕ, _+_, _*_, _-_, _≤_}
+use native.Mathlib.Omega.{arith}
+use lib.ListN.{length, getD, replicate}
+use Rattle.lists.specs.Lists.{every, joined, different}
+use Rattle.lists.proofs.Bools.{and-left, and-right, and-both}
+use Rattle.words.specs.Words.{allOnes}
+use Rattle.postings.specs.declared.Posting.{Posting}
+use Rattle.state.specs.declared.Partition.{Partition}
+use Rattle.card.specs.Chains.{blocksFor, chain, chainRule, content}
+use Rattle.card.specs.Writes.{store, release}
+use Rattle.card.proofs.Stores.{Agree, apart, store-agrees, release-agrees, chain-agree, rule-agree, content-agree}
+use Rattle.card.proofs.Stored.{onCard, chain-stored, rule-stored, content-stored}
+use Rattle.partitions.specs.Layout.{lengthOf, encode}
+use Rattle.partitions.specs.Reading.{chainOf, decode, postingsOf, inPartitions}
+use Rattle.partitions.specs.Formed.{headerRule, entriesRule, partitionRule, chainsOf, partitionsFormed}
+use Rattle.partitions.proofs.Lengths.{length-encode, blocks-hold, blocks-some}
+use Rattle.partitions.proofs.Trips.{decode-encode}
+use Rattle.partitions.proofs.Rules.{Writable, list-ordered, header-rule, entries-rule}
+
+-- Written ----------------------------------------------------------------------------------------------------------
+
+-- the record of postings written along blocks
+abbrev pub recordOf : List ℕ → ℕ → List Posting → Partition
+recordOf bs level ps = record { first = getD bs 0 0; level = level; length = lengthOf ps }
+
+module _ (W bs : List ℕ) (n level : ℕ) (ps : List Posting) (long : length W ≡ 1024 * n) (on : onCard n bs ≡ true) (new : different bs ≡ true) (fits : length bs ≡ blocksFor (lengthOf ps)) where
+  -- its blocks are those
+  pub chain-written : chainOf (store W bs (encode level ps)) (recordOf bs level ps) ≡ bs
+  chain-written =
+      ap (λ (k : ℕ). chain (store W bs (encode level ps)) (getD bs 0 0) k) (sym fits) ∙ chain-stored W bs (encode level ps) n long on new
+
+  -- its content is the partition's words and all ones
+  pub content-written : content (store W bs (encode level ps)) (chainOf (store W bs (encode level ps)) (recordOf bs level ps))
+      ≡ encode level ps ++ replicate (1023 * length bs - length (encode level ps)) allOnes
+  content-written =
+      ap (content (store W bs (encode level ps))) chain-written
+      ∙ content-stored W bs (encode level ps) n long on new (omega (arith, length-encode level ps, blocks-hold (lengthOf ps)))
+
+  module _ (w : Writable ps) where
+    -- the rule is kept
+    pub rule-written : partitionRule (store W bs (encode level ps)) n (recordOf bs level ps) ≡ true
+    unfolding partitionRule
+    rule-written =
+        let c = store W bs (encode level ps) in
+        let rest = replicate (1023 * length bs - length (encode level ps)) allOnes in
+        let p = recordOf bs level ps in
+        and-both (chainRule c n (getD bs 0 0) (blocksFor (lengthOf ps))) _
+        (ap (chainRule c n (getD bs 0 0)) (sym fits) ∙ rule-stored W bs (encode level ps) n long on new (omega (arith, blocks-some ps)))
+        (rw content-written
+        (and-both (headerRule p (encode level ps ++ rest)) _ (header-rule level ps rest p (w .some) refl refl)
+        (entries-rule level ps rest (list-ordered ps (w .formed)) (w .numbered))))
+
+    -- and the postings are read back
+    pub postings-written : postingsOf (store W bs (encode level ps)) (recordOf bs level ps) ≡ ps
+    unfolding postingsOf
+    postings-written =
+        ap decode content-written
+        ∙ decode-encode level ps (replicate (1023 * length bs - length (encode level ps)) allOnes) (list-ordered ps (w .formed)) (w .fitting)
+
+-- Kept -------------------------------------------------------------------------------------------------------------
+
+-- two cards that agree on a partition's blocks
+module _ (W′ W : List ℕ) (q : Partition) (a : Agree W′ W (chainOf W q)) where
+  pub chain-kept : chainOf W′ q ≡ chainOf W q
+  chain-kept = chain-agree W′ W (q .first) (blocksFor (q .length)) a
+
+  pub content-kept : content W′ (chainOf W′ q) ≡ content W (chainOf W q)
+  content-kept = ap (content W′) chain-kept ∙ content-agree W′ W (chainOf W q) a
+
+  pub rule-kept : (n : ℕ) → partitionRule W′ n q ≡ partitionRule W n q
+  unfolding partitionRule
+  rule-kept n =
+      ap₂ _&&_ (rule-agree W′ W n (q .first) (blocksFor (q .length)) a)
+      (ap (λ (c : List ℕ). headerRule q c && entriesRule c) content-kept)
+
+  pub postings-kept : postingsOf W′ q ≡ postingsOf W q
+  unfolding postingsOf
+  postings-kept = ap decode content-kept
+
+-- all of them, for many partitions
+module _ (W′ W : List ℕ) where
+  -- the cards agree on every partition's blocks
+  unfoldable pub AgreeAll : List Partition → Type 0
+  AgreeAll [] = Unit {0}
+  AgreeAll (q ∷ qs) = Agree W′ W (chainOf W q) × AgreeAll qs
+
+  pub chains-kept : (qs : List Partition) → AgreeAll qs → chainsOf W′ qs ≡ chainsOf W qs
+  unfolding AgreeAll chainsOf
+  chains-kept [] a = refl
+  chains-kept (q ∷ qs) a = ap₂ (λ (r s : List ℕ). r ++ s) (chain-kept W′ W q (a .0)) (chains-kept qs (a .1))
+
+  pub all-kept : (qs : List Partition) → AgreeAll qs → inPartitions W′ qs ≡ inPartitions W qs
+  unfolding AgreeAll inPartitions
+  all-kept [] a = refl
+  all-kept (q ∷ qs) a = ap₂ (λ (r s : List Posting). r ++ s) (postings-kept W′ W q (a .0)) (all-kept qs (a .1))
+
+  rules-kept : (n : ℕ) (qs : List Partition) → AgreeAll qs → every (partitionRule W′ n) qs ≡ every (partitionRule W n) qs
+  unfolding AgreeAll
+  rules-kept n [] a = refl
+  rules-kept n (q ∷ qs) a = ap₂ _&&_ (rule-kept W′ W q (a .0) n) (rules-kept n qs (a .1))
+
+  pub formed-kept : (n : ℕ) (qs : List Partition) → AgreeAll qs → partitionsFormed W′ n qs ≡ partitionsFormed W n qs
+  unfolding partitionsFormed
+  formed-kept n qs a = ap₂ _&&_ (rules-kept n qs a) (ap different (chains-kept qs a))
+
+-- blocks of no partition of the list: storing to them and releasing them keeps every one
+pub store-keeps : (W bs c : List ℕ) (qs : List Partition) → every (λ q. apart (chainOf W q) bs) qs ≡ true → AgreeAll (store W bs c) W qs
+unfolding AgreeAll
+store-keeps W bs c [] e = tt
+store-keeps W bs c (q ∷ qs) e =
+    (store-agrees W bs c (chainOf W q) (and-left _ _ e), store-keeps W bs c qs (and-right (apart (chainOf W q) bs) _ e))
+
+pub release-keeps : (W bs : List ℕ) (qs : List Partition) → every (λ q. apart (chainOf W q) bs) qs ≡ true → AgreeAll (release W bs) W qs
+unfolding AgreeAll
+release-keeps W bs [] e = tt
+release-keeps W bs (q ∷ qs) e =
+    (release-agrees W bs (chainOf W q) (and-left _ _ e), release-keeps W bs qs (and-right (apart (chainOf W q) bs) _ e))
