@@ -1,16 +1,17 @@
 -- Runs of stores into a list, padding, and lists of numbers of which none stands twice.
-use mathlib.Core.Bool.{Bool, true, false, not, _&&_, _||_, true≢false}
+use mathlib.Core.Bool.{Bool, true, false, not, _&&_, _||_, true≢false, and-comm, or-comm}
 use mathlib.Core.List.{List, [], _∷_, _++_, append-assoc, append-nil}
 use mathlib.Core.Path.{_≡_, refl, sym, ap, ap₂, _∙_}
 use Prim.Native.Nat.{ℕ, zero, suc, _+_, _-_, _<_, _≤_}
 use native.Mathlib.Nat.{zero-add, suc-sub-suc, suc-add, sub-zero}
 use native.Mathlib.Omega.{arith}
 use lib.Dec.{eqb}
-use lib.ListN.{length, take, drop, set, replicate, replicate-append-replicate}
+use lib.ListN.{length, take, drop, set, replicate, length-append, take-append-drop, replicate-append-replicate}
 use lib.Seq.{sets, sets-eq, take-set-le, drop-set-lt, length-take-le, take-at, drop-at}
 use borrow.Author.Tests.{eqb-true, eqb-false, eq-eqb, ne-eqb, not-true}
 use Rattle.lists.specs.Lists.{keep, any, every, elem, different, same}
 use Rattle.lists.proofs.Bools.{by-test, and-left, and-right, and-both, or-right, or-none}
+use Rattle.lists.proofs.Tests.{keep-append}
 
 -- Stores ------------------------------------------------------------------------------------------------------------
 
@@ -70,6 +71,23 @@ module _ {A : Type 0} where
   every-append t [] m = refl
   every-append t (x ∷ l) m = by-test (t x) (λ y. rw y (every-append t l m)) (λ n. rw n)
 
+  -- one element over and over
+  pub every-replicate : (t : A → Bool) (n : ℕ) (a : A) → t a ≡ true → every t (replicate n a) ≡ true
+  every-replicate t zero a e = refl
+  every-replicate t (suc n) a e = and-both (t a) _ e (every-replicate t n a e)
+
+  -- the first of those that all pass
+  pub every-take : (t : A → Bool) (k : ℕ) (l : List A) → every t l ≡ true → every t (take k l) ≡ true
+  every-take t zero l e = refl
+  every-take t (suc k) [] e = refl
+  every-take t (suc k) (x ∷ l) e = and-both (t x) _ (and-left (t x) _ e) (every-take t k l (and-right (t x) _ e))
+
+  -- the first of those that none passes
+  pub any-take : (t : A → Bool) (k : ℕ) (l : List A) → any t l ≡ false → any t (take k l) ≡ false
+  any-take t zero l e = refl
+  any-take t (suc k) [] e = refl
+  any-take t (suc k) (x ∷ l) e = let n = or-none (t x) (any t l) e in rw (n .0) (any-take t k l (n .1))
+
 -- Numbers in a list ------------------------------------------------------------------------------------------------
 
 -- what a test of all says of a number that is in the list
@@ -104,6 +122,14 @@ different-keep t (x ∷ l) e =
     let r = different-keep t l (and-right (not (elem x l)) _ e) in
     by-test (t x) (λ y. rw (y, any-keep (λ m. eqb m x) t l n) r) (λ f. rw f r)
 
+-- and so are the first of them
+pub different-take : (k : ℕ) (l : List ℕ) → different l ≡ true → different (take k l) ≡ true
+different-take zero l e = refl
+different-take (suc k) [] e = refl
+different-take (suc k) (x ∷ l) e =
+    let n = not-true (elem x l) (and-left (not (elem x l)) _ e) in
+    rw (any-take (λ m. eqb m x) k l n) (different-take k l (and-right (not (elem x l)) _ e))
+
 -- a new number put in anywhere
 pub different-insert : (a b : List ℕ) (x : ℕ) → elem x (a ++ b) ≡ false → different (a ++ b) ≡ true → different (a ++ (x ∷ b)) ≡ true
 different-insert [] b x n e = rw n e
@@ -123,6 +149,28 @@ different-swap (x ∷ a) b e =
     let n = not-true (elem x (a ++ b)) (and-left (not (elem x (a ++ b))) _ e) in
     let g = or-none (elem x a) (elem x b) (sym (any-append (λ m. eqb m x) a b) ∙ n) in
     different-insert b a x (rw (any-append (λ m. eqb m x) b a, g .1) (g .0)) (different-swap a b (and-right (not (elem x (a ++ b))) _ e))
+
+-- A list turned, so that another element comes first ---------------------------------------------------------------
+
+module _ {A : Type 0} (k : ℕ) (l : List A) where
+  pub every-turned : (t : A → Bool) → every t (drop k l ++ take k l) ≡ every t l
+  every-turned t =
+      every-append t (drop k l) (take k l) ∙ and-comm (every t (drop k l)) (every t (take k l)) ∙ sym (every-append t (take k l) (drop k l))
+      ∙ ap (every t) (take-append-drop k l)
+
+  pub any-turned : (t : A → Bool) → any t (drop k l ++ take k l) ≡ any t l
+  any-turned t =
+      any-append t (drop k l) (take k l) ∙ or-comm (any t (drop k l)) (any t (take k l)) ∙ sym (any-append t (take k l) (drop k l))
+      ∙ ap (any t) (take-append-drop k l)
+
+  pub length-keep-turned : (t : A → Bool) → length (keep t (drop k l ++ take k l)) ≡ length (keep t l)
+  length-keep-turned t =
+      let e : keep t l ≡ keep t (take k l) ++ keep t (drop k l) = ap (keep t) (sym (take-append-drop k l)) ∙ keep-append t (take k l) (drop k l) in
+      rw (keep-append t (drop k l) (take k l), e)
+      (omega (arith, length-append (keep t (drop k l)) (keep t (take k l)), length-append (keep t (take k l)) (keep t (drop k l))))
+
+pub different-turned : (k : ℕ) (l : List ℕ) → different l ≡ true → different (drop k l ++ take k l) ≡ true
+different-turned k l e = different-swap (take k l) (drop k l) (rw (take-append-drop k l) e)
 
 -- Equal lists ------------------------------------------------------------------------------------------------------
 

@@ -1,0 +1,165 @@
+-- What a call may do to a card's words and bytes: each stays, or was 255, or goes to 255 with its whole block.
+use mathlib.Core.Bool.{Bool, true, false}
+use mathlib.Core.List.{List, [], _∷_}
+use mathlib.Core.Logic.{_⊎_, inl, inr, ⊎-elim}
+use mathlib.Core.Path.{_≡_, refl, sym, ap, _∙_}
+use Prim.Native.Nat.{ℕ, zero, suc, _+_, _*_, _/_, _%_, _<_, _≤_}
+use native.Mathlib.Omega.{arith}
+use lib.Dec.{eqb}
+use lib.ListN.{length, getD, take, drop, replicate, length-take, length-drop, getD-replicate}
+use lib.Seq.{getD-take, getD-drop}
+use borrow.Author.Tests.{eqb-true}
+use Rattle.lists.specs.Lists.{every, elem}
+use Rattle.lists.proofs.Bools.{by-test}
+use Rattle.lists.proofs.Tests.{every-at}
+use Rattle.lists.proofs.Sets.{every-elem}
+use Rattle.words.specs.Words.{words, bytes, allOnes, Below}
+use Rattle.words.proofs.Views.{length-words, length-bytes, bytes-words, words-bytes, byteOf, byte-at, ones-byte}
+use Rattle.card.specs.Blocks.{block, isFree}
+use Rattle.card.specs.Writes.{store, release}
+use Rattle.card.proofs.Stores.{store-apart, release-apart, length-store, length-release}
+use Rattle.card.proofs.Free.{block-released}
+
+-- Words ------------------------------------------------------------------------------------------------------------
+
+-- from W to W′ each word stays, or was all ones
+abbrev pub Fills : List ℕ → List ℕ → Type 0
+Fills W W′ = (k : ℕ) → k < length W → (getD W′ k 0 ≡ getD W k 0) ⊎ (getD W k 0 ≡ allOnes)
+
+-- or every word of its block goes to all ones
+abbrev pub Moves : List ℕ → List ℕ → Type 0
+Moves W W′ =
+    (k : ℕ) → k < length W
+    → (getD W′ k 0 ≡ getD W k 0) ⊎ (getD W k 0 ≡ allOnes) ⊎ ((j : ℕ) → j < length W → j / 1024 ≡ k / 1024 → getD W′ j 0 ≡ allOnes)
+
+-- a word by its block and its place there
+pub word-in : (W : List ℕ) (k : ℕ) → getD W k 0 ≡ getD (block W (k / 1024)) (k % 1024) 0
+word-in W k =
+    let e : 1024 * (k / 1024) + k % 1024 ≡ k = omega arith in
+    sym
+    (getD-take 1024 (drop (1024 * (k / 1024)) W) (k % 1024) 0 (omega arith) ∙ getD-drop (1024 * (k / 1024)) W (k % 1024) 0
+    ∙ ap (λ (i : ℕ). getD W i 0) e)
+
+-- a word of a free block is all ones
+pub free-word : (W : List ℕ) (k : ℕ) → k < length W → isFree W (k / 1024) ≡ true → getD W k 0 ≡ allOnes
+free-word W k h e =
+    let b = 1024 * (k / 1024) in
+    let l : k % 1024 < length (block W (k / 1024)) = omega (arith, length-take 1024 (drop b W), length-drop b W) in
+    word-in W k ∙ sym (eqb-true allOnes (getD (block W (k / 1024)) (k % 1024) 0) (every-at (eqb allOnes) (block W (k / 1024)) 0 e (k % 1024) l))
+
+-- a word of a block that does not change stays
+word-kept : (W W′ : List ℕ) (k : ℕ) → block W′ (k / 1024) ≡ block W (k / 1024) → getD W′ k 0 ≡ getD W k 0
+word-kept W W′ k e = word-in W′ k ∙ ap (λ (r : List ℕ). getD r (k % 1024) 0) e ∙ sym (word-in W k)
+
+-- a store to free blocks
+pub store-fills : (W bs c : List ℕ) → every (isFree W) bs ≡ true → Fills W (store W bs c)
+store-fills W bs c e k h =
+    by-test (elem (k / 1024) bs)
+    (λ y. inr (free-word W k h (every-elem (isFree W) bs (k / 1024) e y)))
+    (λ f. inl (word-kept W (store W bs c) k (store-apart W bs c (k / 1024) f)))
+
+-- what only fills moves as is allowed
+pub fills-moves : (W W′ : List ℕ) → Fills W W′ → Moves W W′
+fills-moves W W′ f k h = ⊎-elim (λ s. inl s) (λ o. inr (inl o)) (f k h)
+
+-- a release
+pub release-moves : (W bs : List ℕ) (n : ℕ) → length W ≡ 1024 * n → Moves W (release W bs)
+release-moves W bs n long k h =
+    by-test (elem (k / 1024) bs)
+    (λ y. inr (inr (λ j l e.
+    let o = block-released W bs n (k / 1024) long (omega arith) y in
+    word-in (release W bs) j ∙ ap (λ (b : ℕ). getD (block (release W bs) b) (j % 1024) 0) e ∙ ap (λ (r : List ℕ). getD r (j % 1024) 0) o
+    ∙ getD-replicate 1024 (j % 1024) allOnes 0 (omega arith))))
+    (λ f. inl (word-kept W (release W bs) k (release-apart W bs (k / 1024) f)))
+
+-- words filled first, and moved then
+pub fills-then : (W W′ W″ : List ℕ) → length W′ ≡ length W → Fills W W′ → Moves W′ W″ → Moves W W″
+fills-then W W′ W″ e f m k h =
+    ⊎-elim
+    (λ s. ⊎-elim
+      (λ t. inl (t ∙ s))
+      (λ r. inr (⊎-elim (λ o. inl (sym s ∙ o)) (λ g. inr (λ j l q. g j (omega arith) q)) r))
+      (m k (omega arith)))
+    (λ o. inr (inl o))
+    (f k h)
+
+-- a store to free blocks and a release after it
+pub store-release-moves : (W bs c ds : List ℕ) (n : ℕ) → length W ≡ 1024 * n → every (isFree W) bs ≡ true → Moves W (release (store W bs c) ds)
+store-release-moves W bs c ds n long e =
+    fills-then W (store W bs c) (release (store W bs c) ds) (length-store W bs c) (store-fills W bs c e)
+    (release-moves (store W bs c) ds n (length-store W bs c ∙ long))
+
+-- Bytes ------------------------------------------------------------------------------------------------------------
+
+-- from card to card′ each byte stays, or was 255, or every byte of its block goes to 255
+abbrev pub MovesBytes : List ℕ → List ℕ → Type 0
+MovesBytes card card′ =
+    (k : ℕ) → k < length card
+    → (getD card′ k 0 ≡ getD card k 0) ⊎ (getD card k 0 ≡ 255) ⊎ ((j : ℕ) → j < length card → j / 4096 ≡ k / 4096 → getD card′ j 0 ≡ 255)
+
+-- four bytes on, one word on
+word-on : (k : ℕ) → suc (suc (suc (suc k))) / 4 ≡ suc (k / 4)
+word-on k = omega arith
+
+-- a byte tells of its word alone
+bytes-same : (us vs : List ℕ) (k : ℕ) → k / 4 < length us → k / 4 < length vs → getD us (k / 4) 0 ≡ getD vs (k / 4) 0 → getD (bytes us) k 0 ≡ getD (bytes vs) k 0
+unfolding bytes
+bytes-same [] vs k a b e = absurd (omega arith)
+bytes-same (u ∷ us) [] k a b e = absurd (omega arith)
+bytes-same (u ∷ us) (v ∷ vs) zero a b e = ap (λ (w : ℕ). w % 256) e
+bytes-same (u ∷ us) (v ∷ vs) (suc zero) a b e = ap (λ (w : ℕ). w / 256 % 256) e
+bytes-same (u ∷ us) (v ∷ vs) (suc (suc zero)) a b e = ap (λ (w : ℕ). w / 65536 % 256) e
+bytes-same (u ∷ us) (v ∷ vs) (suc (suc (suc zero))) a b e = ap (λ (w : ℕ). w / 16777216) e
+bytes-same (u ∷ us) (v ∷ vs) (suc (suc (suc (suc k)))) a b e = bytes-same us vs k (omega arith) (omega arith) (rw (word-on k) at e)
+
+-- the bytes of a word that is all ones
+bytes-ones : (us : List ℕ) (k : ℕ) → k / 4 < length us → getD us (k / 4) 0 ≡ allOnes → getD (bytes us) k 0 ≡ 255
+unfolding bytes
+bytes-ones [] k a e = absurd (omega arith)
+bytes-ones (u ∷ us) zero a e = ap (λ (w : ℕ). w % 256) e
+bytes-ones (u ∷ us) (suc zero) a e = ap (λ (w : ℕ). w / 256 % 256) e
+bytes-ones (u ∷ us) (suc (suc zero)) a e = ap (λ (w : ℕ). w / 65536 % 256) e
+bytes-ones (u ∷ us) (suc (suc (suc zero))) a e = ap (λ (w : ℕ). w / 16777216) e
+bytes-ones (u ∷ us) (suc (suc (suc (suc k)))) a e = bytes-ones us k (omega arith) (rw (word-on k) at e)
+
+-- what the words may do, the bytes may do
+pub moves-bytes : (card W′ : List ℕ) → Below 256 card → length card % 4 ≡ 0 → length W′ ≡ length (words card) → Moves (words card) W′ → MovesBytes card (bytes W′)
+moves-bytes card W′ p m l f k h =
+    let n = length-words card in
+    let e = bytes-words card p m in
+    ⊎-elim
+    (λ s. inl (bytes-same W′ (words card) k (omega arith) (omega arith) s ∙ ap (λ (b : List ℕ). getD b k 0) e))
+    (λ r. inr (⊎-elim
+      (λ o. inl (ap (λ (b : List ℕ). getD b k 0) (sym e) ∙ bytes-ones (words card) k (omega arith) o))
+      (λ g. inr (λ j a q. bytes-ones W′ j (omega arith) (g (j / 4) (omega arith) (omega arith))))
+      r))
+    (f (k / 4) (omega arith))
+
+module _ (card : List ℕ) (n : ℕ) (p : Below 256 card) (long : length card ≡ 4096 * n) where
+  -- a card of whole blocks has whole words
+  words-long : length (words card) ≡ 1024 * n
+  words-long = omega (arith, length-words card)
+
+  -- a store to free blocks: each byte stays or was 255
+  pub store-bytes : (bs c : List ℕ) → every (isFree (words card)) bs ≡ true → (k : ℕ) → k < length card
+      → (getD (bytes (store (words card) bs c)) k 0 ≡ getD card k 0) ⊎ (getD card k 0 ≡ 255)
+  store-bytes bs c e k h =
+      let W = words card in
+      let l = length-words card in
+      let q = bytes-words card p (omega arith) in
+      let z = length-store W bs c in
+      ⊎-elim
+      (λ s. inl (bytes-same (store W bs c) W k (omega arith) (omega arith) s ∙ ap (λ (b : List ℕ). getD b k 0) q))
+      (λ o. inr (ap (λ (b : List ℕ). getD b k 0) (sym q) ∙ bytes-ones W k (omega arith) o))
+      (store-fills W bs c e (k / 4) (omega arith))
+
+  -- a release: each byte stays, or was 255, or goes to 255 with its whole block
+  pub release-bytes : (bs : List ℕ) → MovesBytes card (bytes (release (words card) bs))
+  release-bytes bs =
+      moves-bytes card (release (words card) bs) p (omega arith) (length-release (words card) bs) (release-moves (words card) bs n words-long)
+
+  -- a store to free blocks and a release after it
+  pub store-release-bytes : (bs c ds : List ℕ) → every (isFree (words card)) bs ≡ true → MovesBytes card (bytes (release (store (words card) bs c) ds))
+  store-release-bytes bs c ds e =
+      moves-bytes card (release (store (words card) bs c) ds) p (omega arith) (length-release (store (words card) bs c) ds ∙ length-store (words card) bs c)
+      (store-release-moves (words card) bs c ds n words-long e)
