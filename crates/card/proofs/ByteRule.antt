@@ -14,7 +14,7 @@ use Rattle.lists.proofs.Bools.{by-test}
 use Rattle.lists.proofs.Tests.{every-at}
 use Rattle.lists.proofs.Sets.{every-elem}
 use Rattle.words.specs.Words.{words, bytes, allOnes, Below}
-use Rattle.words.proofs.Views.{length-words, length-bytes, bytes-words, words-bytes, byteOf, byte-at, ones-byte}
+use Rattle.words.proofs.Views.{length-words, bytes-words}
 use Rattle.card.specs.Blocks.{block, isFree}
 use Rattle.card.specs.Writes.{store, release}
 use Rattle.card.proofs.Stores.{store-apart, release-apart, length-store, length-release}
@@ -26,7 +26,12 @@ use Rattle.card.proofs.Free.{block-released}
 abbrev pub Fills : List ℕ → List ℕ → Type 0
 Fills W W′ = (k : ℕ) → k < length W → (getD W′ k 0 ≡ getD W k 0) ⊎ (getD W k 0 ≡ allOnes)
 
--- or every word of its block goes to all ones
+-- each word stays, or every word of its block goes to all ones
+abbrev pub Frees : List ℕ → List ℕ → Type 0
+Frees W W′ =
+    (k : ℕ) → k < length W → (getD W′ k 0 ≡ getD W k 0) ⊎ ((j : ℕ) → j < length W → j / 1024 ≡ k / 1024 → getD W′ j 0 ≡ allOnes)
+
+-- one or the other
 abbrev pub Moves : List ℕ → List ℕ → Type 0
 Moves W W′ =
     (k : ℕ) → k < length W
@@ -58,44 +63,29 @@ store-fills W bs c e k h =
     (λ y. inr (free-word W k h (every-elem (isFree W) bs (k / 1024) e y)))
     (λ f. inl (word-kept W (store W bs c) k (store-apart W bs c (k / 1024) f)))
 
+-- a release
+pub release-frees : (W bs : List ℕ) (n : ℕ) → length W ≡ 1024 * n → Frees W (release W bs)
+release-frees W bs n long k h =
+    by-test (elem (k / 1024) bs)
+    (λ y. inr (λ j l e.
+    let o = block-released W bs n (k / 1024) long (omega arith) y in
+    word-in (release W bs) j ∙ ap (λ (b : ℕ). getD (block (release W bs) b) (j % 1024) 0) e ∙ ap (λ (r : List ℕ). getD r (j % 1024) 0) o
+    ∙ getD-replicate 1024 (j % 1024) allOnes 0 (omega arith)))
+    (λ f. inl (word-kept W (release W bs) k (release-apart W bs (k / 1024) f)))
+
 -- what only fills moves as is allowed
 pub fills-moves : (W W′ : List ℕ) → Fills W W′ → Moves W W′
 fills-moves W W′ f k h = ⊎-elim (λ s. inl s) (λ o. inr (inl o)) (f k h)
 
--- a release
-pub release-moves : (W bs : List ℕ) (n : ℕ) → length W ≡ 1024 * n → Moves W (release W bs)
-release-moves W bs n long k h =
-    by-test (elem (k / 1024) bs)
-    (λ y. inr (inr (λ j l e.
-    let o = block-released W bs n (k / 1024) long (omega arith) y in
-    word-in (release W bs) j ∙ ap (λ (b : ℕ). getD (block (release W bs) b) (j % 1024) 0) e ∙ ap (λ (r : List ℕ). getD r (j % 1024) 0) o
-    ∙ getD-replicate 1024 (j % 1024) allOnes 0 (omega arith))))
-    (λ f. inl (word-kept W (release W bs) k (release-apart W bs (k / 1024) f)))
-
--- words filled first, and moved then
-pub fills-then : (W W′ W″ : List ℕ) → length W′ ≡ length W → Fills W W′ → Moves W′ W″ → Moves W W″
-fills-then W W′ W″ e f m k h =
+-- and so does what fills first and frees then
+pub fills-frees : (W W′ W″ : List ℕ) → length W′ ≡ length W → Fills W W′ → Frees W′ W″ → Moves W W″
+fills-frees W W′ W″ e f m k h =
     ⊎-elim
-    (λ s. ⊎-elim
-      (λ t. inl (t ∙ s))
-      (λ r. inr (⊎-elim (λ o. inl (sym s ∙ o)) (λ g. inr (λ j l q. g j (omega arith) q)) r))
-      (m k (omega arith)))
+    (λ s. ⊎-elim (λ t. inl (t ∙ s)) (λ g. inr (inr (λ j l q. g j (omega arith) q))) (m k (omega arith)))
     (λ o. inr (inl o))
     (f k h)
 
--- a store to free blocks and a release after it
-pub store-release-moves : (W bs c ds : List ℕ) (n : ℕ) → length W ≡ 1024 * n → every (isFree W) bs ≡ true → Moves W (release (store W bs c) ds)
-store-release-moves W bs c ds n long e =
-    fills-then W (store W bs c) (release (store W bs c) ds) (length-store W bs c) (store-fills W bs c e)
-    (release-moves (store W bs c) ds n (length-store W bs c ∙ long))
-
 -- Bytes ------------------------------------------------------------------------------------------------------------
-
--- from card to card′ each byte stays, or was 255, or every byte of its block goes to 255
-abbrev pub MovesBytes : List ℕ → List ℕ → Type 0
-MovesBytes card card′ =
-    (k : ℕ) → k < length card
-    → (getD card′ k 0 ≡ getD card k 0) ⊎ (getD card k 0 ≡ 255) ⊎ ((j : ℕ) → j < length card → j / 4096 ≡ k / 4096 → getD card′ j 0 ≡ 255)
 
 -- four bytes on, one word on
 word-on : (k : ℕ) → suc (suc (suc (suc k))) / 4 ≡ suc (k / 4)
@@ -122,44 +112,68 @@ bytes-ones (u ∷ us) (suc (suc zero)) a e = ap (λ (w : ℕ). w / 65536 % 256) 
 bytes-ones (u ∷ us) (suc (suc (suc zero))) a e = ap (λ (w : ℕ). w / 16777216) e
 bytes-ones (u ∷ us) (suc (suc (suc (suc k)))) a e = bytes-ones us k (omega arith) (rw (word-on k) at e)
 
--- what the words may do, the bytes may do
-pub moves-bytes : (card W′ : List ℕ) → Below 256 card → length card % 4 ≡ 0 → length W′ ≡ length (words card) → Moves (words card) W′ → MovesBytes card (bytes W′)
-moves-bytes card W′ p m l f k h =
-    let n = length-words card in
-    let e = bytes-words card p m in
-    ⊎-elim
-    (λ s. inl (bytes-same W′ (words card) k (omega arith) (omega arith) s ∙ ap (λ (b : List ℕ). getD b k 0) e))
-    (λ r. inr (⊎-elim
-      (λ o. inl (ap (λ (b : List ℕ). getD b k 0) (sym e) ∙ bytes-ones (words card) k (omega arith) o))
-      (λ g. inr (λ j a q. bytes-ones W′ j (omega arith) (g (j / 4) (omega arith) (omega arith))))
-      r))
-    (f (k / 4) (omega arith))
+-- the same of a card of bytes, over its words
+abbrev pub FillsBytes : List ℕ → List ℕ → Type 0
+FillsBytes card card′ = (k : ℕ) → k < length card → (getD card′ k 0 ≡ getD card k 0) ⊎ (getD card k 0 ≡ 255)
 
+abbrev pub FreesBytes : List ℕ → List ℕ → Type 0
+FreesBytes card card′ =
+    (k : ℕ) → k < length card → (getD card′ k 0 ≡ getD card k 0) ⊎ ((j : ℕ) → j < length card → j / 4096 ≡ k / 4096 → getD card′ j 0 ≡ 255)
+
+-- document 01's rule of a card's bytes
+abbrev pub MovesBytes : List ℕ → List ℕ → Type 0
+MovesBytes card card′ =
+    (k : ℕ) → k < length card
+    → (getD card′ k 0 ≡ getD card k 0) ⊎ (getD card k 0 ≡ 255) ⊎ ((j : ℕ) → j < length card → j / 4096 ≡ k / 4096 → getD card′ j 0 ≡ 255)
+
+-- what the words of a card may do, its bytes may do
+module _ (card W′ : List ℕ) (p : Below 256 card) (m : length card % 4 ≡ 0) (l : length W′ ≡ length (words card)) where
+  byte-stays : (k : ℕ) → k < length card → getD W′ (k / 4) 0 ≡ getD (words card) (k / 4) 0 → getD (bytes W′) k 0 ≡ getD card k 0
+  byte-stays k h s =
+      let n = length-words card in
+      bytes-same W′ (words card) k (omega arith) (omega arith) s ∙ ap (λ (b : List ℕ). getD b k 0) (bytes-words card p m)
+
+  byte-was : (k : ℕ) → k < length card → getD (words card) (k / 4) 0 ≡ allOnes → getD card k 0 ≡ 255
+  byte-was k h o =
+      let n = length-words card in
+      ap (λ (b : List ℕ). getD b k 0) (sym (bytes-words card p m)) ∙ bytes-ones (words card) k (omega arith) o
+
+  bytes-go : (k : ℕ) → ((j : ℕ) → j < length (words card) → j / 1024 ≡ k / 4 / 1024 → getD W′ j 0 ≡ allOnes)
+      → (j : ℕ) → j < length card → j / 4096 ≡ k / 4096 → getD (bytes W′) j 0 ≡ 255
+  bytes-go k g j a q = let n = length-words card in bytes-ones W′ j (omega arith) (g (j / 4) (omega arith) (omega arith))
+
+  pub fills-bytes : Fills (words card) W′ → FillsBytes card (bytes W′)
+  fills-bytes f k h =
+      let n = length-words card in
+      ⊎-elim (λ s. inl (byte-stays k h s)) (λ o. inr (byte-was k h o)) (f (k / 4) (omega arith))
+
+  pub frees-bytes : Frees (words card) W′ → FreesBytes card (bytes W′)
+  frees-bytes f k h =
+      let n = length-words card in
+      ⊎-elim (λ s. inl (byte-stays k h s)) (λ g. inr (bytes-go k g)) (f (k / 4) (omega arith))
+
+  pub moves-bytes : Moves (words card) W′ → MovesBytes card (bytes W′)
+  moves-bytes f k h =
+      let n = length-words card in
+      ⊎-elim (λ s. inl (byte-stays k h s)) (λ r. inr (⊎-elim (λ o. inl (byte-was k h o)) (λ g. inr (bytes-go k g)) r)) (f (k / 4) (omega arith))
+
+-- on a card of n blocks
 module _ (card : List ℕ) (n : ℕ) (p : Below 256 card) (long : length card ≡ 4096 * n) where
-  -- a card of whole blocks has whole words
   words-long : length (words card) ≡ 1024 * n
   words-long = omega (arith, length-words card)
 
   -- a store to free blocks: each byte stays or was 255
-  pub store-bytes : (bs c : List ℕ) → every (isFree (words card)) bs ≡ true → (k : ℕ) → k < length card
-      → (getD (bytes (store (words card) bs c)) k 0 ≡ getD card k 0) ⊎ (getD card k 0 ≡ 255)
-  store-bytes bs c e k h =
+  pub store-bytes : (bs c : List ℕ) → every (isFree (words card)) bs ≡ true → FillsBytes card (bytes (store (words card) bs c))
+  store-bytes bs c e = let W = words card in fills-bytes card (store W bs c) p (omega arith) (length-store W bs c) (store-fills W bs c e)
+
+  -- a release: each byte stays or goes to 255 with its whole block
+  pub release-bytes : (bs : List ℕ) → FreesBytes card (bytes (release (words card) bs))
+  release-bytes bs = let W = words card in frees-bytes card (release W bs) p (omega arith) (length-release W bs) (release-frees W bs n words-long)
+
+  -- a store that only fills, and a release after it
+  pub store-release-bytes : (bs c ds : List ℕ) → Fills (words card) (store (words card) bs c) → MovesBytes card (bytes (release (store (words card) bs c) ds))
+  store-release-bytes bs c ds f =
       let W = words card in
-      let l = length-words card in
-      let q = bytes-words card p (omega arith) in
-      let z = length-store W bs c in
-      ⊎-elim
-      (λ s. inl (bytes-same (store W bs c) W k (omega arith) (omega arith) s ∙ ap (λ (b : List ℕ). getD b k 0) q))
-      (λ o. inr (ap (λ (b : List ℕ). getD b k 0) (sym q) ∙ bytes-ones W k (omega arith) o))
-      (store-fills W bs c e (k / 4) (omega arith))
-
-  -- a release: each byte stays, or was 255, or goes to 255 with its whole block
-  pub release-bytes : (bs : List ℕ) → MovesBytes card (bytes (release (words card) bs))
-  release-bytes bs =
-      moves-bytes card (release (words card) bs) p (omega arith) (length-release (words card) bs) (release-moves (words card) bs n words-long)
-
-  -- a store to free blocks and a release after it
-  pub store-release-bytes : (bs c ds : List ℕ) → every (isFree (words card)) bs ≡ true → MovesBytes card (bytes (release (store (words card) bs c) ds))
-  store-release-bytes bs c ds e =
-      moves-bytes card (release (store (words card) bs c) ds) p (omega arith) (length-release (store (words card) bs c) ds ∙ length-store (words card) bs c)
-      (store-release-moves (words card) bs c ds n words-long e)
+      let W′ = store W bs c in
+      moves-bytes card (release W′ ds) p (omega arith) (length-release W′ ds ∙ length-store W bs c)
+      (fills-frees W W′ (release W′ ds) (length-store W bs c) f (release-frees W′ ds n (length-store W bs c ∙ words-long)))

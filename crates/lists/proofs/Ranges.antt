@@ -51,6 +51,16 @@ different-rising n (suc k) = rw (rising-none (suc n) k n (omega arith)) (differe
 
 -- By place ---------------------------------------------------------------------------------------------------------
 
+-- what g gives of one number of the row
+pub rising-at : {B : Type 0} (g : ℕ → B) (n k j : ℕ) (d : B) → j < k → getD (map g (rising n k)) j d ≡ g (n + j)
+unfolding rising
+rising-at g n zero j d h = absurd (omega arith)
+rising-at g n (suc k) zero d h = ap g (sym (add-zero n))
+rising-at g n (suc k) (suc j) d h = rising-at g (suc n) k j d (omega arith) ∙ ap g (suc-add n j ∙ sym (add-suc n j))
+
+pub upTo-at : {B : Type 0} (g : ℕ → B) (k j : ℕ) (d : B) → j < k → getD (map g (upTo k)) j d ≡ g j
+upTo-at g k j d h = rising-at g 0 k j d h ∙ ap g (zero-add j)
+
 module _ {A B : Type 0} where
   -- what g gives of the places of a list, where it is what f gives of the elements
   pub map-rising : (g : ℕ → B) (f : A → B) (l : List A) (d : A) (n : ℕ) → ((j : ℕ) → j < length l → g (n + j) ≡ f (getD l j d))

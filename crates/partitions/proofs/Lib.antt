@@ -4,3 +4,4 @@ pub mod Entries
 pub mod Trips
 pub mod Rules
 pub mod Kept
+pub mod Lookup

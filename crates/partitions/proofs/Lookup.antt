@@ -1,0 +1,180 @@
+-- What the rules say of a partition that is read: its header, its entries, and the postings of one identifier.
+use mathlib.Core.Bool.{Bool, true, false, _&&_}
+use mathlib.Core.List.{List, [], _∷_, _++_, map}
+use mathlib.Core.Path.{_≡_, refl, sym, ap, _∙_}
+use Prim.Native.Nat.{ℕ, zero, suc, _+_, _*_, _<_, _≤_}
+use native.Mathlib.Omega.{arith}
+use lib.Dec.{eqb, ltb, leb}
+use lib.ListN.{length, getD, take, drop, length-map, length-take, length-drop}
+use borrow.Author.Tests.{ltb-true, ltb-false, leb-true, eqb-true, eqb-false, eq-eqb, ne-eqb}
+use Rattle.lists.specs.Lists.{keep, every, totalBy, joined, same, rising, upTo}
+use Rattle.lists.proofs.Bools.{by-test, and-left, and-right}
+use Rattle.lists.proofs.Tests.{every-at}
+use Rattle.lists.proofs.Sets.{same-true, every-elem}
+use Rattle.lists.proofs.Ranges.{length-rising, elem-rising, upTo-at, total-map, keep-joined, joined-none, joined-one}
+use Rattle.postings.specs.declared.Posting.{Posting}
+use Rattle.postings.specs.Pack.{posted}
+use Rattle.postings.specs.Sums.{under}
+use Rattle.state.specs.declared.Partition.{Partition}
+use Rattle.card.specs.Chains.{blocksFor, chainRule, content}
+use Rattle.partitions.specs.Layout.{totalLength}
+use Rattle.partitions.specs.Reading.{field, entryNumber, entryCount, entryFirst, postingWords, listOf, decode, chainOf, postingsOf}
+use Rattle.partitions.specs.Formed.{headerRule, ascending, running, entriesRule, partitionRule}
+
+-- The three parts of the rule --------------------------------------------------------------------------------------
+
+module _ (W : List ℕ) (limit : ℕ) (p : Partition) (e : partitionRule W limit p ≡ true) where
+  pub rule-chain : chainRule W limit (p .first) (blocksFor (p .length)) ≡ true
+  unfolding partitionRule
+  rule-chain = and-left (chainRule W limit (p .first) (blocksFor (p .length))) _ e
+
+  rule-words : (headerRule p (content W (chainOf W p)) && entriesRule (content W (chainOf W p))) ≡ true
+  unfolding partitionRule
+  rule-words = and-right (chainRule W limit (p .first) (blocksFor (p .length))) _ e
+
+  pub rule-header : headerRule p (content W (chainOf W p)) ≡ true
+  rule-header = and-left (headerRule p (content W (chainOf W p))) _ rule-words
+
+  pub rule-entries : entriesRule (content W (chainOf W p)) ≡ true
+  rule-entries = and-right (headerRule p (content W (chainOf W p))) _ rule-words
+
+-- The header -------------------------------------------------------------------------------------------------------
+
+-- what a header says that keeps the rule
+pub record Headed (p : Partition) (c : List ℕ) : Type 0 where
+  pub terms : 1 ≤ field c 0
+  pub postings : 1 ≤ field c 1
+  pub entries : field c 2 ≡ 32
+  pub lists : field c 3 ≡ 32 + 12 * field c 0
+  pub total : field c 4 ≡ totalLength (field c 0) (field c 1)
+  pub long : p .length ≡ totalLength (field c 0) (field c 1)
+  pub level : field c 5 ≡ p .level
+
+pub headed : (p : Partition) (c : List ℕ) → headerRule p c ≡ true → Headed p c
+headed p c e =
+    let e1 = and-right (leb 1 (field c 0)) _ e in
+    let e2 = and-right (leb 1 (field c 1)) _ e1 in
+    let e3 = and-right (eqb (field c 2) 32) _ e2 in
+    let e4 = and-right (eqb (field c 3) (32 + 12 * field c 0)) _ e3 in
+    let e5 = and-right (eqb (field c 4) (totalLength (field c 0) (field c 1))) _ e4 in
+    let e6 = and-right (eqb (field c 4) (p .length)) _ e5 in
+    let t = eqb-true (field c 4) (totalLength (field c 0) (field c 1)) (and-left _ _ e4) in
+    record
+      { terms = leb-true 1 (field c 0) (and-left _ _ e)
+      ; postings = leb-true 1 (field c 1) (and-left _ _ e1)
+      ; entries = eqb-true (field c 2) 32 (and-left _ _ e2)
+      ; lists = eqb-true (field c 3) (32 + 12 * field c 0) (and-left _ _ e3)
+      ; total = t
+      ; long = sym (eqb-true (field c 4) (p .length) (and-left _ _ e5)) ∙ t
+      ; level = eqb-true (field c 5) (p .level) (and-left _ _ e6)
+      }
+
+-- The entries ------------------------------------------------------------------------------------------------------
+
+-- rising numbers, by their places
+pub ascending-at : (l : List ℕ) → ascending l ≡ true → (i j : ℕ) → i < j → j < length l → getD l i 0 < getD l j 0
+ascending-at [] o i j a b = absurd (omega arith)
+ascending-at (n ∷ l) o i zero a b = absurd (omega arith)
+ascending-at (n ∷ l) o zero (suc j) a b =
+    ltb-true n (getD l j 0) (every-at (ltb n) l 0 (and-left (every (ltb n) l) _ o) j (omega arith))
+ascending-at (n ∷ l) o (suc i) (suc j) a b = ascending-at l (and-right (every (ltb n) l) _ o) i j (omega arith) (omega arith)
+
+-- a sum so far and its count, by their places: the first sum, the next one, and the sum of all
+running-first : (n : ℕ) (l : List ℕ) → 0 < length l → getD (running n l) 0 0 ≡ n
+running-first n [] h = absurd (omega arith)
+running-first n (k ∷ l) h = refl
+
+running-next : (n : ℕ) (l : List ℕ) (j : ℕ) → suc j < length l → getD (running n l) (suc j) 0 ≡ getD (running n l) j 0 + getD l j 0
+running-next n [] j h = absurd (omega arith)
+running-next n (k ∷ l) zero h = running-first (n + k) l (omega arith)
+running-next n (k ∷ l) (suc j) h = running-next (n + k) l j (omega arith)
+
+running-within : (n : ℕ) (l : List ℕ) (j : ℕ) → j < length l → getD (running n l) j 0 + getD l j 0 ≤ n + totalBy (λ k. k) l
+running-within n [] j h = absurd (omega arith)
+running-within n (k ∷ l) zero h = omega arith
+running-within n (k ∷ l) (suc j) h = omega (arith, running-within (n + k) l j (omega arith))
+
+-- what entries say that keep the rule
+pub record Entered (c : List ℕ) : Type 0 where
+  pub rise : (i j : ℕ) → i < j → j < field c 0 → entryNumber c i < entryNumber c j
+  pub most : (j : ℕ) → j < field c 0 → entryNumber c j ≤ 1023
+  pub some : (j : ℕ) → j < field c 0 → 1 ≤ entryCount c j
+  pub start : 0 < field c 0 → entryFirst c 0 ≡ 0
+  pub next : (j : ℕ) → suc j < field c 0 → entryFirst c (suc j) ≡ entryFirst c j + entryCount c j
+  pub within : (j : ℕ) → j < field c 0 → entryFirst c j + entryCount c j ≤ field c 1
+
+-- what a test of a row says of a number of it
+of-row : (t : ℕ → Bool) (k : ℕ) → every t (upTo k) ≡ true → (j : ℕ) → j < k → t j ≡ true
+of-row t k e j h = every-elem t (upTo k) j e (elem-rising 0 k j (omega arith) (omega arith))
+
+pub entered : (c : List ℕ) → entriesRule c ≡ true → Entered c
+entered c e =
+    let k = field c 0 in
+    let ns = map (entryNumber c) (upTo k) in
+    let cs = map (entryCount c) (upTo k) in
+    let fs = map (entryFirst c) (upTo k) in
+    let e1 = and-right (ascending ns) _ e in
+    let e2 = and-right (every (λ j. leb (entryNumber c j) 1023) (upTo k)) _ e1 in
+    let e3 = and-right (every (λ j. leb 1 (entryCount c j)) (upTo k)) _ e2 in
+    let r : fs ≡ running 0 cs = same-true fs (running 0 cs) (and-left _ _ e3) in
+    let t : totalBy (entryCount c) (upTo k) ≡ field c 1 =
+            eqb-true (totalBy (entryCount c) (upTo k)) (field c 1) (and-right (same fs (running 0 cs)) _ e3) in
+    let u : totalBy (λ m. m) cs ≡ totalBy (entryCount c) (upTo k) = total-map (λ m. m) (entryCount c) (upTo k) in
+    let ln : length ns ≡ k = length-map (upTo k) (entryNumber c) ∙ length-rising 0 k in
+    let lc : length cs ≡ k = length-map (upTo k) (entryCount c) ∙ length-rising 0 k in
+    let f : (j : ℕ) → j < k → entryFirst c j ≡ getD (running 0 cs) j 0 =
+            λ j h. sym (upTo-at (entryFirst c) k j 0 h) ∙ ap (λ (l : List ℕ). getD l j 0) r in
+    let n : (j : ℕ) → j < k → getD cs j 0 ≡ entryCount c j = λ j h. upTo-at (entryCount c) k j 0 h in
+    record
+      { rise = λ i j a b.
+          rw (upTo-at (entryNumber c) k i 0 (omega arith), upTo-at (entryNumber c) k j 0 b) at (ascending-at ns (and-left (ascending ns) _ e) i j a (omega arith))
+      ; most = λ j h. leb-true (entryNumber c j) 1023 (of-row (λ j. leb (entryNumber c j) 1023) k (and-left _ _ e1) j h)
+      ; some = λ j h. leb-true 1 (entryCount c j) (of-row (λ j. leb 1 (entryCount c j)) k (and-left _ _ e2) j h)
+      ; start = λ h. f 0 h ∙ running-first 0 cs (omega arith)
+      ; next = λ j h. omega (arith, f (suc j) h, f j (omega arith), n j (omega arith), running-next 0 cs j (omega arith))
+      ; within = λ j h. omega (arith, f j h, n j h, running-within 0 cs j (omega arith))
+      }
+
+-- One identifier ---------------------------------------------------------------------------------------------------
+
+under-own : (i : ℕ) (ws : List ℕ) → under i (map (posted i) ws) ≡ map (posted i) ws
+under-own i [] = refl
+under-own i (w ∷ ws) = rw (eq-eqb i i refl, under-own i ws)
+
+under-other : (n i : ℕ) (ws : List ℕ) → (n ≡ i → ⊥) → under i (map (posted n) ws) ≡ []
+under-other n i [] h = refl
+under-other n i (w ∷ ws) h = rw (ne-eqb n i h) (under-other n i ws h)
+
+-- the postings under the number of an entry are that entry's list
+pub under-entry : (c : List ℕ) → entriesRule c ≡ true → (j : ℕ) → j < field c 0 → under (entryNumber c j) (decode c) ≡ listOf c j
+unfolding decode
+under-entry c e j h =
+    let i = entryNumber c j in
+    let r = entered c e in
+    keep-joined (λ p. eqb (p .id) i) (listOf c) (upTo (field c 0))
+    ∙ joined-one (λ k. under i (listOf c k)) 0 (field c 0) j (omega arith) (omega arith)
+      (λ k a b d. under-other (entryNumber c k) i (take (entryCount c k) (drop (entryFirst c k) (postingWords c)))
+      (λ q. by-test (ltb k j)
+      (λ y. omega (arith, r .rise k j (ltb-true k j y) h))
+      (λ n. omega (arith, r .rise j k (omega (arith, d, ltb-false k j n)) (omega arith)))))
+    ∙ under-own i (take (entryCount c j) (drop (entryFirst c j) (postingWords c)))
+
+-- and under a number that no entry has there are none
+pub under-none : (c : List ℕ) (i : ℕ) → ((j : ℕ) → j < field c 0 → entryNumber c j ≡ i → ⊥) → under i (decode c) ≡ []
+unfolding decode
+under-none c i h =
+    keep-joined (λ p. eqb (p .id) i) (listOf c) (upTo (field c 0))
+    ∙ joined-none (λ k. under i (listOf c k)) 0 (field c 0)
+      (λ k a b. under-other (entryNumber c k) i (take (entryCount c k) (drop (entryFirst c k) (postingWords c))) (h k (omega arith)))
+
+-- the same of a partition on a card
+module _ (W : List ℕ) (limit : ℕ) (p : Partition) (e : partitionRule W limit p ≡ true) where
+  pub postings-entry : (j : ℕ) → j < field (content W (chainOf W p)) 0
+      → under (entryNumber (content W (chainOf W p)) j) (postingsOf W p) ≡ listOf (content W (chainOf W p)) j
+  unfolding postingsOf
+  postings-entry j h = under-entry (content W (chainOf W p)) (rule-entries W limit p e) j h
+
+  pub postings-none : (i : ℕ) → ((j : ℕ) → j < field (content W (chainOf W p)) 0 → entryNumber (content W (chainOf W p)) j ≡ i → ⊥)
+      → under i (postingsOf W p) ≡ []
+  unfolding postingsOf
+  postings-none i h = under-none (content W (chainOf W p)) i h
