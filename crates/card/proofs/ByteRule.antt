@@ -53,7 +53,7 @@ free-word W k h e =
     word-in W k ∙ sym (eqb-true allOnes (getD (block W (k / 1024)) (k % 1024) 0) (every-at (eqb allOnes) (block W (k / 1024)) 0 e (k % 1024) l))
 
 -- a word of a block that does not change stays
-word-kept : (W W′ : List ℕ) (k : ℕ) → block W′ (k / 1024) ≡ block W (k / 1024) → getD W′ k 0 ≡ getD W k 0
+pub word-kept : (W W′ : List ℕ) (k : ℕ) → block W′ (k / 1024) ≡ block W (k / 1024) → getD W′ k 0 ≡ getD W k 0
 word-kept W W′ k e = word-in W′ k ∙ ap (λ (r : List ℕ). getD r (k % 1024) 0) e ∙ sym (word-in W k)
 
 -- a store to free blocks

@@ -7,17 +7,19 @@ use native.Mathlib.Omega.{arith}
 use lib.Dec.{eqb, ltb}
 use lib.ListN.{length, getD, take, drop, replicate, length-replicate}
 use lib.Seq.{sets, length-sets}
-use borrow.Author.Tests.{eqb-true, lt-ltb, ltb-true}
+use borrow.Author.Tests.{eqb-true, lt-ltb, ltb-true, not-true}
 use Rattle.lists.specs.Lists.{keep, any, every, elem, different, rising, upTo}
 use Rattle.lists.proofs.Bools.{by-test, and-left, and-right, and-both, or-none}
-use Rattle.lists.proofs.Tests.{every-keep, every-kept}
+use Rattle.lists.proofs.Tests.{every-at, every-from, every-keep, every-kept}
 use Rattle.lists.proofs.Ranges.{every-rising, elem-rising, different-rising}
-use Rattle.lists.proofs.Sets.{every-replicate, elem-keep, different-keep, every-turned, any-turned, length-keep-turned, different-turned}
+use Rattle.lists.proofs.Sets.{every-replicate, every-elem, elem-keep, different-keep, every-turned, any-turned, length-keep-turned, different-turned}
 use Rattle.words.specs.Words.{allOnes}
-use Rattle.card.specs.Blocks.{block, isFree, afterTaken, freeBlocks}
+use Rattle.card.specs.Blocks.{noBlock, block, link, isFree, afterTaken, freeBlocks}
+use Rattle.card.specs.Chains.{chain, chainRule}
 use Rattle.card.specs.Writes.{store, release}
-use Rattle.card.proofs.Stores.{store-apart, release-apart}
-use Rattle.card.proofs.Stored.{onCard, block-back}
+use Rattle.card.proofs.Links.{onCard, link-block, length-block, rule-first}
+use Rattle.card.proofs.Stores.{apart, store-apart, release-apart}
+use Rattle.card.proofs.Stored.{block-back}
 
 -- Released ---------------------------------------------------------------------------------------------------------
 
@@ -79,3 +81,36 @@ module _ (W : List ℕ) (n taken : ℕ) where
   pub free-count : length (freeBlocks W n taken) ≡ length (keep (isFree W) (upTo n))
   unfolding freeBlocks
   free-count = length-keep-turned (suc taken) (upTo n) (isFree W)
+
+-- Taken ------------------------------------------------------------------------------------------------------------
+
+-- a free block's link is all ones
+pub free-link : (W : List ℕ) (n b : ℕ) → length W ≡ 1024 * n → b < n → isFree W b ≡ true → link W b ≡ allOnes
+free-link W n b long h e =
+    let l : 1023 < length (block W b) = omega (arith, length-block W n b long h) in
+    link-block W b ∙ sym (eqb-true allOnes (getD (block W b) 1023 0) (every-at (eqb allOnes) (block W b) 0 e 1023 l))
+
+-- so a block that links to another of the card, or to none, is not free
+taken : (W : List ℕ) (n b : ℕ) → length W ≡ 1024 * n → b < n → link W b < allOnes → isFree W b ≡ false
+taken W n b long h l = by-test (isFree W b) (λ y. absurd (omega (arith, free-link W n b long h y))) (λ f. f)
+
+-- no block of a chain that keeps the rule is free
+pub chain-taken : (W : List ℕ) (n b k : ℕ) → length W ≡ 1024 * n → n ≤ allOnes → chainRule W n b k ≡ true → every (λ d. not (isFree W d)) (chain W b k) ≡ true
+unfolding chain chainRule
+chain-taken W n b zero long m e = refl
+chain-taken W n b (suc zero) long m e =
+    let h = ltb-true b n (and-left (ltb b n) _ e) in
+    let l = eqb-true (link W b) noBlock (and-right (ltb b n) _ e) in
+    rw (taken W n b long h (omega arith))
+chain-taken W n b (suc (suc k)) long m e =
+    let h = ltb-true b n (and-left (ltb b n) _ e) in
+    let r = and-right (ltb b n) _ e in
+    rw (taken W n b long h (omega (arith, rule-first W n (link W b) (suc k) r))) (chain-taken W n (link W b) (suc k) long m r)
+
+-- so it stands apart from any free blocks
+pub apart-free : (W ds bs : List ℕ) → every (λ d. not (isFree W d)) ds ≡ true → every (isFree W) bs ≡ true → apart ds bs ≡ true
+apart-free W ds bs e f =
+    every-from (λ d. not (isFree W d)) (λ d. not (isFree W d)) (λ d. not (elem d bs))
+    (λ d u v. by-test (elem d bs)
+    (λ y. absurd (true≢false (sym (every-elem (isFree W) bs d f y) ∙ not-true (isFree W d) u)))
+    (λ g. rw g)) ds e e

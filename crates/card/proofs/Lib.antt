@@ -1,7 +1,9 @@
 pub mod Cursors
 pub mod Seeking
 pub mod Chains
+pub mod Links
 pub mod Stores
 pub mod Stored
 pub mod Free
 pub mod ByteRule
+pub mod Refills

@@ -15,11 +15,8 @@ use Rattle.words.specs.Words.{allOnes}
 use Rattle.card.specs.Blocks.{noBlock, block, contentOf, link}
 use Rattle.card.specs.Chains.{chain, chainRule, content}
 use Rattle.card.specs.Writes.{putBlock, store}
-use Rattle.card.proofs.Stores.{link-block, laid, length-laid, short, store-apart}
-
--- every block is one of a card of n
-abbrev pub onCard : ℕ → List ℕ → Bool
-onCard n bs = every (λ b. ltb b n) bs
+use Rattle.card.proofs.Links.{onCard, link-block}
+use Rattle.card.proofs.Stores.{laid, length-laid, short, store-apart}
 
 -- One block --------------------------------------------------------------------------------------------------------
 

@@ -6,7 +6,7 @@ use Prim.Native.Nat.{ℕ, zero, suc, _+_, _*_, _-_, _<_, _≤_}
 use native.Mathlib.Omega.{arith}
 use lib.Dec.{eqb, ltb}
 use lib.ListN.{length, getD, take, drop, replicate, length-append, length-replicate, length-take}
-use lib.Seq.{sets, length-sets, getD-take, getD-drop}
+use lib.Seq.{sets, length-sets}
 use borrow.Author.Tests.{ltb-true, ltb-false, eqb-false, eq-eqb, not-true}
 use Rattle.lists.specs.Lists.{any, every, elem}
 use Rattle.lists.proofs.Bools.{by-test, and-left, and-right, or-right, or-none}
@@ -15,10 +15,7 @@ use Rattle.words.specs.Words.{allOnes}
 use Rattle.card.specs.Blocks.{noBlock, block, contentOf, link, isFree}
 use Rattle.card.specs.Chains.{chain, chainRule, content}
 use Rattle.card.specs.Writes.{putBlock, store, release}
-
--- the link is the block's last word
-pub link-block : (W : List ℕ) (b : ℕ) → link W b ≡ getD (block W b) 1023 0
-link-block W b = sym (getD-take 1024 (drop (1024 * b) W) 1023 0 (omega arith) ∙ getD-drop (1024 * b) W 1023 0)
+use Rattle.card.proofs.Links.{link-block}
 
 -- One block --------------------------------------------------------------------------------------------------------
 

@@ -6,7 +6,7 @@ use Prim.Native.Nat.{ℕ, zero, suc, _+_, _-_, _<_, _≤_}
 use native.Mathlib.Nat.{zero-add, suc-sub-suc, suc-add, sub-zero}
 use native.Mathlib.Omega.{arith}
 use lib.Dec.{eqb}
-use lib.ListN.{length, take, drop, set, replicate, length-append, take-append-drop, replicate-append-replicate}
+use lib.ListN.{length, getD, take, drop, set, replicate, length-append, take-append-drop, replicate-append-replicate}
 use lib.Seq.{sets, sets-eq, take-set-le, drop-set-lt, length-take-le, take-at, drop-at}
 use borrow.Author.Tests.{eqb-true, eqb-false, eq-eqb, ne-eqb, not-true}
 use Rattle.lists.specs.Lists.{keep, any, every, elem, different, same}
@@ -111,6 +111,14 @@ elem-keep t (x ∷ l) n e m =
     by-test (eqb x n)
     (λ y. let k : t x ≡ true = ap t (eqb-true x n y) ∙ e in rw (k, y))
     (λ f. let r = elem-keep t l n e (rw f at m) in by-test (t x) (λ y. rw y (or-right (eqb x n) _ r)) (λ g. rw g r))
+
+-- a number that is in the list has a place there
+pub elem-place : (l : List ℕ) (n : ℕ) → elem n l ≡ true → (j : ℕ) × ((j < length l) × (getD l j 0 ≡ n))
+elem-place [] n m = absurd (true≢false (sym m))
+elem-place (x ∷ l) n m =
+    by-test (eqb x n)
+    (λ y. (zero, (omega arith, eqb-true x n y)))
+    (λ f. let r = elem-place l n (rw f at m) in (suc (r .0), (omega (arith, r .1 .0), r .1 .1)))
 
 -- None twice -------------------------------------------------------------------------------------------------------
 
