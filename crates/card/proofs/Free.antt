@@ -1,15 +1,15 @@
 -- Free blocks: which they are, that a release frees, and that neither a store nor a release touches any other.
 use mathlib.Core.Bool.{Bool, true, false, not, _||_, true≢false}
-use mathlib.Core.List.{List, [], _∷_, _++_}
+use mathlib.Core.List.{List, [], _∷_}
 use mathlib.Core.Path.{_≡_, refl, sym, ap, _∙_}
-use Prim.Native.Nat.{ℕ, zero, suc, _+_, _*_, _<_, _≤_}
+use Prim.Native.Nat.{ℕ, zero, suc, _*_, _<_, _≤_}
 use native.Mathlib.Omega.{arith}
 use lib.Dec.{eqb, ltb}
-use lib.ListN.{length, getD, take, drop, replicate, length-replicate}
+use lib.ListN.{length, getD, replicate, length-replicate}
 use lib.Seq.{sets, length-sets}
 use borrow.Author.Tests.{eqb-true, lt-ltb, ltb-true, not-true}
-use Rattle.lists.specs.Lists.{keep, any, every, elem, different, rising, upTo}
-use Rattle.lists.proofs.Bools.{by-test, and-left, and-right, and-both, or-none}
+use Rattle.lists.specs.Lists.{keep, every, elem, different, upTo}
+use Rattle.lists.proofs.Bools.{by-test, and-left, and-right}
 use Rattle.lists.proofs.Tests.{every-at, every-from, every-keep, every-kept}
 use Rattle.lists.proofs.Ranges.{every-rising, elem-rising, different-rising}
 use Rattle.lists.proofs.Sets.{every-replicate, every-elem, elem-keep, different-keep, every-turned, any-turned, length-keep-turned, different-turned}

@@ -1,9 +1,9 @@
 -- Blocks that are chained already and are stored to again: where the new content keeps what was there and fills what was all ones, the card is filled.
-use mathlib.Core.Bool.{Bool, true, false}
+use mathlib.Core.Bool.{true}
 use mathlib.Core.List.{List, _++_}
 use mathlib.Core.Logic.{_⊎_, inl, inr, ⊎-elim}
 use mathlib.Core.Path.{_≡_, sym, ap, _∙_}
-use Prim.Native.Nat.{ℕ, suc, _+_, _*_, _-_, _/_, _%_, _<_, _≤_}
+use Prim.Native.Nat.{ℕ, _+_, _*_, _-_, _/_, _%_, _<_, _≤_}
 use native.Mathlib.Omega.{arith}
 use lib.Dec.{ltb}
 use lib.ListN.{length, getD, replicate}
@@ -12,7 +12,7 @@ use Rattle.lists.specs.Lists.{elem, different}
 use Rattle.lists.proofs.Bools.{by-test}
 use Rattle.lists.proofs.Sets.{elem-place}
 use Rattle.words.specs.Words.{allOnes}
-use Rattle.card.specs.Blocks.{block, link}
+use Rattle.card.specs.Blocks.{link}
 use Rattle.card.specs.Chains.{chain, chainRule, content}
 use Rattle.card.specs.Writes.{store}
 use Rattle.card.proofs.Links.{onCard, rule-on, chained-link, content-at}
@@ -23,7 +23,7 @@ use Rattle.card.proofs.ByteRule.{Fills, word-kept}
 module _ (W bs c : List ℕ) (n : ℕ) (long : length W ≡ 1024 * n) (new : different bs ≡ true) (room : length c ≤ 1023 * length bs)
     (linked : chain W (getD bs 0 0) (length bs) ≡ bs) (rule : chainRule W n (getD bs 0 0) (length bs) ≡ true)
     (fills : (i : ℕ) → i < 1023 * length bs
-        → (getD (c ++ replicate (1023 * length bs - length c) allOnes) i 0 ≡ getD (content W bs) i 0) ⊎ (getD (content W bs) i 0 ≡ allOnes)) where
+    → (getD (c ++ replicate (1023 * length bs - length c) allOnes) i 0 ≡ getD (content W bs) i 0) ⊎ (getD (content W bs) i 0 ≡ allOnes)) where
   on : onCard n bs ≡ true
   on = ap (onCard n) (sym linked) ∙ rule-on W n (getD bs 0 0) (length bs) rule
 

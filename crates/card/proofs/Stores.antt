@@ -8,11 +8,11 @@ use lib.Dec.{eqb, ltb}
 use lib.ListN.{length, getD, take, drop, replicate, length-append, length-replicate, length-take}
 use lib.Seq.{sets, length-sets}
 use borrow.Author.Tests.{ltb-true, ltb-false, eqb-false, eq-eqb, not-true}
-use Rattle.lists.specs.Lists.{any, every, elem}
-use Rattle.lists.proofs.Bools.{by-test, and-left, and-right, or-right, or-none}
+use Rattle.lists.specs.Lists.{every, elem}
+use Rattle.lists.proofs.Bools.{by-test, or-right, or-none}
 use Rattle.lists.proofs.Sets.{sets-before, sets-past, every-elem}
 use Rattle.words.specs.Words.{allOnes}
-use Rattle.card.specs.Blocks.{noBlock, block, contentOf, link, isFree}
+use Rattle.card.specs.Blocks.{noBlock, block, link}
 use Rattle.card.specs.Chains.{chain, chainRule, content}
 use Rattle.card.specs.Writes.{putBlock, store, release}
 use Rattle.card.proofs.Links.{link-block}
@@ -25,11 +25,11 @@ laid c next = c ++ replicate (1023 - length c) allOnes ++ (next ∷ [])
 
 pub length-laid : (c : List ℕ) (next : ℕ) → length c ≤ 1023 → length (laid c next) ≡ 1024
 length-laid c next h =
-    omega
-    ( arith
-    , length-append (c ++ replicate (1023 - length c) allOnes) (next ∷ [])
-    , length-append c (replicate (1023 - length c) allOnes)
-    , length-replicate (1023 - length c) allOnes
+    omega (
+      arith,
+      length-append (c ++ replicate (1023 - length c) allOnes) (next ∷ []),
+      length-append c (replicate (1023 - length c) allOnes),
+      length-replicate (1023 - length c) allOnes,
     )
 
 -- what is put into one block has room there

@@ -1,5 +1,5 @@
 -- Numbers in a row, and lists that are told by the numbers of their places.
-use mathlib.Core.Bool.{Bool, true, false, not, _&&_, _||_}
+use mathlib.Core.Bool.{Bool, true, false, _&&_}
 use mathlib.Core.List.{List, [], _∷_, _++_, map, map-append, append-assoc, append-nil}
 use mathlib.Core.Path.{_≡_, refl, sym, ap, ap₂, _∙_}
 use Prim.Native.Nat.{ℕ, zero, suc, _+_, _*_, _-_, _<_, _≤_}
@@ -9,7 +9,7 @@ use lib.Dec.{eqb, ltb}
 use lib.ListN.{length, getD, take, drop, length-append, length-map, List·getD-append}
 use lib.Seq.{getD-append-add, take-at, drop-at}
 use borrow.Author.Tests.{ltb-true, ltb-false, eqb-true, eqb-false, ne-eqb}
-use Rattle.lists.specs.Lists.{keep, any, every, totalBy, joined, elem, different, rising, upTo}
+use Rattle.lists.specs.Lists.{keep, every, totalBy, joined, elem, different, rising, upTo}
 use Rattle.lists.proofs.Bools.{by-test, and-left, and-right, and-both, or-right}
 use Rattle.lists.proofs.Tests.{keep-append}
 
@@ -26,6 +26,12 @@ unfolding rising
 every-rising t n zero h = refl
 every-rising t n (suc k) h =
     and-both (t n) _ (h n (omega arith) (omega arith)) (every-rising t (suc n) k (λ j a b. h j (omega arith) (omega arith)))
+
+-- two functions that are equal over the row have one sum
+pub total-rising : (f g : ℕ → ℕ) (n k : ℕ) → ((j : ℕ) → n ≤ j → j < n + k → f j ≡ g j) → totalBy f (rising n k) ≡ totalBy g (rising n k)
+unfolding rising
+total-rising f g n zero h = refl
+total-rising f g n (suc k) h = ap₂ _+_ (h n (omega arith) (omega arith)) (total-rising f g (suc n) k (λ j a b. h j (omega arith) (omega arith)))
 
 -- every number of the row is in it
 pub elem-rising : (n k j : ℕ) → n ≤ j → j < n + k → elem j (rising n k) ≡ true
@@ -96,7 +102,7 @@ module _ {A B : Type 0} where
   total-map t f [] = refl
   total-map t f (x ∷ l) = ap (λ (n : ℕ). t (f x) + n) (total-map t f l)
 
--- Lists one after another ------------------------------------------------------------------------------------------
+  -- Lists one after another ------------------------------------------------------------------------------------------
 
   -- lists of one length: how long they are together
   pub length-joined : (e : A → List B) (w : ℕ) → ((x : A) → length (e x) ≡ w) → (l : List A) → length (joined (map e l)) ≡ w * length l

@@ -47,7 +47,7 @@ module _ {A : Type 0} where
   pad-split a (suc m) k (x ∷ c) =
       rw (suc-sub-suc m (length (take m c)), suc-add m k, suc-sub-suc (m + k) (length c)) (ap (λ (r : List A). x ∷ r) (pad-split a m k c))
 
--- Tests of some ----------------------------------------------------------------------------------------------------
+  -- Tests of some ----------------------------------------------------------------------------------------------------
 
   -- in one list or in the other
   pub any-append : (t : A → Bool) (l m : List A) → any t (l ++ m) ≡ (any t l || any t m)

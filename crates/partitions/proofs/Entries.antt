@@ -1,6 +1,6 @@
 -- What is read of a partition's words, whatever stands past them: header, entries and postings.
-use mathlib.Core.List.{List, [], _∷_, _++_, map, map-id, append-assoc}
-use mathlib.Core.Path.{_≡_, refl, sym, ap, _∙_}
+use mathlib.Core.List.{List, _++_, map, map-id, append-assoc}
+use mathlib.Core.Path.{_≡_, refl, ap, _∙_}
 use Prim.Native.Nat.{ℕ, _+_, _*_, _<_}
 use native.Mathlib.Omega.{arith}
 use lib.ListN.{length, getD, drop}

@@ -1,15 +1,15 @@
 -- Ordered postings stand in groups, one for each identifier, by rising identifier.
-use mathlib.Core.Bool.{Bool, true, false, not, _&&_}
+use mathlib.Core.Bool.{Bool, true, not}
 use mathlib.Core.List.{List, [], _∷_, _++_, map, tail-eq-of-cons-eq}
 use mathlib.Core.Logic.{_⊎_, inl, inr}
-use mathlib.Core.Path.{_≡_, refl, sym, ap, ap₂, _∙_}
-use Prim.Native.Nat.{ℕ, zero, suc, _+_, _<_, _≤_}
-use native.Mathlib.Nat.{add-zero, add-suc, suc-add}
+use mathlib.Core.Path.{_≡_, refl, sym, ap, _∙_}
+use Prim.Native.Nat.{ℕ, suc, _+_, _<_, _≤_}
+use native.Mathlib.Nat.{add-zero}
 use native.Mathlib.Omega.{arith}
 use lib.Dec.{eqb, ltb, leb}
 use lib.ListN.{length}
 use borrow.Author.Tests.{ltb-true, ltb-false, leb-true, eqb-true, eqb-false, lt-ltb, le-ltb, le-leb, eq-eqb, ne-eqb, not-true}
-use Rattle.lists.specs.Lists.{keep, any, every, totalBy, joined}
+use Rattle.lists.specs.Lists.{keep, every, totalBy, joined}
 use Rattle.lists.proofs.Bools.{by-test, and-left, and-right, and-both}
 use Rattle.lists.proofs.Tests.{every-from, every-keep, every-kept, keep-all, keep-none}
 use Rattle.lists.proofs.Sets.{none-from}
@@ -17,7 +17,7 @@ use Rattle.lists.proofs.Ranges.{map-where, length-all}
 use Rattle.postings.specs.declared.Posting.{Posting}
 use Rattle.postings.specs.Order.{precedes, ordered}
 use Rattle.postings.specs.Sums.{under}
-use Rattle.postings.proofs.Order.{precedes-cases, before-all}
+use Rattle.postings.proofs.Order.{precedes-cases}
 use Rattle.partitions.specs.Layout.{identifiersOf}
 use Rattle.partitions.specs.Formed.{ascending, running}
 
@@ -72,17 +72,17 @@ after p (q ∷ qs) o =
     let l : p .id ≤ q .id = leb-true (p .id) (q .id) (and-left _ _ (rest-from p (q ∷ qs) o)) in
     let g = rest-from q qs (rest-ordered p (q ∷ qs) o) in
     let a : every (λ r. ltb (p .id) (r .id)) (q ∷ qs) ≡ true =
-            and-both (ltb (p .id) (q .id)) _ (lt-ltb (p .id) (q .id) (omega arith))
-            (every-from (λ r. leb (q .id) (r .id)) (λ r. leb (q .id) (r .id)) (λ r. ltb (p .id) (r .id))
-            (λ r u v. let m : q .id ≤ r .id = leb-true (q .id) (r .id) u in lt-ltb (p .id) (r .id) (omega arith)) qs g g) in
-    inr
-    ( keep-none (λ r. eqb (r .id) (p .id)) (q ∷ qs)
-      (none-from (λ r. ltb (p .id) (r .id)) (λ r. eqb (r .id) (p .id))
-      (λ r u. let m : p .id < r .id = ltb-true (p .id) (r .id) u in ne-eqb (r .id) (p .id) (λ z. omega arith)) (q ∷ qs) a)
-    , keep-all (λ i. not (eqb i (p .id))) (identifiersOf (q ∷ qs))
-      (every-identifier (λ i. not (eqb i (p .id))) (q ∷ qs)
-      (every-from (λ r. ltb (p .id) (r .id)) (λ r. ltb (p .id) (r .id)) (λ r. not (eqb (r .id) (p .id)))
-      (λ r u v. let m : p .id < r .id = ltb-true (p .id) (r .id) u in rw (ne-eqb (r .id) (p .id) (λ z. omega arith))) (q ∷ qs) a a))
+    and-both (ltb (p .id) (q .id)) _ (lt-ltb (p .id) (q .id) (omega arith))
+    (every-from (λ r. leb (q .id) (r .id)) (λ r. leb (q .id) (r .id)) (λ r. ltb (p .id) (r .id))
+    (λ r u v. let m : q .id ≤ r .id = leb-true (q .id) (r .id) u in lt-ltb (p .id) (r .id) (omega arith)) qs g g) in
+    inr (
+      keep-none (λ r. eqb (r .id) (p .id)) (q ∷ qs)
+          (none-from (λ r. ltb (p .id) (r .id)) (λ r. eqb (r .id) (p .id))
+          (λ r u. let m : p .id < r .id = ltb-true (p .id) (r .id) u in ne-eqb (r .id) (p .id) (λ z. omega arith)) (q ∷ qs) a),
+      keep-all (λ i. not (eqb i (p .id))) (identifiersOf (q ∷ qs))
+          (every-identifier (λ i. not (eqb i (p .id))) (q ∷ qs)
+          (every-from (λ r. ltb (p .id) (r .id)) (λ r. ltb (p .id) (r .id)) (λ r. not (eqb (r .id) (p .id)))
+          (λ r u v. let m : p .id < r .id = ltb-true (p .id) (r .id) u in rw (ne-eqb (r .id) (p .id) (λ z. omega arith))) (q ∷ qs) a a)),
     ))
 
 -- the identifiers after p's are above it
@@ -120,17 +120,17 @@ parted i (p ∷ ps) o =
     rw (y, ne-eqb (p .id) i (λ z. omega arith), le-ltb i (p .id) (omega arith)) (ap (λ (r : List Posting). p ∷ r) ih))
     (λ f. let l : i ≤ p .id = ltb-false (p .id) i f in
     let a : lower i ps ≡ [] =
-            keep-none (λ q. ltb (q .id) i) ps
-            (none-from (λ q. leb (p .id) (q .id)) (λ q. ltb (q .id) i)
-            (λ q u. let m : p .id ≤ q .id = leb-true (p .id) (q .id) u in le-ltb (q .id) i (omega arith)) ps g) in
+    keep-none (λ q. ltb (q .id) i) ps
+    (none-from (λ q. leb (p .id) (q .id)) (λ q. ltb (q .id) i)
+    (λ q u. let m : p .id ≤ q .id = leb-true (p .id) (q .id) u in le-ltb (q .id) i (omega arith)) ps g) in
     by-test (eqb (p .id) i)
     (λ y. let e : p .id ≡ i = eqb-true (p .id) i y in
     rw (f, y, le-ltb i (p .id) (omega arith), a) (ap (λ (r : List Posting). p ∷ r) (rw a at ih)))
     (λ n. let d : p .id ≡ i → ⊥ = eqb-false (p .id) i n in
     let b : under i ps ≡ [] =
-            keep-none (λ q. eqb (q .id) i) ps
-            (none-from (λ q. leb (p .id) (q .id)) (λ q. eqb (q .id) i)
-            (λ q u. let m : p .id ≤ q .id = leb-true (p .id) (q .id) u in ne-eqb (q .id) i (λ z. omega arith)) ps g) in
+    keep-none (λ q. eqb (q .id) i) ps
+    (none-from (λ q. leb (p .id) (q .id)) (λ q. eqb (q .id) i)
+    (λ q u. let m : p .id ≤ q .id = leb-true (p .id) (q .id) u in ne-eqb (q .id) i (λ z. omega arith)) ps g) in
     rw (f, n, lt-ltb i (p .id) (omega arith), a, b) (ap (λ (r : List Posting). p ∷ r) (rw (a, b) at ih))))
 
 -- All identifiers --------------------------------------------------------------------------------------------------
@@ -141,8 +141,8 @@ grouped [] o = refl
 grouped (p ∷ ps) o =
     let ih = grouped ps (rest-ordered p ps o) in
     let e : map (λ i. under i (p ∷ ps)) (others p ps) ≡ map (λ i. under i ps) (others p ps) =
-            map-where (ltb (p .id)) (λ i. under i (p ∷ ps)) (λ i. under i ps)
-            (λ i u. let l : p .id < i = ltb-true (p .id) i u in rw (ne-eqb (p .id) i (λ z. omega arith))) (others p ps) (others-above p ps o) in
+    map-where (ltb (p .id)) (λ i. under i (p ∷ ps)) (λ i. under i ps)
+    (λ i u. let l : p .id < i = ltb-true (p .id) i u in rw (ne-eqb (p .id) i (λ z. omega arith))) (others p ps) (others-above p ps o) in
     rw (eq-eqb (p .id) (p .id) refl, e) (ap (λ (r : List Posting). p ∷ r) (go ih (after p ps o)))
   where
     go : joined (map (λ i. under i ps) (identifiersOf ps)) ≡ ps → (identifiersOf ps ≡ p .id ∷ others p ps) ⊎ ((under (p .id) ps ≡ []) × (others p ps ≡ identifiersOf ps))
@@ -174,15 +174,15 @@ groups-running (p ∷ ps) o n =
     let ih = groups-running ps (rest-ordered p ps o) (suc n) in
     let above = others-above p ps o in
     let e : map (λ i. length (under i (p ∷ ps))) (others p ps) ≡ map (λ i. length (under i ps)) (others p ps) =
-            map-where (ltb (p .id)) (λ i. length (under i (p ∷ ps))) (λ i. length (under i ps))
-            (λ i u. let l : p .id < i = ltb-true (p .id) i u in rw (ne-eqb (p .id) i (λ z. omega arith))) (others p ps) above in
+    map-where (ltb (p .id)) (λ i. length (under i (p ∷ ps))) (λ i. length (under i ps))
+    (λ i u. let l : p .id < i = ltb-true (p .id) i u in rw (ne-eqb (p .id) i (λ z. omega arith))) (others p ps) above in
     let f : map (λ i. n + length (lower i (p ∷ ps))) (others p ps) ≡ map (λ i. suc n + length (lower i ps)) (others p ps) =
-            map-where (ltb (p .id)) (λ i. n + length (lower i (p ∷ ps))) (λ i. suc n + length (lower i ps))
-            (λ i u. rw u (omega arith)) (others p ps) above in
+    map-where (ltb (p .id)) (λ i. n + length (lower i (p ∷ ps))) (λ i. suc n + length (lower i ps))
+    (λ i u. rw u (omega arith)) (others p ps) above in
     let z : lower (p .id) ps ≡ [] =
-            keep-none (λ q. ltb (q .id) (p .id)) ps
-            (none-from (λ q. leb (p .id) (q .id)) (λ q. ltb (q .id) (p .id))
-            (λ q u. le-ltb (q .id) (p .id) (leb-true (p .id) (q .id) u)) ps (rest-from p ps o)) in
+    keep-none (λ q. ltb (q .id) (p .id)) ps
+    (none-from (λ q. leb (p .id) (q .id)) (λ q. ltb (q .id) (p .id))
+    (λ q u. le-ltb (q .id) (p .id) (leb-true (p .id) (q .id) u)) ps (rest-from p ps o)) in
     rw (eq-eqb (p .id) (p .id) refl, le-ltb (p .id) (p .id) (omega arith), e, f, z, add-zero n)
     (ap (λ (r : List ℕ). n ∷ r) (go ih (after p ps o)))
   where

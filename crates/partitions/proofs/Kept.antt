@@ -1,22 +1,27 @@
 -- A partition that is written to free blocks is read back, and every other one is read as before.
-use mathlib.Core.Bool.{Bool, true, _&&_}
-use mathlib.Core.List.{List, [], _∷_, _++_, map}
+use mathlib.Core.Bool.{true, _&&_}
+use mathlib.Core.List.{List, [], _∷_, _++_}
 use mathlib.Core.Path.{_≡_, refl, sym, ap, ap₂, _∙_}
 use Prim.Native.Nat.{ℕ, _+_, _*_, _-_, _≤_}
 use native.Mathlib.Omega.{arith}
 use lib.ListN.{length, getD, replicate}
-use Rattle.lists.specs.Lists.{every, joined, different}
+use Rattle.lists.specs.Lists.{every, different}
 use Rattle.lists.proofs.Bools.{and-left, and-right, and-both}
+use Rattle.lists.proofs.Tests.{every-from}
 use Rattle.words.specs.Words.{allOnes}
 use Rattle.postings.specs.declared.Posting.{Posting}
 use Rattle.state.specs.declared.Partition.{Partition}
+use Rattle.card.specs.Blocks.{isFree}
 use Rattle.card.specs.Chains.{blocksFor, chain, chainRule, content}
 use Rattle.card.specs.Writes.{store, release}
 use Rattle.card.proofs.Stores.{Agree, apart, store-agrees, release-agrees, chain-agree, rule-agree, content-agree}
-use Rattle.card.proofs.Stored.{onCard, chain-stored, rule-stored, content-stored}
+use Rattle.card.proofs.Links.{onCard}
+use Rattle.card.proofs.Free.{chain-taken, apart-free}
+use Rattle.card.proofs.Stored.{chain-stored, rule-stored, content-stored}
 use Rattle.partitions.specs.Layout.{lengthOf, encode}
 use Rattle.partitions.specs.Reading.{chainOf, decode, postingsOf, inPartitions}
 use Rattle.partitions.specs.Formed.{headerRule, entriesRule, partitionRule, chainsOf, partitionsFormed}
+use Rattle.partitions.proofs.Lookup.{rule-chain}
 use Rattle.partitions.proofs.Lengths.{length-encode, blocks-hold, blocks-some}
 use Rattle.partitions.proofs.Trips.{decode-encode}
 use Rattle.partitions.proofs.Rules.{Writable, list-ordered, header-rule, entries-rule}
@@ -119,3 +124,14 @@ unfolding AgreeAll
 release-keeps W bs [] e = tt
 release-keeps W bs (q ∷ qs) e =
     (release-agrees W bs (chainOf W q) (and-left _ _ e), release-keeps W bs qs (and-right (apart (chainOf W q) bs) _ e))
+
+-- free blocks are blocks of no partition that keeps the rule
+pub rule-apart : (W bs : List ℕ) (n : ℕ) (q : Partition) → length W ≡ 1024 * n → n ≤ allOnes → partitionRule W n q ≡ true → every (isFree W) bs ≡ true
+    → apart (chainOf W q) bs ≡ true
+rule-apart W bs n q long m e f =
+    apart-free W (chainOf W q) bs (chain-taken W n (q .first) (blocksFor (q .length)) long m (rule-chain W n q e)) f
+
+pub rules-apart : (W bs : List ℕ) (n : ℕ) (qs : List Partition) → length W ≡ 1024 * n → n ≤ allOnes → every (partitionRule W n) qs ≡ true
+    → every (isFree W) bs ≡ true → every (λ q. apart (chainOf W q) bs) qs ≡ true
+rules-apart W bs n qs long m e f =
+    every-from (partitionRule W n) (partitionRule W n) (λ q. apart (chainOf W q) bs) (λ q a b. rule-apart W bs n q long m a f) qs e e

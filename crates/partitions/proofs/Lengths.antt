@@ -1,20 +1,20 @@
 -- How long a partition is, how many identifiers it has, and how many blocks it takes.
-use mathlib.Core.Bool.{Bool, true, not}
-use mathlib.Core.List.{List, [], _∷_, _++_, map}
-use mathlib.Core.Path.{_≡_, refl, ap}
-use Prim.Native.Nat.{ℕ, zero, suc, _+_, _*_, _/_, _<_, _≤_}
+use mathlib.Core.Bool.{true, not}
+use mathlib.Core.List.{List, [], _∷_, map}
+use mathlib.Core.Path.{_≡_, refl}
+use Prim.Native.Nat.{ℕ, suc, _+_, _*_, _<_, _≤_}
 use native.Mathlib.Omega.{arith}
 use lib.Dec.{eqb, ltb, leb}
 use lib.ListN.{length, length-append, length-map}
 use borrow.Author.Tests.{ltb-true, leb-true, le-leb, lt-ltb}
-use Rattle.lists.specs.Lists.{keep, every, joined}
+use Rattle.lists.specs.Lists.{every, joined}
 use Rattle.lists.proofs.Bools.{and-left, and-right}
 use Rattle.lists.proofs.Tests.{length-keep, every-from}
 use Rattle.lists.proofs.Ranges.{length-joined}
 use Rattle.postings.specs.declared.Posting.{Posting}
 use Rattle.postings.specs.Order.{ordered}
 use Rattle.card.specs.Chains.{blocksFor}
-use Rattle.partitions.specs.Layout.{identifiersOf, termCount, totalLength, lengthOf, entryOf, wordOf, header, encode}
+use Rattle.partitions.specs.Layout.{identifiersOf, termCount, lengthOf, entryOf, wordOf, encode}
 use Rattle.partitions.specs.Formed.{ascending}
 use Rattle.partitions.proofs.Groups.{every-identifier, identifiers-ascending}
 
@@ -50,9 +50,9 @@ ascending-most a m (i ∷ l) h e f o =
 pub terms-register : (ps : List Posting) → ordered ps ≡ true → every (λ p. leb (p .id) 1023) ps ≡ true → termCount ps ≤ 1024
 terms-register ps o e =
     let s = every-identifier (λ i. ltb i 1024) ps (every-from (λ p. leb (p .id) 1023) (λ p. leb (p .id) 1023) (λ p. ltb (p .id) 1024)
-            (λ p u v. let l : p .id ≤ 1023 = leb-true (p .id) 1023 u in lt-ltb (p .id) 1024 (omega arith)) ps e e) in
+    (λ p u v. let l : p .id ≤ 1023 = leb-true (p .id) 1023 u in lt-ltb (p .id) 1024 (omega arith)) ps e e) in
     let z = every-identifier (leb 0) ps (every-from (λ p. leb (p .id) 1023) (λ p. leb (p .id) 1023) (λ p. leb 0 (p .id))
-            (λ p u v. le-leb 0 (p .id) (omega arith)) ps e e) in
+    (λ p u v. le-leb 0 (p .id) (omega arith)) ps e e) in
     omega (arith, ascending-most 0 1024 (identifiersOf ps) (omega arith) z s (identifiers-ascending ps o))
 
 -- Blocks -----------------------------------------------------------------------------------------------------------

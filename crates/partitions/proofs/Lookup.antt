@@ -1,25 +1,26 @@
 -- What the rules say of a partition that is read: its header, its entries, and the postings of one identifier.
-use mathlib.Core.Bool.{Bool, true, false, _&&_}
-use mathlib.Core.List.{List, [], _∷_, _++_, map}
+use mathlib.Core.Bool.{Bool, true, _&&_}
+use mathlib.Core.List.{List, [], _∷_, map}
 use mathlib.Core.Path.{_≡_, refl, sym, ap, _∙_}
 use Prim.Native.Nat.{ℕ, zero, suc, _+_, _*_, _<_, _≤_}
 use native.Mathlib.Omega.{arith}
 use lib.Dec.{eqb, ltb, leb}
 use lib.ListN.{length, getD, take, drop, length-map, length-take, length-drop}
-use borrow.Author.Tests.{ltb-true, ltb-false, leb-true, eqb-true, eqb-false, eq-eqb, ne-eqb}
-use Rattle.lists.specs.Lists.{keep, every, totalBy, joined, same, rising, upTo}
+use borrow.Author.Tests.{ltb-true, ltb-false, leb-true, eqb-true, eq-eqb, ne-eqb}
+use Rattle.lists.specs.Lists.{every, totalBy, same, upTo}
 use Rattle.lists.proofs.Bools.{by-test, and-left, and-right}
 use Rattle.lists.proofs.Tests.{every-at}
 use Rattle.lists.proofs.Sets.{same-true, every-elem}
-use Rattle.lists.proofs.Ranges.{length-rising, elem-rising, upTo-at, total-map, keep-joined, joined-none, joined-one}
-use Rattle.postings.specs.declared.Posting.{Posting}
+use Rattle.lists.proofs.Ranges.{length-rising, elem-rising, total-rising, upTo-at, total-map, length-all, keep-joined, joined-none, joined-one}
 use Rattle.postings.specs.Pack.{posted}
 use Rattle.postings.specs.Sums.{under}
 use Rattle.state.specs.declared.Partition.{Partition}
 use Rattle.card.specs.Chains.{blocksFor, chainRule, content}
+use Rattle.card.proofs.Links.{length-chain, rule-on, length-content}
 use Rattle.partitions.specs.Layout.{totalLength}
 use Rattle.partitions.specs.Reading.{field, entryNumber, entryCount, entryFirst, postingWords, listOf, decode, chainOf, postingsOf}
 use Rattle.partitions.specs.Formed.{headerRule, ascending, running, entriesRule, partitionRule}
+use Rattle.partitions.proofs.Lengths.{blocks-hold}
 
 -- The three parts of the rule --------------------------------------------------------------------------------------
 
@@ -59,15 +60,15 @@ headed p c e =
     let e5 = and-right (eqb (field c 4) (totalLength (field c 0) (field c 1))) _ e4 in
     let e6 = and-right (eqb (field c 4) (p .length)) _ e5 in
     let t = eqb-true (field c 4) (totalLength (field c 0) (field c 1)) (and-left _ _ e4) in
-    record
-      { terms = leb-true 1 (field c 0) (and-left _ _ e)
-      ; postings = leb-true 1 (field c 1) (and-left _ _ e1)
-      ; entries = eqb-true (field c 2) 32 (and-left _ _ e2)
-      ; lists = eqb-true (field c 3) (32 + 12 * field c 0) (and-left _ _ e3)
-      ; total = t
-      ; long = sym (eqb-true (field c 4) (p .length) (and-left _ _ e5)) ∙ t
-      ; level = eqb-true (field c 5) (p .level) (and-left _ _ e6)
-      }
+    record {
+      terms = leb-true 1 (field c 0) (and-left _ _ e);
+      postings = leb-true 1 (field c 1) (and-left _ _ e1);
+      entries = eqb-true (field c 2) 32 (and-left _ _ e2);
+      lists = eqb-true (field c 3) (32 + 12 * field c 0) (and-left _ _ e3);
+      total = t;
+      long = sym (eqb-true (field c 4) (p .length) (and-left _ _ e5)) ∙ t;
+      level = eqb-true (field c 5) (p .level) (and-left _ _ e6);
+    }
 
 -- The entries ------------------------------------------------------------------------------------------------------
 
@@ -102,6 +103,7 @@ pub record Entered (c : List ℕ) : Type 0 where
   pub start : 0 < field c 0 → entryFirst c 0 ≡ 0
   pub next : (j : ℕ) → suc j < field c 0 → entryFirst c (suc j) ≡ entryFirst c j + entryCount c j
   pub within : (j : ℕ) → j < field c 0 → entryFirst c j + entryCount c j ≤ field c 1
+  pub whole : totalBy (entryCount c) (upTo (field c 0)) ≡ field c 1
 
 -- what a test of a row says of a number of it
 of-row : (t : ℕ → Bool) (k : ℕ) → every t (upTo k) ≡ true → (j : ℕ) → j < k → t j ≡ true
@@ -118,22 +120,23 @@ entered c e =
     let e3 = and-right (every (λ j. leb 1 (entryCount c j)) (upTo k)) _ e2 in
     let r : fs ≡ running 0 cs = same-true fs (running 0 cs) (and-left _ _ e3) in
     let t : totalBy (entryCount c) (upTo k) ≡ field c 1 =
-            eqb-true (totalBy (entryCount c) (upTo k)) (field c 1) (and-right (same fs (running 0 cs)) _ e3) in
+    eqb-true (totalBy (entryCount c) (upTo k)) (field c 1) (and-right (same fs (running 0 cs)) _ e3) in
     let u : totalBy (λ m. m) cs ≡ totalBy (entryCount c) (upTo k) = total-map (λ m. m) (entryCount c) (upTo k) in
     let ln : length ns ≡ k = length-map (upTo k) (entryNumber c) ∙ length-rising 0 k in
     let lc : length cs ≡ k = length-map (upTo k) (entryCount c) ∙ length-rising 0 k in
     let f : (j : ℕ) → j < k → entryFirst c j ≡ getD (running 0 cs) j 0 =
-            λ j h. sym (upTo-at (entryFirst c) k j 0 h) ∙ ap (λ (l : List ℕ). getD l j 0) r in
+    λ j h. sym (upTo-at (entryFirst c) k j 0 h) ∙ ap (λ (l : List ℕ). getD l j 0) r in
     let n : (j : ℕ) → j < k → getD cs j 0 ≡ entryCount c j = λ j h. upTo-at (entryCount c) k j 0 h in
-    record
-      { rise = λ i j a b.
-          rw (upTo-at (entryNumber c) k i 0 (omega arith), upTo-at (entryNumber c) k j 0 b) at (ascending-at ns (and-left (ascending ns) _ e) i j a (omega arith))
-      ; most = λ j h. leb-true (entryNumber c j) 1023 (of-row (λ j. leb (entryNumber c j) 1023) k (and-left _ _ e1) j h)
-      ; some = λ j h. leb-true 1 (entryCount c j) (of-row (λ j. leb 1 (entryCount c j)) k (and-left _ _ e2) j h)
-      ; start = λ h. f 0 h ∙ running-first 0 cs (omega arith)
-      ; next = λ j h. omega (arith, f (suc j) h, f j (omega arith), n j (omega arith), running-next 0 cs j (omega arith))
-      ; within = λ j h. omega (arith, f j h, n j h, running-within 0 cs j (omega arith))
-      }
+    record {
+      rise = λ i j a b.
+          rw (upTo-at (entryNumber c) k i 0 (omega arith), upTo-at (entryNumber c) k j 0 b) at (ascending-at ns (and-left (ascending ns) _ e) i j a (omega arith));
+      most = λ j h. leb-true (entryNumber c j) 1023 (of-row (λ j. leb (entryNumber c j) 1023) k (and-left _ _ e1) j h);
+      some = λ j h. leb-true 1 (entryCount c j) (of-row (λ j. leb 1 (entryCount c j)) k (and-left _ _ e2) j h);
+      start = λ h. f 0 h ∙ running-first 0 cs (omega arith);
+      next = λ j h. omega (arith, f (suc j) h, f j (omega arith), n j (omega arith), running-next 0 cs j (omega arith));
+      within = λ j h. omega (arith, f j h, n j h, running-within 0 cs j (omega arith));
+      whole = t;
+    }
 
 -- One identifier ---------------------------------------------------------------------------------------------------
 
@@ -153,10 +156,10 @@ under-entry c e j h =
     let r = entered c e in
     keep-joined (λ p. eqb (p .id) i) (listOf c) (upTo (field c 0))
     ∙ joined-one (λ k. under i (listOf c k)) 0 (field c 0) j (omega arith) (omega arith)
-      (λ k a b d. under-other (entryNumber c k) i (take (entryCount c k) (drop (entryFirst c k) (postingWords c)))
-      (λ q. by-test (ltb k j)
-      (λ y. omega (arith, r .rise k j (ltb-true k j y) h))
-      (λ n. omega (arith, r .rise j k (omega (arith, d, ltb-false k j n)) (omega arith)))))
+    (λ k a b d. under-other (entryNumber c k) i (take (entryCount c k) (drop (entryFirst c k) (postingWords c)))
+    (λ q. by-test (ltb k j)
+    (λ y. omega (arith, r .rise k j (ltb-true k j y) h))
+    (λ n. omega (arith, r .rise j k (omega (arith, d, ltb-false k j n)) (omega arith)))))
     ∙ under-own i (take (entryCount c j) (drop (entryFirst c j) (postingWords c)))
 
 -- and under a number that no entry has there are none
@@ -165,9 +168,34 @@ unfolding decode
 under-none c i h =
     keep-joined (λ p. eqb (p .id) i) (listOf c) (upTo (field c 0))
     ∙ joined-none (λ k. under i (listOf c k)) 0 (field c 0)
-      (λ k a b. under-other (entryNumber c k) i (take (entryCount c k) (drop (entryFirst c k) (postingWords c))) (h k (omega arith)))
+    (λ k a b. under-other (entryNumber c k) i (take (entryCount c k) (drop (entryFirst c k) (postingWords c))) (h k (omega arith)))
 
--- the same of a partition on a card
+-- How many ---------------------------------------------------------------------------------------------------------
+
+-- where the content has the words that the header speaks of
+module _ (c : List ℕ) (e : entriesRule c ≡ true) (h : 8 + 3 * field c 0 + field c 1 ≤ length c) where
+  -- an entry's list is as long as it says
+  pub length-list : (j : ℕ) → j < field c 0 → length (listOf c j) ≡ entryCount c j
+  length-list j a =
+      let d = drop (entryFirst c j) (postingWords c) in
+      omega (
+        arith,
+        entered c e .within j a,
+        length-map (take (entryCount c j) d) (posted (entryNumber c j)),
+        length-take (entryCount c j) d,
+        length-drop (entryFirst c j) (postingWords c),
+        length-drop (8 + 3 * field c 0) c,
+      )
+
+  -- and there are as many postings as the header says
+  pub length-decode : length (decode c) ≡ field c 1
+  unfolding decode
+  length-decode =
+      length-all (listOf c) (upTo (field c 0))
+      ∙ total-rising (λ j. length (listOf c j)) (entryCount c) 0 (field c 0) (λ j a b. length-list j (omega arith)) ∙ entered c e .whole
+
+-- On a card --------------------------------------------------------------------------------------------------------
+
 module _ (W : List ℕ) (limit : ℕ) (p : Partition) (e : partitionRule W limit p ≡ true) where
   pub postings-entry : (j : ℕ) → j < field (content W (chainOf W p)) 0
       → under (entryNumber (content W (chainOf W p)) j) (postingsOf W p) ≡ listOf (content W (chainOf W p)) j
@@ -178,3 +206,22 @@ module _ (W : List ℕ) (limit : ℕ) (p : Partition) (e : partitionRule W limit
       → under i (postingsOf W p) ≡ []
   unfolding postingsOf
   postings-none i h = under-none (content W (chainOf W p)) i h
+
+  -- its blocks have all of its words
+  pub words-room : length W ≡ 1024 * limit → 8 + 3 * field (content W (chainOf W p)) 0 + field (content W (chainOf W p)) 1 ≤ length (content W (chainOf W p))
+  words-room long =
+      let bs = chainOf W p in
+      let on = rule-on W limit (p .first) (blocksFor (p .length)) (rule-chain W limit p e) in
+      let h = headed p (content W bs) (rule-header W limit p e) in
+      omega (
+        arith,
+        h .long,
+        length-content W limit bs long on,
+        length-chain W (p .first) (blocksFor (p .length)),
+        blocks-hold (p .length),
+      )
+
+  -- and it has as many postings as its header says
+  pub length-postings : length W ≡ 1024 * limit → length (postingsOf W p) ≡ field (content W (chainOf W p)) 1
+  unfolding postingsOf
+  length-postings long = length-decode (content W (chainOf W p)) (rule-entries W limit p e) (words-room long)

@@ -1,20 +1,18 @@
 -- What is written as a partition keeps every rule of a partition that is read.
-use mathlib.Core.Bool.{Bool, true, not, _&&_}
-use mathlib.Core.List.{List, [], _∷_, _++_, map}
+use mathlib.Core.Bool.{true}
+use mathlib.Core.List.{List, _++_, map}
 use mathlib.Core.Path.{_≡_, refl, sym, ap, _∙_}
 use Prim.Native.Nat.{ℕ, _+_, _*_, _≤_}
 use native.Mathlib.Nat.{zero-add}
-use native.Mathlib.Omega.{arith}
-use lib.Dec.{eqb, leb}
+use lib.Dec.{leb}
 use lib.ListN.{length}
 use borrow.Author.Tests.{le-leb, eq-eqb}
 use Rattle.lists.specs.Lists.{every, totalBy, same, upTo}
-use Rattle.lists.proofs.Bools.{and-left, and-right, and-both}
+use Rattle.lists.proofs.Bools.{and-left, and-both}
 use Rattle.lists.proofs.Ranges.{every-map, total-map}
 use Rattle.lists.proofs.Sets.{same-self}
 use Rattle.postings.specs.declared.Posting.{Posting}
 use Rattle.postings.specs.Order.{ordered}
-use Rattle.postings.specs.Merge.{isZero}
 use Rattle.postings.specs.Sums.{under}
 use Rattle.state.specs.declared.Partition.{Partition}
 use Rattle.partitions.specs.Layout.{identifiersOf, termCount, totalLength, lengthOf, encode}
@@ -22,7 +20,7 @@ use Rattle.partitions.specs.Reading.{field, entryNumber, entryCount, ent
 use Rattle.partitions.specs.Formed.{headerRule, entriesRule, ascending, running, listRule, inRange}
 use Rattle.partitions.proofs.Groups.{lower, every-identifier, identifiers-ascending, groups-some, groups-total, groups-running}
 use Rattle.partitions.proofs.Lengths.{terms-some}
-use Rattle.partitions.proofs.Entries.{field-terms, field-postings, numbers-encoded, counts-encoded, firsts-encoded}
+use Rattle.partitions.proofs.Entries.{field-postings, numbers-encoded, counts-encoded, firsts-encoded}
 use Rattle.partitions.proofs.Trips.{decode-encode}
 
 -- postings that can be written as a partition: at least one, a list that may be used, identifiers of the register, counts that fit
@@ -44,13 +42,13 @@ module _ (level : ℕ) (ps : List Posting) (rest : List ℕ) where
   header-rule p s l v =
       let n = termCount ps in
       let k = length ps in
-      rw
-      ( le-leb 1 n (terms-some ps s)
-      , le-leb 1 k s
-      , eq-eqb (32 + 12 * n) (32 + 12 * n) refl
-      , eq-eqb (totalLength n k) (totalLength n k) refl
-      , eq-eqb (totalLength n k) (p .length) (sym l)
-      , eq-eqb level (p .level) (sym v)
+      rw (
+        le-leb 1 n (terms-some ps s),
+        le-leb 1 k s,
+        eq-eqb (32 + 12 * n) (32 + 12 * n) refl,
+        eq-eqb (totalLength n k) (totalLength n k) refl,
+        eq-eqb (totalLength n k) (p .length) (sym l),
+        eq-eqb level (p .level) (sym v),
       )
 
   -- the entries
@@ -62,7 +60,7 @@ module _ (level : ℕ) (ps : List Posting) (rest : List ℕ) where
       let cs = counts-encoded level ps rest in
       let fs = firsts-encoded level ps rest in
       let r : running 0 (map (λ i. length (under i ps)) (identifiersOf ps)) ≡ map (λ i. length (lower i ps)) (identifiersOf ps) =
-              groups-running ps o 0 ∙ simp zero-add in
+      groups-running ps o 0 ∙ simp zero-add in
       and-both (ascending (map (entryNumber c) js)) _ (ap ascending ns ∙ identifiers-ascending ps o)
       (and-both (every (λ j. leb (entryNumber c j) 1023) js) _
       (sym (every-map (λ i. leb i 1023) (entryNumber c) js) ∙ ap (every (λ i. leb i 1023)) ns ∙ every-identifier (λ i. leb i 1023) ps e)

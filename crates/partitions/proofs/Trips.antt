@@ -1,14 +1,13 @@
 -- Postings that were written as a partition are read back, whatever stands past its words.
-use mathlib.Core.Bool.{Bool, true}
+use mathlib.Core.Bool.{true}
 use mathlib.Core.List.{List, [], _∷_, _++_, map, append-nil}
 use mathlib.Core.Path.{_≡_, refl, sym, ap, ap₂, _∙_}
 use Prim.Native.Nat.{ℕ, _<_, _≤_}
-use native.Mathlib.Omega.{arith}
-use lib.Dec.{eqb, leb}
+use lib.Dec.{eqb}
 use lib.IntN.{natAbs}
 use lib.ListN.{length, getD, take, drop}
 use borrow.Author.Tests.{eqb-true, leb-true}
-use Rattle.lists.specs.Lists.{keep, every, joined, upTo}
+use Rattle.lists.specs.Lists.{every, joined, upTo}
 use Rattle.lists.proofs.Bools.{and-left, and-right}
 use Rattle.lists.proofs.Tests.{every-keep, every-kept}
 use Rattle.lists.proofs.Ranges.{map-upTo, map-middle}
@@ -18,7 +17,7 @@ use Rattle.postings.specs.Pack.{posted}
 use Rattle.postings.specs.Sums.{under}
 use Rattle.postings.proofs.Trips.{packed-count, packed-window}
 use Rattle.partitions.specs.Layout.{identifiersOf, termCount, wordOf, encode}
-use Rattle.partitions.specs.Reading.{field, entryNumber, entryCount, entryFirst, postingWords, listOf, decode}
+use Rattle.partitions.specs.Reading.{listOf, decode}
 use Rattle.partitions.specs.Formed.{inRange}
 use Rattle.partitions.proofs.Groups.{lower, higher, parted, grouped}
 use Rattle.partitions.proofs.Entries.{field-terms, entry-number, entry-count, entry-first, posting-words}
