@@ -5,3 +5,6 @@ pub mod Ints
 pub mod Falling
 pub mod Ranges
 pub mod Sets
+pub mod Turns
+pub mod Neighbours
+pub mod Padding

@@ -1,5 +1,15 @@
 // What the probe remembers between calls.
 use postings::Posting;
+ghost use mathlib.Core.Path.{_≡_};
+ghost use Prim.Native.Nat.{_≤_};
+ghost use Rattle.state.specs.Rules.{lengthsRule, windowsRule, mergeRule, stateRule};
+ghost use Rattle.state.specs.Views.{withWindows};
+
+pub mod buffer_rules; // buffered postings
+pub mod ids; // the open window's identifiers
+pub mod levels; // which level is due, and where it stands
+pub mod partition_rules; // finished partitions
+pub mod partition_list; // finished partitions added and taken out
 
 // The lengths in bytes of the buffers lent at the start.
 pub struct Lengths {
@@ -56,4 +66,107 @@ pub struct State {
     // the block last taken
     pub taken: u16,
     pub merge: MergeJob,
+}
+
+// The highest level that is due.
+pub enum Due {
+    Level(u16),
+    Nothing,
+}
+
+// Whether both lengths are within the limits.
+fn lengths_ok(l: Lengths) -> bool
+    ensures { λ r. ⌜ r ≡ lengthsRule l ⌝ }
+{
+    if l.card % 4096 != 0 {
+        return false;
+    }
+    if l.card / 4096 < 4 {
+        return false;
+    }
+    if l.card / 4096 > 4096 {
+        return false;
+    }
+    if l.register % 65 != 0 {
+        return false;
+    }
+    if l.register / 65 < 1 {
+        return false;
+    }
+    l.register / 65 <= 1024
+}
+
+// Whether the windows' numbers agree.
+fn windows_ok(w: Windows) -> bool
+    ensures { λ r. ⌜ r ≡ windowsRule w ⌝ }
+{
+    if w.live > w.last {
+        return false;
+    }
+    if w.current == 0 {
+        return w.events == 0;
+    }
+    if w.current != w.last {
+        return false;
+    }
+    if w.events > 32767 {
+        return false;
+    }
+    if w.events == 0 {
+        return w.live < w.current;
+    }
+    w.live >= 1
+}
+
+// Whether the merge in progress has a level to merge, or its record is zeros.
+fn merge_ok(p: Partitions, m: MergeJob) -> bool
+    requires { ⌜ p .used ≤ 51 ⌝ }
+    ensures { λ r. ⌜ r ≡ mergeRule p m ⌝ }
+{
+    if m.steps == 0 {
+        if m.first != 0 {
+            return false;
+        }
+        return m.length == 0;
+    }
+    let due = levels::due_level(p);
+    match due {
+        Due::Level(v) => true,
+        Due::Nothing => false,
+    }
+}
+
+// Whether the state keeps every rule.
+pub fn state_ok(s: State) -> bool
+    ensures { λ r. ⌜ r ≡ stateRule s ⌝ }
+{
+    if !lengths_ok(s.lengths) {
+        return false;
+    }
+    if !windows_ok(s.windows) {
+        return false;
+    }
+    if !ids::listed_ok(s.windows, s.listed) {
+        return false;
+    }
+    if !buffer_rules::buffer_ok(s.windows, s.buffer) {
+        return false;
+    }
+    let blocks = s.lengths.card / 4096;
+    if !partition_rules::partitions_ok(blocks, s.partitions) {
+        return false;
+    }
+    if s.taken as u32 >= blocks {
+        return false;
+    }
+    merge_ok(s.partitions, s.merge)
+}
+
+// The state with other windows: how a caller replaces one part.
+pub fn with_windows(s: State, w: Windows) -> State
+    ensures { λ r. ⌜ r ≡ withWindows s w ⌝ }
+{
+    let mut t = s;
+    t.windows = w;
+    t
 }

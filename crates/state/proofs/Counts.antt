@@ -1,0 +1,52 @@
+-- Levels: their list counted down, and the loops that count and find the partitions of one.
+use mathlib.Core.Bool.{true, false, not}
+use mathlib.Core.List.{List, [], _∷_}
+use mathlib.Core.Path.{_≡_, refl, sym, ap, _∙_}
+use Prim.Native.Nat.{ℕ, zero, suc, _+_, _-_, _<_, _≤_}
+use native.Mathlib.Omega.{arith}
+use borrow.Author.Tests.{ne-eqb}
+use Rattle.lists.specs.Lists.{empty, below}
+use Rattle.state.specs.declared.Due.{Due}
+use Rattle.state.specs.declared.MergeJob.{MergeJob}
+use Rattle.state.specs.declared.Partitions.{Partitions}
+use Rattle.state.specs.Views.{finished}
+use Rattle.state.specs.Levels.{levels, dueLevels}
+use Rattle.state.specs.Rules.{mergeRule}
+use Rattle.state.specs.Due.{dueOf}
+
+-- the levels are the numbers below 6
+pub levels-below : levels ≡ below 6
+unfolding below
+levels-below = refl
+
+-- the next lower number
+pub below-pred : (v : ℕ) → 0 < v → below v ≡ (v - 1) ∷ below (v - 1)
+unfolding below
+below-pred zero h = absurd (omega arith)
+below-pred (suc v) h = let e : suc v - 1 ≡ v = omega arith in rw e
+
+pub below-zero : (v : ℕ) → v ≡ 0 → below v ≡ []
+unfolding below
+below-zero v e = rw e
+
+-- a due level is the first of some
+due-some : (tag : Due → ℕ) → tag Due.Nothing ≡ 1 → (l : List ℕ) → tag (dueOf l) ≡ 0 → empty l ≡ false
+due-some tag one [] e = let z : _≡_ {A = ℕ} 1 0 = sym one ∙ e in absurd (omega arith)
+due-some tag one (v ∷ vs) e = refl
+
+-- and none is due where there is none
+due-none : (tag : Due → ℕ) → ((v : ℕ) → tag (Due.Level v) ≡ 0) → (l : List ℕ) → tag (dueOf l) ≡ 1 → empty l ≡ true
+due-none tag one [] e = refl
+due-none tag one (v ∷ vs) e = let z : _≡_ {A = ℕ} 0 1 = sym (one v) ∙ e in absurd (omega arith)
+
+-- a merge in progress keeps its rule where a level is due, as the answer's kind tells
+module _ (p : Partitions) (m : MergeJob) (going : m .steps ≡ 0 → ⊥) (tag : Due → ℕ) where
+  pub merge-due : tag Due.Nothing ≡ 1 → (r : Due) → r ≡ dueOf (dueLevels (λ q. q .level) (finished p)) → tag r ≡ 0 → true ≡ mergeRule p m
+  unfolding mergeRule
+  merge-due one r e t =
+      rw (ne-eqb (m .steps) 0 going) (ap not (sym (due-some tag one (dueLevels (λ q. q .level) (finished p)) (rw e at t))))
+
+  pub merge-none : ((v : ℕ) → tag (Due.Level v) ≡ 0) → (r : Due) → r ≡ dueOf (dueLevels (λ q. q .level) (finished p)) → tag r ≡ 1 → false ≡ mergeRule p m
+  unfolding mergeRule
+  merge-none one r e t =
+      rw (ne-eqb (m .steps) 0 going) (ap not (sym (due-none tag one (dueLevels (λ q. q .level) (finished p)) (rw e at t))))

@@ -1,0 +1,5 @@
+pub mod Signs
+pub mod Neighbours
+pub mod Rows
+pub mod Counts
+pub mod Kept

@@ -1,0 +1,65 @@
+use mathlib.Core.Path.{sym, ap, _∙_}
+use Prim.Native.Nat.{ℕ}
+use lib.Dec.{leb}
+use borrow.Author.Needs.{needs}
+use borrow.Author.Tests.{not-true, not-false, le-leb, lt-leb, eq-eqb, ne-eqb}
+use Rattle.state.specs.Rules.{postingRule}
+use Rattle.state.proofs.buffer_rules.posting_ok.Statement.{statement}
+use Rattle.state.proofs.buffer_rules.posting_ok.Tie as tie
+
+returns : tie.Need-returns
+unfolding postingRule
+returns c = rw (lt-leb _ _ (c .if1 .taken))
+
+returns-2 : tie.Need-returns-2
+unfolding postingRule
+returns-2 c = rw (le-leb _ _ (c .before .before .if1 .left), lt-leb _ _ (c .if2 .taken))
+
+returns-3 : tie.Need-returns-3
+unfolding postingRule
+returns-3 c = rw (le-leb _ _ (c .before .before .before .before .before .if1 .left), le-leb _ _ (c .before .before .before .if2 .left), lt-leb _ _ (c .if3 .taken))
+
+is-zero-requires : tie.Need-is-zero-requires
+is-zero-requires c κs = search needs
+
+returns-4 : tie.Need-returns-4
+unfolding postingRule
+returns-4 c = rw (le-leb _ _ (c .before .before .before .before .before .before .before .if1 .left), le-leb _ _ (c .before .before .before .before .before .if2 .left), le-leb _ _ (c .before .before .if3 .left), sym (c .before .is-zero .ensures) ∙ c .if4 .taken)
+
+is-small-requires : tie.Need-is-small-requires
+is-small-requires c κs = search needs
+
+returns-5 : tie.Need-returns-5
+unfolding postingRule
+returns-5 c = rw (le-leb _ _ (c .before .before .before .before .before .before .before .before .before .if1 .left), le-leb _ _ (c .before .before .before .before .before .before .before .if2 .left), le-leb _ _ (c .before .before .before .before .if3 .left), sym (c .before .before .before .is-zero .ensures) ∙ c .before .before .if4 .left, sym (c .before .is-small .ensures) ∙ not-true _ (c .if5 .taken))
+
+returns-6 : tie.Need-returns-6
+unfolding postingRule
+returns-6 c = rw (le-leb _ _ (c .before .before .before .before .before .before .before .before .before .before .before .before .if1 .left), le-leb _ _ (c .before .before .before .before .before .before .before .before .before .before .if2 .left), le-leb _ _ (c .before .before .before .before .before .before .before .if3 .left), sym (c .before .before .before .before .before .before .is-zero .ensures) ∙ c .before .before .before .before .before .if4 .left, sym (c .before .before .before .before .is-small .ensures) ∙ not-false _ (c .before .before .before .if5 .left), ne-eqb _ _ (c .if6 .taken))
+
+above-requires : tie.Need-above-requires
+above-requires c κs = search needs
+
+returns-7 : tie.Need-returns-7
+unfolding postingRule
+returns-7 c = rw (le-leb _ _ (c .before .before .before .before .before .before .before .before .before .before .before .before .before .before .if1 .left), le-leb _ _ (c .before .before .before .before .before .before .before .before .before .before .before .before .if2 .left), le-leb _ _ (c .before .before .before .before .before .before .before .before .before .if3 .left), sym (c .before .before .before .before .before .before .before .before .is-zero .ensures) ∙ c .before .before .before .before .before .before .before .if4 .left, sym (c .before .before .before .before .before .before .is-small .ensures) ∙ not-false _ (c .before .before .before .before .before .if5 .left), eq-eqb _ _ (c .before .before .if6 .left), lt-leb _ _ (rw (c .before .above .ensures) at (c .if7 .taken)))
+
+returns-8 : tie.Need-returns-8
+unfolding postingRule
+returns-8 c = rw (le-leb _ _ (c .before .before .before .before .before .before .before .before .before .before .before .before .before .before .before .if1 .left), le-leb _ _ (c .before .before .before .before .before .before .before .before .before .before .before .before .before .if2 .left), le-leb _ _ (c .before .before .before .before .before .before .before .before .before .before .if3 .left), sym (c .before .before .before .before .before .before .before .before .before .is-zero .ensures) ∙ c .before .before .before .before .before .before .before .before .if4 .left, sym (c .before .before .before .before .before .before .before .is-small .ensures) ∙ not-false _ (c .before .before .before .before .before .before .if5 .left), eq-eqb _ _ (c .before .before .before .if6 .left), le-leb _ _ (rw (c .before .before .above .ensures) at (c .before .if7 .left))) (ap (λ (n : ℕ). leb n (c .before .before .before .before .before .before .before .before .before .before .before .before .before .before .before .before .before .args .w .events)) (c .before .before .above .ensures))
+
+pub posting-ok-spec : {M : Type 1} → statement M
+posting-ok-spec =
+    tie.close
+    (tie.spec
+    returns
+    returns-2
+    returns-3
+    is-zero-requires
+    returns-4
+    is-small-requires
+    returns-5
+    returns-6
+    above-requires
+    returns-7
+    returns-8)

@@ -1,0 +1,79 @@
+use mathlib.Core.Path.{_≡_, refl, sym, _∙_}
+use Prim.Native.Nat.{_-_}
+use native.Mathlib.Omega.{arith}
+use lib.ListN.{length, drop}
+use borrow.Author.Needs.{needs}
+use borrow.Author.Tests.{not-true, not-false}
+use Rattle.lists.specs.Lists.{every}
+use Rattle.lists.proofs.Arrays.{unmapped}
+use Rattle.lists.proofs.Turns.{and-stop, and-go, used-turn, used-end}
+use Rattle.state.specs.Views.{buffered, noPosting}
+use Rattle.state.specs.Rules.{postingRule}
+use Rattle.state.proofs.buffer_rules.postings_ok.Statement.{statement}
+use Rattle.state.proofs.buffer_rules.postings_ok.Tie as tie
+
+abbrev Inv-loop : tie.InvT-loop
+Inv-loop w b n i₀ i = (length (b .postings) ≡ 128) × (every (postingRule w) (buffered b) ≡ every (postingRule w) (drop i (buffered b)))
+
+abbrev μ-loop : tie.MeasureT-loop
+μ-loop w b n i₀ i = n - i
+
+cast-n : tie.Need-cast-n Inv-loop μ-loop
+cast-n c = search needs
+
+loop-holds : tie.Need-loop-holds Inv-loop μ-loop
+loop-holds c = (search (unmapped, needs), refl)
+
+mul-p : tie.Need-mul-p Inv-loop μ-loop
+mul-p c = search needs
+
+element-copy-out-p : tie.Need-element-copy-out-p Inv-loop μ-loop
+element-copy-out-p c = search needs
+
+posting-ok-requires : tie.Need-posting-ok-requires Inv-loop μ-loop
+posting-ok-requires c κs = search needs
+
+returns : tie.Need-returns Inv-loop μ-loop
+returns c =
+    let a = c .before .before .before .before in
+    let s = a .before .args in
+    let len = a .loop .inv .0 in
+    let ok = c .before .posting-ok in
+    sym (used-turn (every (postingRule (s .w))) (s .t2 .postings) (s .t2 .used) (a .loop .i) noPosting (omega arith) (omega arith) (a .loop .inv .1) ∙ and-stop _ _ (sym (ok .ensures) ∙ not-true _ (c .if1 .taken)))
+
+add-i : tie.Need-add-i Inv-loop μ-loop
+add-i c = search needs
+
+loop-less : tie.Need-loop-less Inv-loop μ-loop
+loop-less c = search needs
+
+loop-again : tie.Need-loop-again Inv-loop μ-loop
+loop-again c =
+    let a = c .before .before .before .before in
+    let s = a .before .args in
+    let len = a .loop .inv .0 in
+    let ok = c .before .posting-ok in
+    (len, used-turn (every (postingRule (s .w))) (s .t2 .postings) (s .t2 .used) (a .loop .i) noPosting (omega arith) (omega arith) (a .loop .inv .1) ∙ and-go _ _ (sym (ok .ensures) ∙ not-false _ (c .if1 .left)))
+
+returns-2 : tie.Need-returns-2 Inv-loop μ-loop
+returns-2 c =
+    let s = c .before .before .args in
+    let len = c .before .loop .inv .0 in
+    sym (used-end (every (postingRule (s .w))) (s .t2 .postings) (s .t2 .used) (c .before .loop .i) (omega arith) (omega arith) (c .before .loop .inv .1))
+
+pub postings-ok-spec : {M : Type 1} → statement M
+postings-ok-spec =
+    tie.close
+    (tie.spec
+    Inv-loop
+    μ-loop
+    cast-n
+    loop-holds
+    mul-p
+    element-copy-out-p
+    posting-ok-requires
+    returns
+    add-i
+    loop-less
+    loop-again
+    returns-2)

@@ -1,0 +1,81 @@
+use mathlib.Core.Bool.{not}
+use mathlib.Core.Path.{_≡_, refl, sym, ap, _∙_}
+use Prim.Native.Nat.{_-_}
+use native.Mathlib.Omega.{arith}
+use lib.ListN.{length, drop}
+use borrow.Author.Needs.{needs}
+use Rattle.lists.specs.Lists.{different}
+use Rattle.lists.proofs.Turns.{and-stop, and-go, used-turn, used-end}
+use Rattle.state.specs.Views.{listed}
+use Rattle.state.proofs.ids.ids_different.Statement.{statement}
+use Rattle.state.proofs.ids.ids_different.Tie as tie
+
+abbrev Inv-loop : tie.InvT-loop
+Inv-loop l n i₀ i = (length (l .ids) ≡ 64) × (different (listed l) ≡ different (drop i (listed l)))
+
+abbrev μ-loop : tie.MeasureT-loop
+μ-loop l n i₀ i = n - i
+
+cast-n : tie.Need-cast-n Inv-loop μ-loop
+cast-n c = search needs
+
+loop-holds : tie.Need-loop-holds Inv-loop μ-loop
+loop-holds c = (search needs, refl)
+
+mul-x : tie.Need-mul-x Inv-loop μ-loop
+mul-x c = search needs
+
+element-copy-out-x : tie.Need-element-copy-out-x Inv-loop μ-loop
+element-copy-out-x c = search needs
+
+add-found-from : tie.Need-add-found-from Inv-loop μ-loop
+add-found-from c = search needs
+
+found-from-requires : tie.Need-found-from-requires Inv-loop μ-loop
+found-from-requires c κs = search needs
+
+returns : tie.Need-returns Inv-loop μ-loop
+returns c =
+    let a = c .before .before .before .before in
+    let l = a .before .args .t1 in
+    let len = a .loop .inv .0 in
+    let found = c .before .found-from in
+    sym (used-turn different (l .ids) (l .used) (a .loop .i) 0 (omega arith) (omega arith) (a .loop .inv .1) ∙ and-stop _ _ (ap not (sym (found .ensures) ∙ c .if1 .taken)))
+
+add-i : tie.Need-add-i Inv-loop μ-loop
+add-i c = search needs
+
+loop-less : tie.Need-loop-less Inv-loop μ-loop
+loop-less c = search needs
+
+loop-again : tie.Need-loop-again Inv-loop μ-loop
+loop-again c =
+    let a = c .before .before .before .before in
+    let l = a .before .args .t1 in
+    let len = a .loop .inv .0 in
+    let found = c .before .found-from in
+    (len, used-turn different (l .ids) (l .used) (a .loop .i) 0 (omega arith) (omega arith) (a .loop .inv .1) ∙ and-go _ _ (ap not (sym (found .ensures) ∙ c .if1 .left)))
+
+returns-2 : tie.Need-returns-2 Inv-loop μ-loop
+returns-2 c =
+    let l = c .before .before .args .t1 in
+    let len = c .before .loop .inv .0 in
+    sym (used-end different (l .ids) (l .used) (c .before .loop .i) (omega arith) (omega arith) (c .before .loop .inv .1))
+
+pub ids-different-spec : {M : Type 1} → statement M
+ids-different-spec =
+    tie.close
+    (tie.spec
+    Inv-loop
+    μ-loop
+    cast-n
+    loop-holds
+    mul-x
+    element-copy-out-x
+    add-found-from
+    found-from-requires
+    returns
+    add-i
+    loop-less
+    loop-again
+    returns-2)

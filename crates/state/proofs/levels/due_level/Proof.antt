@@ -1,0 +1,69 @@
+use mathlib.Core.Bool.{true, false}
+use mathlib.Core.Path.{_≡_, refl, _∙_}
+use Prim.Native.Nat.{_-_, _≤_}
+use native.Mathlib.Omega.{arith}
+use lib.Dec.{leb}
+use borrow.Author.Needs.{needs}
+use borrow.Author.Tests.{le-leb, lt-leb}
+use Rattle.lists.specs.Lists.{keep, below}
+use Rattle.state.specs.Views.{finished}
+use Rattle.state.specs.Levels.{ofLevel, dueLevels, dueAt}
+use Rattle.state.proofs.Counts.{below-pred, below-zero}
+use Rattle.state.proofs.levels.due_level.Statement.{statement}
+use Rattle.state.proofs.levels.due_level.Tie as tie
+
+abbrev Inv-loop : tie.InvT-loop
+Inv-loop p v₀ v = (v ≤ 6) × (dueLevels (λ q. q .level) (finished p) ≡ keep (λ x. leb (dueAt x) (ofLevel (λ q. q .level) x (finished p))) (below v))
+
+abbrev μ-loop : tie.MeasureT-loop
+μ-loop p v₀ v = v
+
+loop-holds : tie.Need-loop-holds Inv-loop μ-loop
+unfolding below
+loop-holds c = (omega arith, refl)
+
+sub-v : tie.Need-sub-v Inv-loop μ-loop
+sub-v c = search needs
+
+of-level-requires : tie.Need-of-level-requires Inv-loop μ-loop
+of-level-requires c κs = search needs
+
+due-at-requires : tie.Need-due-at-requires Inv-loop μ-loop
+due-at-requires c κs = search needs
+
+returns : tie.Need-returns Inv-loop μ-loop
+returns c =
+    let a = c .before .before .before .before in
+    let p = a .before .args .p in
+    let v = a .loop .v in
+    let due : leb (dueAt (v - 1)) (ofLevel (λ q. q .level) (v - 1) (finished p)) ≡ true = le-leb _ _ (rw (c .before .before .of-level .ensures, c .before .due-at .ensures) at (c .if1 .taken)) in
+    rw (a .loop .inv .1, below-pred v (omega arith), due)
+
+loop-less : tie.Need-loop-less Inv-loop μ-loop
+loop-less c = search needs
+
+loop-again : tie.Need-loop-again Inv-loop μ-loop
+loop-again c =
+    let a = c .before .before .before .before in
+    let p = a .before .args .p in
+    let v = a .loop .v in
+    let due : leb (dueAt (v - 1)) (ofLevel (λ q. q .level) (v - 1) (finished p)) ≡ false = lt-leb _ _ (rw (c .before .before .of-level .ensures, c .before .due-at .ensures) at (c .if1 .left)) in
+    (omega arith, a .loop .inv .1 ∙ rw (below-pred v (omega arith), due))
+
+returns-2 : tie.Need-returns-2 Inv-loop μ-loop
+returns-2 c = rw (c .before .loop .inv .1, below-zero (c .before .loop .v) (omega arith))
+
+pub due-level-spec : {M : Type 1} → statement M
+due-level-spec =
+    tie.close
+    (tie.spec
+    Inv-loop
+    μ-loop
+    loop-holds
+    sub-v
+    of-level-requires
+    due-at-requires
+    returns
+    loop-less
+    loop-again
+    returns-2)

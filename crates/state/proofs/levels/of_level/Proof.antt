@@ -1,0 +1,76 @@
+use mathlib.Core.List.{List}
+use mathlib.Core.Path.{_≡_}
+use Prim.Native.Nat.{_+_, _-_, _≤_}
+use native.Mathlib.Omega.{arith}
+use lib.ListN.{length, drop}
+use borrow.Author.Needs.{needs}
+use borrow.Author.Tests.{eq-eqb, ne-eqb}
+use Rattle.lists.proofs.Arrays.{unmapped}
+use Rattle.lists.proofs.Turns.{used-turn, used-end}
+use Rattle.state.specs.Views.{finished, noPartition}
+use Rattle.state.specs.Levels.{ofLevel}
+use mathlib.Core.Logic.{⊎-elim}
+use Rattle.state.specs.declared.Partition.{Partition}
+use Rattle.state.proofs.levels.of_level.Statement.{statement}
+use Rattle.state.proofs.levels.of_level.Tie as tie
+
+abbrev Inv-loop : tie.InvT-loop
+Inv-loop level p n i₀ count₀ i count = (length (p .records) ≡ 51) × (count ≤ i) × (ofLevel (λ q. q .level) level (finished p) ≡ count + ofLevel (λ q. q .level) level (drop i (finished p)))
+
+abbrev μ-loop : tie.MeasureT-loop
+μ-loop level p n i₀ count₀ i count = n - i
+
+cast-n : tie.Need-cast-n Inv-loop μ-loop
+cast-n c = search needs
+
+loop-holds : tie.Need-loop-holds Inv-loop μ-loop
+loop-holds c = (search (unmapped, needs), omega arith, omega arith)
+
+mul-q : tie.Need-mul-q Inv-loop μ-loop
+mul-q c = search needs
+
+element-copy-out-q : tie.Need-element-copy-out-q Inv-loop μ-loop
+element-copy-out-q c = search needs
+
+add-count : tie.Need-add-count Inv-loop μ-loop
+add-count c = search needs
+
+add-i : tie.Need-add-i Inv-loop μ-loop
+add-i c = search needs
+
+loop-less : tie.Need-loop-less Inv-loop μ-loop
+loop-less c = search needs
+
+loop-again : tie.Need-loop-again Inv-loop μ-loop
+loop-again c =
+    let a = c .before .before .before .before in
+    let s = a .before .args in
+    let len = a .loop .inv .0 in
+    let whole = used-turn (λ (l : List Partition). a .loop .count + ofLevel (λ q. q .level) (s .level) l) (s .t1 .records) (s .t1 .used) (a .loop .i) noPartition (omega arith) (omega arith) (a .loop .inv .2) in
+    ⊎-elim
+    (λ w. let e = rw (eq-eqb _ _ (w .0 .taken)) at whole in (len, omega arith, omega arith))
+    (λ w. let e = rw (ne-eqb _ _ (w .0 .left)) at whole in (len, omega arith, omega arith))
+    (c .if1 .came)
+
+returns : tie.Need-returns Inv-loop μ-loop
+returns c =
+    let s = c .before .before .args in
+    let len = c .before .loop .inv .0 in
+    let e = used-end (λ (l : List Partition). c .before .loop .count + ofLevel (λ q. q .level) (s .level) l) (s .t1 .records) (s .t1 .used) (c .before .loop .i) (omega arith) (omega arith) (c .before .loop .inv .2) in
+    omega arith
+
+pub of-level-spec : {M : Type 1} → statement M
+of-level-spec =
+    tie.close
+    (tie.spec
+    Inv-loop
+    μ-loop
+    cast-n
+    loop-holds
+    mul-q
+    element-copy-out-q
+    add-count
+    add-i
+    loop-less
+    loop-again
+    returns)

@@ -1,0 +1,97 @@
+use mathlib.Core.List.{List}
+use mathlib.Core.Path.{_≡_, sym, ap, _∙_}
+use Prim.Native.Nat.{_+_, _-_, _≤_}
+use native.Mathlib.Omega.{arith}
+use lib.ListN.{length, getD}
+use borrow.Author.Needs.{needs}
+use Rattle.state.specs.Views.{finished, noPartition, padded}
+use Rattle.state.specs.declared.Partition.{Partition}
+use Rattle.lists.proofs.Padding.{closing, closing-none, closing-more, closing-done, length-without}
+use Rattle.state.proofs.Rows.{used-form, records-form, same-parts}
+use Rattle.state.proofs.partition_list.cut.Statement.{statement}
+use Rattle.state.proofs.partition_list.cut.Tie as tie
+
+abbrev Inv-loop : tie.InvT-loop
+Inv-loop p at count n t₀ i₀ t i = (at ≤ i) × (i ≤ n) × (t .records ≡ closing noPartition 51 (finished p) at count i)
+
+abbrev μ-loop : tie.MeasureT-loop
+μ-loop p at count n t₀ i₀ t i = n - i
+
+cast-n : tie.Need-cast-n Inv-loop μ-loop
+cast-n c = search needs
+
+loop-holds : tie.Need-loop-holds Inv-loop μ-loop
+loop-holds c =
+    let s = c .before in
+    let p = s .args .p in
+    let k = used-form p (s .pre .2) in
+    (omega arith, omega arith, records-form p (s .pre .2) ∙ sym (closing-none noPartition 51 (finished p) (s .args .at) (s .args .count) (omega arith) (omega arith)))
+
+add-record-at : tie.Need-add-record-at Inv-loop μ-loop
+add-record-at c = search needs
+
+record-at-requires : tie.Need-record-at-requires Inv-loop μ-loop
+record-at-requires c κs = search needs
+
+mul-q : tie.Need-mul-q Inv-loop μ-loop
+mul-q c = search needs
+
+element-set-from-q : tie.Need-element-set-from-q Inv-loop μ-loop
+element-set-from-q c = search needs
+
+add-i : tie.Need-add-i Inv-loop μ-loop
+add-i c = search needs
+
+loop-less : tie.Need-loop-less Inv-loop μ-loop
+loop-less c = search needs
+
+loop-again : tie.Need-loop-again Inv-loop μ-loop
+loop-again c =
+    let a = c .before .before in
+    let s = a .before .before in
+    let p = s .args .p in
+    let l = finished p in
+    let at = s .args .at in
+    let count = s .args .count in
+    let i = a .loop .i in
+    let k = used-form p (s .pre .2) in
+    let q : c .record-at .result ≡ getD (padded 51 noPartition l) (i + count) noPartition =
+    c .record-at .ensures ∙ ap (λ (r : List Partition). getD r (i + count) noPartition) (records-form p (s .pre .2)) in (
+      omega arith,
+      omega arith,
+      rw (a .loop .inv .2, q) (closing-more noPartition 51 l at count (omega arith) (omega arith) i (omega arith) (omega arith)),
+    )
+
+sub-t : tie.Need-sub-t Inv-loop μ-loop
+sub-t c = search needs
+
+returns : tie.Need-returns Inv-loop μ-loop
+returns c =
+    let a = c .before .before in
+    let s = a .before .before in
+    let p = s .args .p in
+    let l = finished p in
+    let at = s .args .at in
+    let count = s .args .count in
+    let k = used-form p (s .pre .2) in
+    let e : a .loop .i ≡ length l = omega arith in
+    let w = length-without noPartition 51 l at count (omega arith) (omega arith) in
+    same-parts (omega arith) (rw e at (a .loop .inv .2) ∙ closing-done noPartition 51 l at count (omega arith) (omega arith))
+
+pub cut-spec : {M : Type 1} → statement M
+cut-spec =
+    tie.close
+    (tie.spec
+    Inv-loop
+    μ-loop
+    cast-n
+    loop-holds
+    add-record-at
+    record-at-requires
+    mul-q
+    element-set-from-q
+    add-i
+    loop-less
+    loop-again
+    sub-t
+    returns)

@@ -1,0 +1,36 @@
+use mathlib.Core.Path.{ap, _∙_}
+use Prim.Native.Nat.{_+_, _-_}
+use native.Mathlib.Omega.{arith}
+use borrow.Author.Needs.{needs}
+use Rattle.state.specs.Views.{finished, partitionsOf}
+use Rattle.lists.proofs.Padding.{without, without-rest}
+use Rattle.state.proofs.Rows.{used-form, finished-set, form-set}
+use Rattle.state.proofs.partition_list.replace.Statement.{statement}
+use Rattle.state.proofs.partition_list.replace.Tie as tie
+
+mul-q : tie.Need-mul-q
+mul-q c = search needs
+
+element-set-from-q : tie.Need-element-set-from-q
+element-set-from-q c = search needs
+
+add-cut : tie.Need-add-cut
+add-cut c = search needs
+
+sub-cut : tie.Need-sub-cut
+sub-cut c = search needs
+
+cut-requires : tie.Need-cut-requires
+cut-requires c κs =
+    let s = c .args in
+    (omega arith, c .pre .2, form-set (s .p) (s .at) (s .q) (omega arith) (c .pre .3))
+
+returns : tie.Need-returns
+returns c =
+    let s = c .before .args in
+    let k = used-form (s .p) (c .before .pre .3) in
+    let now = finished-set (s .p) (s .at) (s .q) (omega arith) (c .before .pre .3) in
+    c .cut .ensures ∙ ap partitionsOf (ap (without (s .at + 1) (s .count - 1)) now ∙ without-rest (finished (s .p)) (s .at) (s .count) (s .q) (omega arith) (omega arith))
+
+pub replace-spec : {M : Type 1} → statement M
+replace-spec = tie.close (tie.spec mul-q element-set-from-q add-cut sub-cut cut-requires returns)
