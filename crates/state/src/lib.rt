@@ -3,13 +3,12 @@ use postings::Posting;
 ghost use mathlib.Core.Path.{_≡_};
 ghost use Prim.Native.Nat.{_≤_};
 ghost use Rattle.state.specs.Rules.{lengthsRule, windowsRule, mergeRule, stateRule};
-ghost use Rattle.state.specs.Views.{withWindows};
 
 pub mod buffer_rules; // buffered postings
 pub mod ids; // the open window's identifiers
-pub mod levels; // which level is due, and where it stands
-pub mod partition_rules; // finished partitions
+pub mod levels; // how many partitions a level has, where they stand, and which level is due
 pub mod partition_list; // finished partitions added and taken out
+pub mod partition_rules; // finished partitions
 
 // The lengths in bytes of the buffers lent at the start.
 pub struct Lengths {
@@ -160,13 +159,4 @@ pub fn state_ok(s: State) -> bool
         return false;
     }
     merge_ok(s.partitions, s.merge)
-}
-
-// The state with other windows: how a caller replaces one part.
-pub fn with_windows(s: State, w: Windows) -> State
-    ensures { λ r. ⌜ r ≡ withWindows s w ⌝ }
-{
-    let mut t = s;
-    t.windows = w;
-    t
 }
