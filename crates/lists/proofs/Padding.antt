@@ -9,7 +9,7 @@ use native.Mathlib.Omega.{arith}
 use lib.ListN.{length, getD, take, drop, set, replicate, length-append, length-take, length-drop, length-replicate, length-set, take-append-drop, List·getD-append}
 use lib.Seq.{drop-append-add, take-append-le, drop-append-le, take-append-seam, drop-append-seam, length-take-le, take-suc-set, drop-set-lt, take-take, drop-drop, getD-drop, getD-append-add, set-split, take-suc, drop-cons, set-at, set-append-left, append-snoc}
 use Rattle.lists.specs.Lists.{every}
-use Rattle.lists.proofs.Bools.{and-left, and-right}
+use Rattle.lists.proofs.Bools.{and-left, and-right, and-both}
 
 module _ {A : Type 0} (d : A) where
   -- reading past the list gives the value that follows it
@@ -40,6 +40,10 @@ module _ {A : Type 0} (d : A) where
   pub all-same : (t : A → Bool) → ((x : A) → t x ≡ true → x ≡ d) → (l : List A) → every t l ≡ true → l ≡ replicate (length l) d
   all-same t is [] e = refl
   all-same t is (x ∷ l) e = rw (is x (and-left (t x) _ e), ← all-same t is l (and-right (t x) _ e))
+
+  pub every-replicate : (t : A → Bool) → t d ≡ true → (n : ℕ) → every t (replicate n d) ≡ true
+  every-replicate t e zero = refl
+  every-replicate t e (suc n) = and-both (t d) _ e (every-replicate t e n)
 
   -- an array whose places from n on have that value is its first n places, padded
   pub padded-form : (t : A → Bool) → ((x : A) → t x ≡ true → x ≡ d) → (k n : ℕ) (all : List A) → length all ≡ k → n ≤ k → every t (drop n all) ≡ true

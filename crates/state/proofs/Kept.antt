@@ -1,21 +1,37 @@
--- What the rules of the state say, as plain facts.
+-- What the rules of the state say, as plain facts, and back.
 use mathlib.Core.Bool.{Bool, true, false, _&&_, _||_, not, cond}
+use mathlib.Core.List.{List, [], _∷_}
+use mathlib.Core.Logic.{_⊎_, inl, inr}
 use mathlib.Core.Path.{_≡_, refl, sym, ap, _∙_}
 use Prim.Native.Nat.{ℕ, zero, suc, _+_, _*_, _/_, _%_, _<_, _≤_}
-use native.Mathlib.Omega.{arith}
 use native.Mathlib.Nat.{div-add-mod', mul-comm}
+use native.Mathlib.Omega.{arith}
 use lib.Dec.{eqb, leb, ltb}
+use lib.IntN.{natAbs}
 use lib.ListN.{length, drop}
-use borrow.Author.Tests.{ltb-true, leb-true, eqb-true, eqb-false}
-use Rattle.lists.specs.Lists.{every}
-use Rattle.lists.proofs.Bools.{by-test, and-left, and-right}
+use borrow.Author.Tests.{ltb-true, leb-true, eqb-true, eqb-false, lt-ltb, le-leb, eq-eqb, ne-eqb, not-true}
+use Rattle.lists.specs.Lists.{every, empty, different}
+use Rattle.lists.proofs.Bools.{by-test, and-left, and-right, and-both}
+use Rattle.postings.specs.declared.Posting.{Posting}
+use Rattle.postings.specs.Merge.{isZero}
+use Rattle.postings.specs.Order.{ordered}
+use Rattle.postings.specs.Sums.{above}
 use Rattle.state.specs.declared.Lengths.{Lengths}
+use Rattle.state.specs.declared.Windows.{Windows}
+use Rattle.state.specs.declared.Listed.{Listed}
+use Rattle.state.specs.declared.Buffer.{Buffer}
+use Rattle.state.specs.declared.Partition.{Partition}
 use Rattle.state.specs.declared.Partitions.{Partitions}
+use Rattle.state.specs.declared.MergeJob.{MergeJob}
 use Rattle.state.specs.declared.State.{State}
-use Rattle.state.specs.Views.{blocks, entries}
-use Rattle.state.specs.Rules.{cardLength, registerLength, lengthsRule, partitionsRule}
+use Rattle.state.specs.Views.{blocks, entries, noMerge, listed, buffered, finished, listedOf, bufferOf, partitionsOf, emptyState}
+use Rattle.state.specs.Levels.{levels, levelLimit, ofLevel, dueLevels}
+use Rattle.state.specs.Rules.{cardLength, registerLength, lengthsRule, windowsRule, listedRule, postingRule, unusedPosting, bufferRule, recordRule, unusedRecord, neverRise, partitionsRule, mergeRule, stateRule}
+use Rattle.state.proofs.Forms.{listed-form, buffer-form, partitions-form, listed-rule, buffer-rule, partitions-rule}
 
--- both lengths are within the limits, and whole numbers of blocks and entries
+-- ---- lengths
+
+-- both lengths are whole numbers of blocks and entries, within the limits
 pub record LengthsKept (l : Lengths) : Type 0 where
   pub card : l .card ≡ 4096 * (l .card / 4096)
   pub fewestBlocks : 4 ≤ l .card / 4096
@@ -47,6 +63,267 @@ lengths-kept l e =
       mostEntries = leb-true _ _ (and-right (leb 1 (l .register / 65)) _ r₁);
     }
 
-pub partitions-used : (blockCount : ℕ) (p : Partitions) → partitionsRule blockCount p ≡ true → p .used ≤ 51
+-- ---- windows
+
+-- no window is open
+pub record Shut (w : Windows) : Type 0 where
+  pub number : w .current ≡ 0
+  pub events : w .events ≡ 0
+
+-- the open window has the last number given, and is counted in N exactly when it has events
+pub record Opened (w : Windows) : Type 0 where
+  pub some : 1 ≤ w .current
+  pub number : w .current ≡ w .last
+  pub events : w .events ≤ 32767
+  pub uncounted : w .events ≡ 0 → w .live < w .current
+  pub counted : 1 ≤ w .events → 1 ≤ w .live
+
+pub record WindowsKept (w : Windows) : Type 0 where
+  pub live : w .live ≤ w .last
+  pub window : Shut w ⊎ Opened w
+
+pub windows-kept : (w : Windows) → windowsRule w ≡ true → WindowsKept w
+unfolding windowsRule
+windows-kept w e = record { live = leb-true _ _ (and-left (leb (w .live) (w .last)) _ e); window = cases (and-right (leb (w .live) (w .last)) _ e) }
+  where
+    counting : Bool
+    counting = cond (eqb (w .events) 0) (ltb (w .live) (w .current)) (leb 1 (w .live))
+
+    cases : cond (eqb (w .current) 0) (eqb (w .events) 0) (eqb (w .current) (w .last) && (leb (w .events) 32767 && cond (eqb (w .events) 0) (ltb (w .live) (w .current)) (leb 1 (w .live)))) ≡ true
+        → Shut w ⊎ Opened w
+    cases q =
+        by-test (eqb (w .current) 0) (λ y. inl (record { number = eqb-true _ _ y; events = eqb-true _ _ (rw y at q) }))
+        (λ n. let r : (eqb (w .current) (w .last) && (leb (w .events) 32767 && cond (eqb (w .events) 0) (ltb (w .live) (w .current)) (leb 1 (w .live)))) ≡ true = rw n at q in
+        let t = and-right (eqb (w .current) (w .last)) _ r in
+        let u = and-right (leb (w .events) 32767) _ t in
+        let z = eqb-false (w .current) 0 n in
+        inr (record {
+          some = omega arith;
+          number = eqb-true _ _ (and-left (eqb (w .current) (w .last)) _ r);
+          events = leb-true _ _ (and-left (leb (w .events) 32767) _ t);
+          uncounted = λ none. ltb-true _ _ (rw (eq-eqb (w .events) 0 none) at u);
+          counted = λ some. leb-true _ _ (rw (ne-eqb (w .events) 0 (λ none. omega arith)) at u);
+        }))
+
+-- and back
+pub windows-rule : (w : Windows) → WindowsKept w → windowsRule w ≡ true
+unfolding windowsRule
+windows-rule w k = rw (le-leb (w .live) (w .last) (k .live)) (cases (k .window))
+  where
+    cases : Shut w ⊎ Opened w
+        → cond (eqb (w .current) 0) (eqb (w .events) 0) (eqb (w .current) (w .last) && (leb (w .events) 32767 && cond (eqb (w .events) 0) (ltb (w .live) (w .current)) (leb 1 (w .live)))) ≡ true
+    cases (inl s) = rw (eq-eqb (w .current) 0 (s .number)) (eq-eqb (w .events) 0 (s .events))
+    cases (inr o) =
+        let some = o .some in
+        rw (ne-eqb (w .current) 0 (λ z. omega arith), eq-eqb (w .current) (w .last) (o .number), le-leb (w .events) 32767 (o .events))
+        (by-test (eqb (w .events) 0) (λ y. rw y (lt-ltb _ _ (o .uncounted (eqb-true _ _ y))))
+        (λ n. let z = eqb-false (w .events) 0 n in rw n (le-leb _ _ (o .counted (omega arith)))))
+
+-- ---- the open window's identifiers
+
+pub record ListedKept (w : Windows) (l : Listed) : Type 0 where
+  pub used : l .used ≤ 64
+  pub small : every (λ i. leb i 1023) (listed l) ≡ true
+  pub once : different (listed l) ≡ true
+  pub none : w .current ≡ 0 → l .used ≡ 0
+  pub form : length (l .ids) ≡ 64 → l ≡ listedOf (listed l)
+
+pub listed-kept : (w : Windows) (l : Listed) → listedRule w l ≡ true → ListedKept w l
+unfolding listedRule
+listed-kept w l e =
+    let a = and-right (leb (l .used) 64) _ e in
+    let b = and-right (every (λ i. leb i 1023) (listed l)) _ a in
+    let c = and-right (different (listed l)) _ b in
+    let d = and-right (every (λ i. eqb i 0) (drop (l .used) (l .ids))) (not (eqb (w .current) 0) || eqb (l .used) 0) c in
+    let u = leb-true (l .used) 64 (and-left (leb (l .used) 64) _ e) in
+    record {
+      used = u;
+      small = and-left (every (λ i. leb i 1023) (listed l)) _ a;
+      once = and-left (different (listed l)) _ b;
+      none = λ z. eqb-true _ _ (rw (eq-eqb (w .current) 0 z) at d);
+      form = λ len. listed-form l len u (and-left (every (λ i. eqb i 0) (drop (l .used) (l .ids))) (not (eqb (w .current) 0) || eqb (l .used) 0) c);
+    }
+
+-- ---- buffered postings
+
+pub record PostingKept (w : Windows) (p : Posting) : Type 0 where
+  pub id : p .id ≤ 1023
+  pub some : 1 ≤ p .window
+  pub given : p .window ≤ w .last
+  pub counts : isZero (p .count) ≡ false
+  pub small : natAbs (p .count) ≤ 32767
+  pub own : p .window ≡ w .current → (1 ≤ above (p .count)) × (above (p .count) ≤ w .events)
+
+pub posting-kept : (w : Windows) (p : Posting) → postingRule w p ≡ true → PostingKept w p
+unfolding postingRule
+posting-kept w p e =
+    let own = not (eqb (p .window) (w .current)) || (leb 1 (above (p .count)) && leb (above (p .count)) (w .events)) in
+    let a = and-right (leb (p .id) 1023) (leb 1 (p .window) && (leb (p .window) (w .last) && (not (isZero (p .count)) && (leb (natAbs (p .count)) 32767 && own)))) e in
+    let b = and-right (leb 1 (p .window)) (leb (p .window) (w .last) && (not (isZero (p .count)) && (leb (natAbs (p .count)) 32767 && own))) a in
+    let c = and-right (leb (p .window) (w .last)) (not (isZero (p .count)) && (leb (natAbs (p .count)) 32767 && own)) b in
+    let d = and-right (not (isZero (p .count))) (leb (natAbs (p .count)) 32767 && own) c in
+    let f = and-right (leb (natAbs (p .count)) 32767) own d in
+    record {
+      id = leb-true _ _ (and-left (leb (p .id) 1023) _ e);
+      some = leb-true _ _ (and-left (leb 1 (p .window)) _ a);
+      given = leb-true _ _ (and-left (leb (p .window) (w .last)) _ b);
+      counts = not-true _ (and-left (not (isZero (p .count))) _ c);
+      small = leb-true _ _ (and-left (leb (natAbs (p .count)) 32767) _ d);
+      own = λ s. let g : (leb 1 (above (p .count)) && leb (above (p .count)) (w .events)) ≡ true = rw (eq-eqb (p .window) (w .current) s) at f in
+      (leb-true _ _ (and-left (leb 1 (above (p .count))) _ g), leb-true _ _ (and-right (leb 1 (above (p .count))) _ g));
+    }
+
+-- and back
+pub posting-rule : (w : Windows) (p : Posting) → PostingKept w p → postingRule w p ≡ true
+unfolding postingRule
+posting-rule w p k =
+    rw (le-leb _ _ (k .id), le-leb _ _ (k .some), le-leb _ _ (k .given), k .counts, le-leb _ _ (k .small))
+    (by-test (eqb (p .window) (w .current)) (λ y. let o = k .own (eqb-true _ _ y) in rw (y, le-leb _ _ (o .0), le-leb _ _ (o .1))) (λ n. rw n))
+
+pub record BufferKept (w : Windows) (b : Buffer) : Type 0 where
+  pub used : b .used ≤ 128
+  pub order : ordered (buffered b) ≡ true
+  pub rules : every (postingRule w) (buffered b) ≡ true
+  pub form : length (b .postings) ≡ 128 → b ≡ bufferOf (buffered b)
+
+pub buffer-kept : (w : Windows) (b : Buffer) → bufferRule w b ≡ true → BufferKept w b
+unfolding bufferRule
+buffer-kept w b e =
+    let c = and-right (leb (b .used) 128) _ e in
+    let d = and-right (ordered (buffered b)) _ c in
+    let u = leb-true (b .used) 128 (and-left (leb (b .used) 128) _ e) in
+    record {
+      used = u;
+      order = and-left (ordered (buffered b)) _ c;
+      rules = and-left (every (postingRule w) (buffered b)) _ d;
+      form = λ len. buffer-form b len u (and-right (every (postingRule w) (buffered b)) _ d);
+    }
+
+-- ---- finished partitions
+
+pub record RecordKept (blockCount : ℕ) (p : Partition) : Type 0 where
+  pub level : p .level ≤ 5
+  pub length : p .length ≤ 4092 * blockCount
+
+pub record-kept : (blockCount : ℕ) (p : Partition) → recordRule blockCount p ≡ true → RecordKept blockCount p
+unfolding recordRule
+record-kept n p e = record { level = leb-true _ _ (and-left (leb (p .level) 5) _ e); length = leb-true _ _ (and-right (leb (p .level) 5) _ e) }
+
+-- and back
+pub record-rule : (blockCount : ℕ) (p : Partition) → RecordKept blockCount p → recordRule blockCount p ≡ true
+unfolding recordRule
+record-rule n p k = and-both _ _ (le-leb _ _ (k .level)) (le-leb _ _ (k .length))
+
+pub record PartitionsKept (blockCount : ℕ) (p : Partitions) : Type 0 where
+  pub used : p .used ≤ 51
+  pub rules : every (recordRule blockCount) (finished p) ≡ true
+  pub fall : neverRise (finished p) ≡ true
+  pub limits : every (λ v. leb (ofLevel (λ q. q .level) v (finished p)) (levelLimit v)) levels ≡ true
+  pub form : length (p .records) ≡ 51 → p ≡ partitionsOf (finished p)
+
+pub partitions-kept : (blockCount : ℕ) (p : Partitions) → partitionsRule blockCount p ≡ true → PartitionsKept blockCount p
 unfolding partitionsRule
-partitions-used blockCount p e = leb-true _ _ (and-left _ _ e)
+partitions-kept n p e =
+    let limits = every (λ v. leb (ofLevel (λ q. q .level) v (finished p)) (levelLimit v)) levels in
+    let clear = every unusedRecord (drop (p .used) (p .records)) in
+    let a = and-right (leb (p .used) 51) (every (recordRule n) (finished p) && (neverRise (finished p) && (limits && clear))) e in
+    let b = and-right (every (recordRule n) (finished p)) (neverRise (finished p) && (limits && clear)) a in
+    let c = and-right (neverRise (finished p)) (limits && clear) b in
+    let u = leb-true (p .used) 51 (and-left (leb (p .used) 51) _ e) in
+    record {
+      used = u;
+      rules = and-left (every (recordRule n) (finished p)) _ a;
+      fall = and-left (neverRise (finished p)) _ b;
+      limits = and-left limits clear c;
+      form = λ len. partitions-form p len u (and-right limits clear c);
+    }
+
+-- ---- the merge in progress
+
+-- none, and then its record is zeros, or some steps are done, and then a level is due
+pub record MergeKept (p : Partitions) (m : MergeJob) : Type 0 where
+  pub none : m .steps ≡ 0 → m ≡ noMerge
+  pub due : 1 ≤ m .steps → empty (dueLevels (λ q. q .level) (finished p)) ≡ false
+
+job-of : {i j v w a b : ℕ} → i ≡ j → v ≡ w → a ≡ b → _≡_ {A = MergeJob} (record { first = i; length = v; steps = a }) (record { first = j; length = w; steps = b })
+job-of p q r = cc
+
+pub merge-kept : (p : Partitions) (m : MergeJob) → mergeRule p m ≡ true → MergeKept p m
+unfolding mergeRule
+merge-kept p m e = record {
+  none = λ z. let f : (eqb (m .first) 0 && eqb (m .length) 0) ≡ true = rw (eq-eqb (m .steps) 0 z) at e in
+  job-of (eqb-true _ _ (and-left (eqb (m .first) 0) _ f)) (eqb-true _ _ (and-right (eqb (m .first) 0) _ f)) z;
+  due = λ h. not-true _ (rw (ne-eqb (m .steps) 0 (λ z. omega arith)) at e);
+}
+
+-- ---- the state
+
+-- each rule by itself
+pub record Rules (s : State) : Type 0 where
+  pub lengths : lengthsRule (s .lengths) ≡ true
+  pub windows : windowsRule (s .windows) ≡ true
+  pub listed : listedRule (s .windows) (s .listed) ≡ true
+  pub buffer : bufferRule (s .windows) (s .buffer) ≡ true
+  pub partitions : partitionsRule (blocks s) (s .partitions) ≡ true
+  pub taken : s .taken < blocks s
+  pub merge : mergeRule (s .partitions) (s .merge) ≡ true
+
+pub rules-of : (s : State) → stateRule s ≡ true → Rules s
+unfolding stateRule
+rules-of s e =
+    let a = and-right (lengthsRule (s .lengths)) _ e in
+    let b = and-right (windowsRule (s .windows)) _ a in
+    let c = and-right (listedRule (s .windows) (s .listed)) _ b in
+    let d = and-right (bufferRule (s .windows) (s .buffer)) _ c in
+    let f = and-right (partitionsRule (blocks s) (s .partitions)) _ d in
+    record {
+      lengths = and-left (lengthsRule (s .lengths)) _ e;
+      windows = and-left (windowsRule (s .windows)) _ a;
+      listed = and-left (listedRule (s .windows) (s .listed)) _ b;
+      buffer = and-left (bufferRule (s .windows) (s .buffer)) _ c;
+      partitions = and-left (partitionsRule (blocks s) (s .partitions)) _ d;
+      taken = ltb-true _ _ (and-left (ltb (s .taken) (blocks s)) _ f);
+      merge = and-right (ltb (s .taken) (blocks s)) _ f;
+    }
+
+-- and back
+pub state-rule : (s : State) → Rules s → stateRule s ≡ true
+unfolding stateRule
+state-rule s r = rw (r .lengths, r .windows, r .listed, r .buffer, r .partitions, lt-ltb (s .taken) (blocks s) (r .taken)) (r .merge)
+
+-- every plain fact of a state that keeps the rules
+pub record Kept (s : State) : Type 0 where
+  pub lengths : LengthsKept (s .lengths)
+  pub windows : WindowsKept (s .windows)
+  pub listed : ListedKept (s .windows) (s .listed)
+  pub buffer : BufferKept (s .windows) (s .buffer)
+  pub partitions : PartitionsKept (blocks s) (s .partitions)
+  pub taken : s .taken < blocks s
+  pub merge : MergeKept (s .partitions) (s .merge)
+
+pub state-kept : (s : State) → stateRule s ≡ true → Kept s
+state-kept s e =
+    let r = rules-of s e in
+    record {
+      lengths = lengths-kept (s .lengths) (r .lengths);
+      windows = windows-kept (s .windows) (r .windows);
+      listed = listed-kept (s .windows) (s .listed) (r .listed);
+      buffer = buffer-kept (s .windows) (s .buffer) (r .buffer);
+      partitions = partitions-kept (blocks s) (s .partitions) (r .partitions);
+      taken = r .taken;
+      merge = merge-kept (s .partitions) (s .merge) (r .merge);
+    }
+
+-- a state without windows keeps the rules
+pub empty-rule : (card register taken : ℕ) → cardLength card ≡ true → registerLength register ≡ true → taken < card / 4096 → stateRule (emptyState card register taken) ≡ true
+unfolding lengthsRule windowsRule mergeRule
+empty-rule card register taken c r t =
+    state-rule (emptyState card register taken) (record {
+      lengths = and-both (cardLength card) (registerLength register) c r;
+      windows = refl;
+      listed = listed-rule _ [] (omega arith) refl refl (λ z. refl);
+      buffer = buffer-rule _ [] (omega arith) refl refl;
+      partitions = partitions-rule _ [] (omega arith) refl refl refl;
+      taken = t;
+      merge = refl;
+    })

@@ -2,4 +2,5 @@ pub mod Signs
 pub mod Neighbours
 pub mod Rows
 pub mod Counts
+pub mod Forms
 pub mod Kept

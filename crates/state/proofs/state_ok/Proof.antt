@@ -2,7 +2,7 @@ use mathlib.Core.Path.{sym, _∙_}
 use borrow.Author.Needs.{needs}
 use borrow.Author.Tests.{not-true, not-false, lt-ltb, le-ltb}
 use Rattle.state.specs.Rules.{stateRule}
-use Rattle.state.proofs.Kept.{lengths-kept, partitions-used}
+use Rattle.state.proofs.Kept.{lengths-kept, partitions-kept}
 use Rattle.state.proofs.state_ok.Statement.{statement}
 use Rattle.state.proofs.state_ok.Tie as tie
 
@@ -49,7 +49,7 @@ unfolding stateRule
 returns-6 c = rw (sym (c .before .before .before .before .before .before .before .before .before .before .before .before .lengths-ok .ensures) ∙ not-false _ (c .before .before .before .before .before .before .before .before .before .before .before .if1 .left), sym (c .before .before .before .before .before .before .before .before .before .before .windows-ok .ensures) ∙ not-false _ (c .before .before .before .before .before .before .before .before .before .if2 .left), sym (c .before .before .before .before .before .before .before .before .listed-ok .ensures) ∙ not-false _ (c .before .before .before .before .before .before .before .if3 .left), sym (c .before .before .before .before .before .before .buffer-ok .ensures) ∙ not-false _ (c .before .before .before .before .before .if4 .left), sym (c .before .before .before .partitions-ok .ensures) ∙ not-false _ (c .before .before .if5 .left), le-ltb _ _ (c .if6 .taken))
 
 merge-ok-requires : tie.Need-merge-ok-requires
-merge-ok-requires c κs = partitions-used _ _ (sym (c .before .before .before .partitions-ok .ensures) ∙ not-false _ (c .before .before .if5 .left))
+merge-ok-requires c κs = let k = partitions-kept _ _ (sym (c .before .before .before .partitions-ok .ensures) ∙ not-false _ (c .before .before .if5 .left)) in k .used
 
 returns-7 : tie.Need-returns-7
 unfolding stateRule
