@@ -8,3 +8,4 @@ pub mod Sets
 pub mod Turns
 pub mod Neighbours
 pub mod Padding
+pub mod Parts

@@ -170,7 +170,7 @@ posting-kept w p e =
       counts = not-true _ (and-left (not (isZero (p .count))) _ c);
       small = leb-true _ _ (and-left (leb (natAbs (p .count)) 32767) _ d);
       own = λ s. let g : (leb 1 (above (p .count)) && leb (above (p .count)) (w .events)) ≡ true = rw (eq-eqb (p .window) (w .current) s) at f in
-      (leb-true _ _ (and-left (leb 1 (above (p .count))) _ g), leb-true _ _ (and-right (leb 1 (above (p .count))) _ g));
+          (leb-true _ _ (and-left (leb 1 (above (p .count))) _ g), leb-true _ _ (and-right (leb 1 (above (p .count))) _ g));
     }
 
 -- and back
@@ -252,7 +252,7 @@ pub merge-kept : (p : Partitions) (m : MergeJob) → mergeRule p m ≡ true → 
 unfolding mergeRule
 merge-kept p m e = record {
   none = λ z. let f : (eqb (m .first) 0 && eqb (m .length) 0) ≡ true = rw (eq-eqb (m .steps) 0 z) at e in
-  job-of (eqb-true _ _ (and-left (eqb (m .first) 0) _ f)) (eqb-true _ _ (and-right (eqb (m .first) 0) _ f)) z;
+      job-of (eqb-true _ _ (and-left (eqb (m .first) 0) _ f)) (eqb-true _ _ (and-right (eqb (m .first) 0) _ f)) z;
   due = λ h. not-true _ (rw (ne-eqb (m .steps) 0 (λ z. omega arith)) at e);
 }
 

@@ -4,3 +4,4 @@ pub mod Rows
 pub mod Counts
 pub mod Forms
 pub mod Kept
+pub mod Runs
