@@ -1,13 +1,15 @@
 -- A chain block by block: the rule of the whole is the rule of what is left.
 use mathlib.Core.Bool.{Bool, true, false, _&&_, cond}
-use mathlib.Core.List.{List}
+use mathlib.Core.List.{List, [], _∷_}
 use mathlib.Core.Path.{_≡_, refl}
 use Prim.Native.Nat.{ℕ, zero, suc, _-_, _<_, _≤_}
 use native.Mathlib.Omega.{arith}
 use lib.Dec.{eqb, ltb}
 use borrow.Author.Tests.{lt-ltb, le-ltb}
+use Rattle.lists.specs.All.{AllOf}
 use Rattle.card.specs.Blocks.{noBlock, link}
 use Rattle.card.specs.Chains.{chain, chainRule}
+use Rattle.card.specs.Cursors.{InCard, Chained}
 
 -- the rule resumed: n blocks from b on, or none any more, where b is the last link
 unfoldable pub restRule : List ℕ → ℕ → ℕ → ℕ → Bool
@@ -40,3 +42,18 @@ module _ (W : List ℕ) (limit : ℕ) where
   pub rest-end : (b n : ℕ) → n ≡ 0 → restRule W limit b n ≡ eqb b noBlock
   unfolding restRule
   rest-end b n e = rw e
+
+module _ (W : List ℕ) where
+  -- a chain is its first block and the chain from that one's link on
+  pub chain-more : (b n : ℕ) → 0 < n → chain W b n ≡ b ∷ chain W (link W b) (n - 1)
+  unfolding chain
+  chain-more b zero h = absurd (omega arith)
+  chain-more b (suc n) h = let e : suc n - 1 ≡ n = omega arith in rw e
+
+  pub chain-none : (b n : ℕ) → n ≡ 0 → chain W b n ≡ []
+  unfolding chain
+  chain-none b n e = rw e
+
+  pub chained-more : (b n : ℕ) → 0 < n → Chained W b n → InCard W b × Chained W (link W b) (n - 1)
+  unfolding AllOf
+  chained-more b n h g = rw (chain-more b n h) at g

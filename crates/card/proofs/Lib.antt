@@ -7,3 +7,4 @@ pub mod Stored
 pub mod Free
 pub mod ByteRule
 pub mod Refills
+pub mod Marking

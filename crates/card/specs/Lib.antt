@@ -2,3 +2,4 @@ pub mod Blocks
 pub mod Chains
 pub mod Writes
 pub mod Cursors
+pub mod Marks

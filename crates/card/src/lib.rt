@@ -1,11 +1,15 @@
 // The card's blocks: links, chains, free blocks. A block's words begin at 1,024 times its number; the last one is its link.
+ghost use mathlib.Core.Bool.{Bool, true, false, _||_};
 ghost use mathlib.Core.Path.{_≡_};
 ghost use Prim.Native.Nat.{ℕ, _+_, _*_, _≤_, _<_};
+ghost use lib.Dec.{eqb};
 ghost use lib.ListN.{length, getD, take, drop};
+ghost use Rattle.lists.specs.Lists.{elem};
 ghost use Rattle.words.specs.Words.{words as wordsOf};
 ghost use Rattle.card.specs.Blocks.{link};
 ghost use Rattle.card.specs.Chains.{chain, chainRule, content};
 ghost use Rattle.card.specs.Cursors.{InCard, Chained, ahead, Good, headOf, movedOf};
+ghost use Rattle.card.specs.Marks.{marked, unmarked};
 
 // A place in the content of a chain: a word of a block, and how many words are still to come from there on.
 pub struct Cursor {
@@ -98,4 +102,67 @@ pub fn chain_ok(card: &[u8], blocks: u32, first: u16, n: u32) -> bool
         m -= 1;
     }
     0 < n && next == 65534
+}
+
+// A mark for each block that a card can have.
+pub struct Marks {
+    pub bits: [u64; 64],
+}
+
+// No block is marked.
+pub fn no_marks() -> Marks
+    ensures { λ r. ⌜ ((b : ℕ) → marked r b ≡ false) ⌝ }
+{
+    Marks { bits: [0; 64] }
+}
+
+fn is_marked(m: Marks, block: u16) -> bool
+    requires { ⌜ block < 4096 ⌝ }
+    ensures { λ r. ⌜ r ≡ marked m block ⌝ }
+{
+    let i = block as usize / 64;
+    m.bits[i] >> (block as u64 % 64) & 1 == 1
+}
+
+fn mark(m: Marks, block: u16) -> Marks
+    requires { ⌜ block < 4096 ⌝ }
+    ensures { λ r. ⌜ ((b : ℕ) → marked r b ≡ (eqb block b || marked m b)) ⌝ }
+{
+    let i = block as usize / 64;
+    let mut r = m;
+    r.bits[i] = r.bits[i] | 1 << (block as u64 % 64);
+    r
+}
+
+// Whether the blocks of a chain were unmarked and all different, and the marks with theirs.
+pub struct Marked {
+    pub apart: bool,
+    pub marks: Marks,
+}
+
+// Marks the n blocks from `first` on; marks that are handed on from chain to chain tell whether a block stands in two places.
+pub fn mark_chain(card: &[u8], m: Marks, first: u16, n: u32) -> Marked
+    requires { ⌜ Chained (wordsOf (now card)) first n ⌝ }
+    ensures apart { λ r. ⌜ r .apart ≡ unmarked m (chain (wordsOf (now (card .entry))) first n) ⌝ }
+    ensures marks { λ r. ⌜ (r .apart ≡ true → (b : ℕ) → marked (r .marks) b ≡ (marked m b || elem b (chain (wordsOf (now (card .entry))) first n))) ⌝ }
+{
+    let mut marks = m;
+    let mut next = first as u32;
+    let mut i = n;
+    while 0 < i {
+        let block = next as u16;
+        if is_marked(marks, block) {
+            return Marked {
+                apart: false,
+                marks: marks,
+            };
+        }
+        marks = mark(marks, block);
+        next = block_word(card, block, 1023);
+        i -= 1;
+    }
+    Marked {
+        apart: true,
+        marks: marks,
+    }
 }

@@ -9,3 +9,4 @@ pub mod Turns
 pub mod Neighbours
 pub mod Padding
 pub mod Parts
+pub mod Runs
