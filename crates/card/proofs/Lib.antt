@@ -8,3 +8,4 @@ pub mod Free
 pub mod ByteRule
 pub mod Refills
 pub mod Marking
+pub mod Taking

@@ -3,3 +3,4 @@ pub mod Chains
 pub mod Writes
 pub mod Cursors
 pub mod Marks
+pub mod Free

@@ -2,13 +2,14 @@
 ghost use mathlib.Core.Bool.{Bool, true, false, _||_};
 ghost use mathlib.Core.Path.{_≡_};
 ghost use Prim.Native.Nat.{ℕ, _+_, _*_, _≤_, _<_};
-ghost use lib.Dec.{eqb};
+ghost use lib.Dec.{eqb, leb};
 ghost use lib.ListN.{length, getD, take, drop};
 ghost use Rattle.lists.specs.Lists.{elem};
 ghost use Rattle.words.specs.Words.{words as wordsOf};
-ghost use Rattle.card.specs.Blocks.{link};
+ghost use Rattle.card.specs.Blocks.{link, isFree, afterTaken, freeBlocks};
 ghost use Rattle.card.specs.Chains.{chain, chainRule, content};
 ghost use Rattle.card.specs.Cursors.{InCard, Chained, ahead, Good, headOf, movedOf};
+ghost use Rattle.card.specs.Free.{firstOf};
 ghost use Rattle.card.specs.Marks.{marked, unmarked};
 
 // A place in the content of a chain: a word of a block, and how many words are still to come from there on.
@@ -144,6 +145,7 @@ pub struct Marked {
 pub fn mark_chain(card: &[u8], m: Marks, first: u16, n: u32) -> Marked
     requires { ⌜ Chained (wordsOf (now card)) first n ⌝ }
     ensures apart { λ r. ⌜ r .apart ≡ unmarked m (chain (wordsOf (now (card .entry))) first n) ⌝ }
+    ensures kept { λ r. ⌜ (r .apart ≡ false → r .marks ≡ m) ⌝ }
     ensures marks { λ r. ⌜ (r .apart ≡ true → (b : ℕ) → marked (r .marks) b ≡ (marked m b || elem b (chain (wordsOf (now (card .entry))) first n))) ⌝ }
 {
     let mut marks = m;
@@ -154,7 +156,7 @@ pub fn mark_chain(card: &[u8], m: Marks, first: u16, n: u32) -> Marked
         if is_marked(marks, block) {
             return Marked {
                 apart: false,
-                marks: marks,
+                marks: m,
             };
         }
         marks = mark(marks, block);
@@ -165,4 +167,70 @@ pub fn mark_chain(card: &[u8], m: Marks, first: u16, n: u32) -> Marked
         apart: true,
         marks: marks,
     }
+}
+
+// Whether a block is free: all of its words, the link too, are all ones.
+pub fn is_free(card: &[u8], block: u16) -> bool
+    requires { ⌜ 1024 * block + 1023 < length (wordsOf (now card)) ⌝ }
+    ensures { λ r. ⌜ r ≡ isFree (wordsOf (now (card .entry))) block ⌝ }
+{
+    let mut at: u16 = 0;
+    while at < 1024 {
+        if block_word(card, block, at) != 4294967295 {
+            return false;
+        }
+        at += 1;
+    }
+    true
+}
+
+// The block in place i, from 0 on, of the order of taking: upward after the block last taken, round the end.
+fn tried(blocks: u32, taken: u16, i: u32) -> u16
+    requires { ⌜ (taken < blocks) × (blocks ≤ 4096) × (i < blocks) ⌝ }
+    ensures { λ r. ⌜ (r < blocks) × (r ≡ getD (afterTaken blocks taken) i 0) ⌝ }
+{
+    let block = taken as u32 + 1 + i;
+    if block < blocks {
+        block as u16
+    } else {
+        (block - blocks) as u16
+    }
+}
+
+pub enum Free {
+    Block(u16),
+    Nothing,
+}
+
+// The free block that is taken next, if there is one.
+pub fn next_free(card: &[u8], blocks: u32, taken: u16) -> Free
+    requires { ⌜ (length (wordsOf (now card)) ≡ 1024 * blocks) × (blocks ≤ 4096) × (taken < blocks) ⌝ }
+    ensures { λ r. ⌜ r ≡ firstOf (freeBlocks (wordsOf (now (card .entry))) blocks taken) ⌝ }
+{
+    let mut i = 0;
+    while i < blocks {
+        let block = tried(blocks, taken, i);
+        if is_free(card, block) {
+            return Free::Block(block);
+        }
+        i += 1;
+    }
+    Free::Nothing
+}
+
+// Whether so many blocks are free; the blocks are counted in the order of taking, as the free ones mostly lie ahead.
+pub fn enough_free(card: &[u8], blocks: u32, taken: u16, wanted: u32) -> bool
+    requires { ⌜ (length (wordsOf (now card)) ≡ 1024 * blocks) × (blocks ≤ 4096) × (taken < blocks) ⌝ }
+    ensures { λ r. ⌜ r ≡ leb wanted (length (freeBlocks (wordsOf (now (card .entry))) blocks taken)) ⌝ }
+{
+    let mut missing = wanted;
+    let mut i = 0;
+    while i < blocks && 0 < missing {
+        let block = tried(blocks, taken, i);
+        if is_free(card, block) {
+            missing -= 1;
+        }
+        i += 1;
+    }
+    missing == 0
 }

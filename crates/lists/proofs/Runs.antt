@@ -1,12 +1,14 @@
--- Runs along a list: a set of numbers that takes them in one by one.
+-- Runs along a list: numbers upward, a test of each, a set of numbers that takes them in one by one.
 use mathlib.Core.Bool.{Bool, true, false, _&&_, _||_, not}
 use mathlib.Core.List.{List, [], _∷_}
-use mathlib.Core.Path.{_≡_, refl, sym}
-use Prim.Native.Nat.{ℕ}
+use mathlib.Core.Path.{_≡_, refl, sym, ap, _∙_}
+use Prim.Native.Nat.{ℕ, zero, suc, _+_, _-_, _<_}
 use native.Mathlib.Omega.{arith}
-use lib.Dec.{eqb}
-use borrow.Author.Tests.{eqb-true, eqb-false, eq-eqb, ne-eqb}
-use Rattle.lists.specs.Lists.{every, elem, different}
+use lib.Dec.{eqb, leb}
+use lib.ListN.{length, getD, drop}
+use lib.Seq.{drop-cons}
+use borrow.Author.Tests.{eqb-true, eqb-false, eq-eqb, ne-eqb, leb-true, leb-false, le-leb, lt-leb}
+use Rattle.lists.specs.Lists.{keep, every, elem, different, rising}
 use Rattle.lists.proofs.Bools.{by-test}
 
 -- a test does not both fail and pass
@@ -19,6 +21,20 @@ eqb-swap a b =
     by-test (eqb a b)
     (λ y. rw (y, eq-eqb b a (sym (eqb-true a b y))))
     (λ y. rw (y, ne-eqb b a (λ e. eqb-false a b y (sym e))))
+
+-- one element fewer of a count is wanted where one was found
+pub leb-less : (m n : ℕ) → 0 < m → leb m (suc n) ≡ leb (m - 1) n
+leb-less m n h =
+    by-test (leb (m - 1) n)
+    (λ y. rw y (le-leb m (suc n) (omega (arith, leb-true (m - 1) n y))))
+    (λ y. rw y (lt-leb m (suc n) (omega (arith, leb-false (m - 1) n y))))
+
+-- none is enough where none is wanted
+pub leb-none : (m : ℕ) → leb m 0 ≡ eqb m 0
+leb-none m =
+    by-test (eqb m 0)
+    (λ y. rw y (le-leb m 0 (omega (arith, eqb-true m 0 y))))
+    (λ y. let d : m ≡ 0 → ⊥ = eqb-false m 0 y in rw y (lt-leb m 0 (omega arith)))
 
 -- q is the set p with one number more
 module _ (p q : ℕ → Bool) (n : ℕ) (more : (k : ℕ) → q k ≡ (eqb n k || p k)) where
@@ -60,3 +76,23 @@ apart-hit p n l e = rw e (turn (different (n ∷ l)))
     turn : (a : Bool) → (a && false) ≡ false
     turn true = refl
     turn false = refl
+
+-- numbers upward: how many, and the one at a place
+pub length-rising : (n count : ℕ) → length (rising n count) ≡ count
+unfolding rising
+length-rising n zero = refl
+length-rising n (suc count) = ap suc (length-rising (suc n) count)
+
+pub getD-rising : (n count i : ℕ) → i < count → getD (rising n count) i 0 ≡ n + i
+unfolding rising
+getD-rising n zero i h = absurd (omega arith)
+getD-rising n (suc count) zero h = omega arith
+getD-rising n (suc count) (suc i) h = getD-rising (suc n) count i (omega arith) ∙ (omega arith)
+
+-- what a test keeps from place i on, by whether it keeps the element there
+module _ (t : ℕ → Bool) (l : List ℕ) (i : ℕ) (h : i < length l) where
+  pub keep-here : t (getD l i 0) ≡ true → keep t (drop i l) ≡ getD l i 0 ∷ keep t (drop (suc i) l)
+  keep-here e = rw (drop-cons l i 0 h, e)
+
+  pub keep-past : t (getD l i 0) ≡ false → keep t (drop i l) ≡ keep t (drop (suc i) l)
+  keep-past e = rw (drop-cons l i 0 h, e)

@@ -16,13 +16,13 @@ use Rattle.card.proofs.mark_chain.Statement.{statement}
 use Rattle.card.proofs.mark_chain.Tie as tie
 
 abbrev Inv-loop : tie.InvT-loop
-Inv-loop card first n marks₀ next₀ i₀ marks next i =
+Inv-loop card m first n marks₀ next₀ i₀ marks next i =
     Chained (words card) next i
     × (unmarked marks₀ (chain (words card) first n) ≡ unmarked marks (chain (words card) next i))
     × ((b : ℕ) → (marked marks₀ b || elem b (chain (words card) first n)) ≡ (marked marks b || elem b (chain (words card) next i)))
 
 abbrev μ-loop : tie.MeasureT-loop
-μ-loop card first n marks₀ next₀ i₀ marks next i = i
+μ-loop card m first n marks₀ next₀ i₀ marks next i = i
 
 loop-holds : tie.Need-loop-holds Inv-loop μ-loop
 loop-holds c = (c .before .pre, refl, λ b. refl)
@@ -41,7 +41,7 @@ returns c =
     let e = chain-more W (a .loop .next) (a .loop .i) (c .before .before .loop-test .taken) in
     let hit = sym (c .before .is-marked .ensures) ∙ c .if1 .taken in (
       sym (a .loop .inv .1 ∙ rw e (apart-hit (marked (a .loop .marks)) (a .loop .next) (chain W (link W (a .loop .next)) (a .loop .i - 1)) hit)),
-      λ no. never no,
+      (λ no. refl, λ no. never no),
     )
 
 mark-requires : tie.Need-mark-requires Inv-loop μ-loop
@@ -77,7 +77,7 @@ returns-2 c =
     let s = a .before .before in
     let W = words (s .args .card .now) in
     let e = chain-none W (a .loop .next) (a .loop .i) (omega arith) in
-    (sym (a .loop .inv .1 ∙ rw e), λ yes b. sym (a .loop .inv .2 b ∙ rw e (or-false (marked (a .loop .marks) b))))
+    (sym (a .loop .inv .1 ∙ rw e), (λ no. never (sym no), λ yes b. sym (a .loop .inv .2 b ∙ rw e (or-false (marked (a .loop .marks) b)))))
 
 pub mark-chain-spec : {M : Type 1} → statement M
 mark-chain-spec =

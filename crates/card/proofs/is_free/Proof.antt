@@ -1,0 +1,64 @@
+-- `card::is_free` meets its contract. The invariant: the block is free where its words from `at` on are all ones. Assumes nothing.
+use mathlib.Core.Path.{_≡_, refl, sym, _∙_}
+use Prim.Native.Nat.{_-_, _≤_}
+use native.Mathlib.Omega.{arith}
+use lib.Dec.{eqb}
+use lib.ListN.{drop}
+use Rattle.lists.specs.Lists.{every}
+use Rattle.words.specs.Words.{words, allOnes}
+use Rattle.card.specs.Blocks.{block as blockOf, isFree}
+use Rattle.card.proofs.Taking.{free-past, free-not, free-end}
+use Rattle.card.proofs.is_free.Statement.{statement}
+use Rattle.card.proofs.is_free.Tie as tie
+
+abbrev Inv-loop : tie.InvT-loop
+Inv-loop card block at₀ at = (at ≤ 1024) × (isFree (words card) block ≡ every (eqb allOnes) (drop at (blockOf (words card) block)))
+
+abbrev μ-loop : tie.MeasureT-loop
+μ-loop card block at₀ at = 1024 - at
+
+loop-holds : tie.Need-loop-holds Inv-loop μ-loop
+loop-holds c = (omega arith, refl)
+
+block-word-requires : tie.Need-block-word-requires Inv-loop μ-loop
+block-word-requires c κs = omega arith
+
+returns : tie.Need-returns Inv-loop μ-loop
+returns c =
+    let a = c .before .before .before in
+    let s = a .before .before in
+    let W = words (s .args .card .now) in
+    sym (a .loop .inv .1 ∙ free-not W (s .args .block) (s .pre) (a .loop .at) (c .before .before .loop-test .taken) (λ e. c .if1 .taken (c .before .block-word .ensures ∙ e)))
+
+add-at : tie.Need-add-at Inv-loop μ-loop
+add-at c = omega arith
+
+loop-less : tie.Need-loop-less Inv-loop μ-loop
+loop-less c = omega arith
+
+loop-again : tie.Need-loop-again Inv-loop μ-loop
+loop-again c =
+    let a = c .before .before .before in
+    let s = a .before .before in
+    let W = words (s .args .card .now) in
+    (omega arith, a .loop .inv .1 ∙ free-past W (s .args .block) (s .pre) (a .loop .at) (c .before .before .loop-test .taken) (sym (c .before .block-word .ensures) ∙ c .if1 .left))
+
+returns-2 : tie.Need-returns-2 Inv-loop μ-loop
+returns-2 c =
+    let a = c .before in
+    let s = a .before .before in
+    sym (a .loop .inv .1 ∙ free-end (words (s .args .card .now)) (s .args .block) (s .pre) (a .loop .at) (c .loop-test .left))
+
+pub is-free-spec : {M : Type 1} → statement M
+is-free-spec =
+    tie.close
+    (tie.spec
+    Inv-loop
+    μ-loop
+    loop-holds
+    block-word-requires
+    returns
+    add-at
+    loop-less
+    loop-again
+    returns-2)
