@@ -9,3 +9,4 @@ pub mod ByteRule
 pub mod Refills
 pub mod Marking
 pub mod Taking
+pub mod Releasing

@@ -1,13 +1,15 @@
 // The card's blocks: links, chains, free blocks. A block's words begin at 1,024 times its number; the last one is its link.
 ghost use mathlib.Core.Bool.{Bool, true, false, _||_};
+ghost use mathlib.Core.List.{[], _∷_};
 ghost use mathlib.Core.Path.{_≡_};
-ghost use Prim.Native.Nat.{ℕ, _+_, _*_, _≤_, _<_};
+ghost use Prim.Native.Nat.{ℕ, _+_, _*_, _%_, _≤_, _<_};
 ghost use lib.Dec.{eqb, leb};
-ghost use lib.ListN.{length, getD, take, drop};
-ghost use Rattle.lists.specs.Lists.{elem};
+ghost use lib.ListN.{length, getD, set, take, drop};
+ghost use Rattle.lists.specs.Lists.{elem, different};
 ghost use Rattle.words.specs.Words.{words as wordsOf};
 ghost use Rattle.card.specs.Blocks.{link, isFree, afterTaken, freeBlocks};
 ghost use Rattle.card.specs.Chains.{chain, chainRule, content};
+ghost use Rattle.card.specs.Writes.{release};
 ghost use Rattle.card.specs.Cursors.{InCard, Chained, ahead, Good, headOf, movedOf};
 ghost use Rattle.card.specs.Free.{firstOf};
 ghost use Rattle.card.specs.Marks.{marked, unmarked};
@@ -233,4 +235,39 @@ pub fn enough_free(card: &[u8], blocks: u32, taken: u16, wanted: u32) -> bool
         i += 1;
     }
     missing == 0
+}
+
+// One word of a block changes. A card has whole words, so its words say all of it.
+pub fn put_block_word(card: &mut [u8], block: u16, at: u16, value: u32)
+    requires { ⌜ (length (now card) % 4 ≡ 0) × (1024 * block + at < length (wordsOf (now card))) ⌝ }
+    ensures { λ r. ⌜ wordsOf (now (card .exit)) ≡ set (wordsOf (now (card .entry))) (1024 * block + at) value ⌝ }
+{
+    words::put_word(card, 1024 * block as usize + at as usize, value);
+}
+
+// Frees a block: each of its words goes to all ones.
+pub fn release_block(card: &mut [u8], block: u16)
+    requires { ⌜ (length (now card) % 4 ≡ 0) × (1024 * block + 1023 < length (wordsOf (now card))) ⌝ }
+    ensures { λ r. ⌜ wordsOf (now (card .exit)) ≡ release (wordsOf (now (card .entry))) (block ∷ []) ⌝ }
+{
+    let mut at: u16 = 0;
+    while at < 1024 {
+        put_block_word(card, block, at, 4294967295);
+        at += 1;
+    }
+}
+
+// Frees the n blocks from `first` on. A link is read before its block is freed.
+pub fn release_chain(card: &mut [u8], first: u16, n: u32)
+    requires { ⌜ (length (now card) % 4 ≡ 0) × Chained (wordsOf (now card)) first n × (different (chain (wordsOf (now card)) first n) ≡ true) ⌝ }
+    ensures { λ r. ⌜ wordsOf (now (card .exit)) ≡ release (wordsOf (now (card .entry))) (chain (wordsOf (now (card .entry))) first n) ⌝ }
+{
+    let mut next = first as u32;
+    let mut i = n;
+    while 0 < i {
+        let block = next as u16;
+        next = block_word(card, block, 1023);
+        release_block(card, block);
+        i -= 1;
+    }
 }

@@ -1,12 +1,13 @@
--- Runs along a list: numbers upward, a test of each, a set of numbers that takes them in one by one.
+-- Runs along a list: stores one after another, numbers upward, a test of each, a set of numbers that takes them in one by one.
 use mathlib.Core.Bool.{Bool, true, false, _&&_, _||_, not}
 use mathlib.Core.List.{List, [], _∷_}
+use mathlib.Core.Logic.{_⊎_, inl, inr, ⊎-elim}
 use mathlib.Core.Path.{_≡_, refl, sym, ap, _∙_}
-use Prim.Native.Nat.{ℕ, zero, suc, _+_, _-_, _<_}
+use Prim.Native.Nat.{ℕ, zero, suc, _+_, _-_, _<_, _≤_}
 use native.Mathlib.Omega.{arith}
 use lib.Dec.{eqb, leb}
-use lib.ListN.{length, getD, drop}
-use lib.Seq.{drop-cons}
+use lib.ListN.{length, getD, set, drop}
+use lib.Seq.{drop-cons, sets, getD-set-other}
 use borrow.Author.Tests.{eqb-true, eqb-false, eq-eqb, ne-eqb, leb-true, leb-false, le-leb, lt-leb}
 use Rattle.lists.specs.Lists.{keep, every, elem, different, rising}
 use Rattle.lists.proofs.Bools.{by-test}
@@ -96,3 +97,10 @@ module _ (t : ℕ → Bool) (l : List ℕ) (i : ℕ) (h : i < length l) where
 
   pub keep-past : t (getD l i 0) ≡ false → keep t (drop i l) ≡ keep t (drop (suc i) l)
   keep-past e = rw (drop-cons l i 0 h, e)
+
+-- a run of stores leaves what lies before it and what lies past it
+pub getD-sets-out : {A : Type 0} (vs l : List A) (i k : ℕ) (d : A) → (k < i) ⊎ (i + length vs ≤ k) → getD (sets l i vs) k d ≡ getD l k d
+getD-sets-out [] l i k d h = refl
+getD-sets-out (v ∷ vs) l i k d h =
+    getD-sets-out vs (set l i v) (suc i) k d (⊎-elim (λ b. inl (omega arith)) (λ b. inr (omega arith)) h)
+    ∙ getD-set-other l i k v d (λ e. ⊎-elim (λ b. omega arith) (λ b. omega arith) h)

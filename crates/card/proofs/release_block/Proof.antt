@@ -1,0 +1,73 @@
+-- `card::release_block` meets its contract. The invariant: storing what is left of 1,024 words of all ones gives the freed block. Assumes nothing.
+use mathlib.Core.List.{[], _∷_}
+use mathlib.Core.Path.{_≡_, refl, sym, ap, _∙_}
+use Prim.Native.Nat.{_+_, _-_, _*_, _≤_}
+use native.Mathlib.Omega.{arith}
+use lib.ListN.{length, replicate}
+use lib.Seq.{sets}
+use Rattle.words.specs.Words.{words, allOnes}
+use Rattle.words.proofs.Views.{length-words}
+use Rattle.card.specs.Writes.{release}
+use Rattle.card.proofs.Releasing.{ones-more, release-one}
+use Rattle.card.proofs.release_block.Statement.{statement}
+use Rattle.card.proofs.release_block.Tie as tie
+
+abbrev Inv-loop : tie.InvT-loop
+Inv-loop card₀ block at₀ card at =
+    (at ≤ 1024)
+    × (length card ≡ length card₀)
+    × (release (words card₀) (block ∷ []) ≡ sets (words card) (1024 * block + at) (replicate (1024 - at) allOnes))
+
+abbrev μ-loop : tie.MeasureT-loop
+μ-loop card₀ block at₀ card at = 1024 - at
+
+loop-holds : tie.Need-loop-holds Inv-loop μ-loop
+loop-holds c = let e : 1024 * c .before .args .block + 0 ≡ 1024 * c .before .args .block = omega arith in (omega arith, refl, release-one (words (c .before .args .card .now)) (c .before .args .block) ∙ rw e)
+
+put-block-word-requires : tie.Need-put-block-word-requires Inv-loop μ-loop
+put-block-word-requires c κs =
+    let a = c .before .before in
+    omega (arith, length-words (a .loop .card), length-words (a .before .before .args .card .now))
+
+add-at : tie.Need-add-at Inv-loop μ-loop
+add-at c = omega arith
+
+loop-less : tie.Need-loop-less Inv-loop μ-loop
+loop-less c = omega arith
+
+loop-again : tie.Need-loop-again Inv-loop μ-loop
+loop-again c =
+    let a = c .before .before .before .before .before in
+    let s = a .before .before in
+    let v = a .loop .inv in
+    let put = c .before .before .put-block-word in
+    let n : 1024 - (a .loop .at + 1) ≡ 1024 - a .loop .at - 1 = omega arith in
+    let k : 1024 * s .args .block + (a .loop .at + 1) ≡ 1024 * s .args .block + a .loop .at + 1 = omega arith in (
+      omega arith,
+      put .kept .0 ∙ v .1,
+      v .2 ∙ ones-more (words (a .loop .card)) (1024 * s .args .block + a .loop .at) (1024 - a .loop .at) (omega arith) ∙ rw (put .ensures, n, k),
+    )
+
+same-length : tie.Need-same-length Inv-loop μ-loop
+same-length c = c .before .loop .inv .1
+
+returns : tie.Need-returns Inv-loop μ-loop
+returns c =
+    let a = c .before in
+    let s = a .before .before in
+    let e : 1024 - a .loop .at ≡ 0 = omega arith in
+    sym (a .loop .inv .2 ∙ rw e)
+
+pub release-block-spec : {M : Type 1} → statement M
+release-block-spec =
+    tie.close
+    (tie.spec
+    Inv-loop
+    μ-loop
+    loop-holds
+    put-block-word-requires
+    add-at
+    loop-less
+    loop-again
+    same-length
+    returns)

@@ -1,0 +1,75 @@
+-- `card::release_chain` meets its contract. The invariant: freeing the blocks that are left gives the card with the whole chain freed; they are
+-- different blocks of the card. Assumes nothing.
+use mathlib.Core.Bool.{true}
+use mathlib.Core.Path.{_≡_, refl, sym, _∙_}
+use native.Mathlib.Omega.{arith}
+use lib.ListN.{length}
+use Rattle.lists.specs.Lists.{different}
+use Rattle.words.specs.Words.{words}
+use Rattle.card.specs.Chains.{chain}
+use Rattle.card.specs.Cursors.{Chained}
+use Rattle.card.specs.Writes.{release}
+use Rattle.card.proofs.Chains.{chained-more}
+use Rattle.card.proofs.Releasing.{release-more, release-none}
+use Rattle.card.proofs.release_chain.Statement.{statement}
+use Rattle.card.proofs.release_chain.Tie as tie
+
+abbrev Inv-loop : tie.InvT-loop
+Inv-loop card₀ first n next₀ i₀ card next i =
+    (length card ≡ length card₀)
+    × Chained (words card) next i
+    × (different (chain (words card) next i) ≡ true)
+    × (release (words card₀) (chain (words card₀) first n) ≡ release (words card) (chain (words card) next i))
+
+abbrev μ-loop : tie.MeasureT-loop
+μ-loop card₀ first n next₀ i₀ card next i = i
+
+loop-holds : tie.Need-loop-holds Inv-loop μ-loop
+loop-holds c = (refl, c .before .pre .1, c .before .pre .2, refl)
+
+cast-block : tie.Need-cast-block Inv-loop μ-loop
+cast-block c = let a = c .before in omega (arith, chained-more (words (a .loop .card)) (a .loop .next) (a .loop .i) (c .loop-test .taken) (a .loop .inv .1) .0 .few)
+
+block-word-requires : tie.Need-block-word-requires Inv-loop μ-loop
+block-word-requires c κs = let a = c .before .before in chained-more (words (a .loop .card)) (a .loop .next) (a .loop .i) (c .before .loop-test .taken) (a .loop .inv .1) .0 .inside
+
+release-block-requires : tie.Need-release-block-requires Inv-loop μ-loop
+release-block-requires c κs = let a = c .before .before .before .before in (omega arith, chained-more (words (a .loop .card)) (a .loop .next) (a .loop .i) (c .before .before .before .loop-test .taken) (a .loop .inv .1) .0 .inside)
+
+sub-i : tie.Need-sub-i Inv-loop μ-loop
+sub-i c = omega arith
+
+loop-less : tie.Need-loop-less Inv-loop μ-loop
+loop-less c = omega arith
+
+loop-again : tie.Need-loop-again Inv-loop μ-loop
+loop-again c =
+    let a = c .before .before .before .before .before .before .before in
+    let v = a .loop .inv in
+    let freed = c .before .before .release-block in
+    let m = release-more (words (a .loop .card)) (a .loop .next) (a .loop .i) (c .before .before .before .before .before .before .loop-test .taken) (v .1) (v .2) in
+    rw (freed .ensures, c .before .before .before .before .block-word .ensures) (freed .kept .0 ∙ v .0, m .0, m .1, v .3 ∙ m .2)
+
+same-length : tie.Need-same-length Inv-loop μ-loop
+same-length c = c .before .loop .inv .0
+
+returns : tie.Need-returns Inv-loop μ-loop
+returns c =
+    let a = c .before in
+    sym (a .loop .inv .3 ∙ release-none (words (a .loop .card)) (a .loop .next) (a .loop .i) (omega arith))
+
+pub release-chain-spec : {M : Type 1} → statement M
+release-chain-spec =
+    tie.close
+    (tie.spec
+    Inv-loop
+    μ-loop
+    loop-holds
+    cast-block
+    block-word-requires
+    release-block-requires
+    sub-i
+    loop-less
+    loop-again
+    same-length
+    returns)
