@@ -10,3 +10,4 @@ pub mod Neighbours
 pub mod Padding
 pub mod Parts
 pub mod Runs
+pub mod Same

@@ -1,0 +1,103 @@
+-- Equality of lists of numbers as a test, tests of parts of a list, and runs of stores.
+use mathlib.Core.Bool.{Bool, true, false, _&&_, _||_}
+use mathlib.Core.List.{List, [], _∷_, _++_}
+use mathlib.Core.Path.{_≡_, refl, sym, ap, ap₂, _∙_}
+use Prim.Native.Nat.{ℕ, zero, suc, _+_, _-_, _<_, _≤_}
+use native.Mathlib.Nat.{add-suc}
+use native.Mathlib.Omega.{arith}
+use borrow.Author.Tests.{eqb-true, eq-eqb}
+use lib.Dec.{eqb}
+use lib.ListN.{length, getD, take, drop, set, replicate}
+use lib.Seq.{sets, drop-cons, take-set-le, drop-set-add, getD-set-other}
+use Rattle.lists.specs.Lists.{any, every, same}
+use Rattle.lists.proofs.Bools.{by-test, and-left, and-right, and-both}
+
+-- The test of equality ----------------------------------------------------------------------------------------------
+
+pub same-refl : (a : List ℕ) → same a a ≡ true
+same-refl [] = refl
+same-refl (x ∷ a) = rw (eq-eqb x x refl, same-refl a)
+
+pub same-true : (a b : List ℕ) → same a b ≡ true → a ≡ b
+same-true [] [] e = refl
+same-true [] (y ∷ b) e = cc
+same-true (x ∷ a) [] e = cc
+same-true (x ∷ a) (y ∷ b) e = ap₂ _∷_ (eqb-true x y (and-left (eqb x y) _ e)) (same-true a b (and-right (eqb x y) _ e))
+
+pub eq-same : (a b : List ℕ) → a ≡ b → same a b ≡ true
+eq-same a b e = rw e (same-refl b)
+
+pub same-false : (a b : List ℕ) → same a b ≡ false → a ≡ b → ⊥
+same-false a b e p =
+    let q : same a b ≡ true = eq-same a b p in
+    let z : _≡_ {A = ℕ} 0 1 = cc in
+    omega arith
+
+pub ne-same : (a b : List ℕ) → (a ≡ b → ⊥) → same a b ≡ false
+ne-same a b n = by-test (same a b) (λ e. absurd (n (same-true a b e))) (λ e. e)
+
+pub same-swap : (a b : List ℕ) → same a b ≡ same b a
+same-swap a b =
+    by-test
+    (same a b)
+    (λ e. e ∙ sym (eq-same b a (sym (same-true a b e))))
+    (λ e. e ∙ sym (ne-same b a (λ p. same-false a b e (sym p))))
+
+-- lists of unequal length are not the same
+pub same-length : (a b : List ℕ) → (length a ≡ length b → ⊥) → same a b ≡ false
+same-length a b n = ne-same a b (λ e. n (ap length e))
+
+-- two lists from place i on
+pub same-step : (a b : List ℕ) (i : ℕ) → i < length a → i < length b
+    → same (drop i a) (drop i b) ≡ (eqb (getD a i 0) (getD b i 0) && same (drop (suc i) a) (drop (suc i) b))
+same-step a b i p q = rw (drop-cons a i 0 p, drop-cons b i 0 q)
+
+-- Tests of parts ----------------------------------------------------------------------------------------------------
+
+module _ {A : Type 0} (t : A → Bool) where
+  pub any-append : (l m : List A) → any t (l ++ m) ≡ (any t l || any t m)
+  any-append [] m = refl
+  any-append (x ∷ l) m = by-test (t x) (λ e. rw e) (λ e. rw e (any-append l m))
+
+  -- the elements from place i on
+  pub every-step : (l : List A) (i : ℕ) (d : A) → i < length l → every t (drop i l) ≡ (t (getD l i d) && every t (drop (suc i) l))
+  every-step l i d h = rw (drop-cons l i d h)
+
+  pub every-drop : (n : ℕ) (l : List A) → every t l ≡ true → every t (drop n l) ≡ true
+  every-drop zero l e = e
+  every-drop (suc n) [] e = refl
+  every-drop (suc n) (x ∷ l) e = every-drop n l (and-right (t x) _ e)
+
+  pub every-take : (n : ℕ) (l : List A) → every t l ≡ true → every t (take n l) ≡ true
+  every-take zero l e = refl
+  every-take (suc n) [] e = refl
+  every-take (suc n) (x ∷ l) e = and-both (t x) _ (and-left (t x) _ e) (every-take n l (and-right (t x) _ e))
+
+  pub every-replicate : (n : ℕ) (x : A) → t x ≡ true → every t (replicate n x) ≡ true
+  every-replicate zero x e = refl
+  every-replicate (suc n) x e = rw e (every-replicate n x e)
+
+  pub every-set : (l : List A) (i : ℕ) (x : A) → every t l ≡ true → t x ≡ true → every t (set l i x) ≡ true
+  every-set [] i x e p = refl
+  every-set (y ∷ l) zero x e p = and-both (t x) _ p (and-right (t y) _ e)
+  every-set (y ∷ l) (suc i) x e p = and-both (t y) _ (and-left (t y) _ e) (every-set l i x (and-right (t y) _ e) p)
+
+-- Runs of stores ----------------------------------------------------------------------------------------------------
+
+module _ {A : Type 0} where
+  pub take-sets-le : (n : ℕ) (l : List A) (i : ℕ) (vs : List A) → n ≤ i → take n (sets l i vs) ≡ take n l
+  take-sets-le n l i [] h = refl
+  take-sets-le n l i (v ∷ vs) h = take-sets-le n (set l i v) (suc i) vs (omega arith) ∙ take-set-le n l i v h
+
+  pub drop-sets-add : (n : ℕ) (l : List A) (i : ℕ) (vs : List A) → drop n (sets l (n + i) vs) ≡ sets (drop n l) i vs
+  drop-sets-add n l i [] = refl
+  drop-sets-add n l i (v ∷ vs) =
+      rw (← add-suc n i) (drop-sets-add n (set l (n + i) v) (suc i) vs) ∙ ap (λ (k : List A). sets k (suc i) vs) (drop-set-add n l i v)
+
+  -- a place outside the run keeps its element
+  pub getD-sets-other : (l : List A) (i : ℕ) (vs : List A) (k : ℕ) (d : A) → (i ≤ k → k < i + length vs → ⊥)
+      → getD (sets l i vs) k d ≡ getD l k d
+  getD-sets-other l i [] k d h = refl
+  getD-sets-other l i (v ∷ vs) k d h =
+      getD-sets-other (set l i v) (suc i) vs k d (λ p q. h (omega arith) (omega arith))
+      ∙ getD-set-other l i k v d (λ e. h (omega arith) (omega arith))
