@@ -1,0 +1,33 @@
+-- `identifiers::entry_at` meets its contract: an entry lies whole within the register.
+use mathlib.Core.Path.{_≡_, refl, sym, ap, _∙_}
+use Prim.Native.Nat.{_+_, _*_, _-_}
+use native.Mathlib.Omega.{arith}
+use borrow.Author.Needs.{needs}
+use Rattle.identifiers.proofs.Entries.{entry-room, entry-at}
+use Rattle.identifiers.proofs.entry_at.Statement.{statement}
+use Rattle.identifiers.proofs.entry_at.Tie as tie
+
+mul-at : tie.Need-mul-at
+mul-at c = omega (arith, entry-room (c .args .register .now) (c .args .i) (c .pre))
+
+add-end : tie.Need-add-end
+add-end c = omega (arith, entry-room (c .args .register .now) (c .args .i) (c .pre))
+
+sub-result : tie.Need-sub-result
+sub-result c = search needs
+
+part-result-start : tie.Need-part-result-start
+part-result-start c = search needs
+
+part-result-end : tie.Need-part-result-end
+part-result-end c = omega (arith, entry-room (c .args .register .now) (c .args .i) (c .pre))
+
+returns : tie.Need-returns
+returns c =
+    let i = c .before .args .i in
+    let e : 65 * i + 65 - 65 * i ≡ 65 = omega arith in
+    rw e (sym (entry-at (c .before .args .register .now) i (c .before .pre)))
+
+pub entry-at-spec : {M : Type 1} → statement M
+entry-at-spec =
+    tie.close (tie.spec mul-at add-end sub-result part-result-start part-result-end returns)

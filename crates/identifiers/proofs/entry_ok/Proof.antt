@@ -1,0 +1,80 @@
+-- `identifiers::entry_ok` meets its contract, test by test.
+use mathlib.Core.Bool.{Bool, true, false, _&&_, not}
+use mathlib.Core.Logic.{⊎-elim}
+use mathlib.Core.Path.{_≡_, refl, sym, ap, _∙_}
+use Prim.Native.Nat.{_+_, _-_, _≤_}
+use native.Mathlib.Omega.{arith}
+use borrow.Author.Needs.{needs}
+use borrow.Author.Tests.{le-leb, lt-leb, lt-ltb, le-ltb}
+use lib.Dec.{eqb}
+use lib.ListN.{length, take, drop, length-drop}
+use lib.Seq.{take-all}
+use Rattle.lists.specs.Lists.{every}
+use Rattle.identifiers.specs.Register.{size, used, entryRule}
+use Rattle.identifiers.proofs.entry_ok.Statement.{statement}
+use Rattle.identifiers.proofs.entry_ok.Tie as tie
+
+and-none : (a : Bool) → (a && false) ≡ false
+and-none true = refl
+and-none false = refl
+
+and-all : (a : Bool) → (a && true) ≡ a
+and-all true = refl
+and-all false = refl
+
+shared-slice-read-size : tie.Need-shared-slice-read-size
+shared-slice-read-size c = search needs
+
+cast-size : tie.Need-cast-size
+cast-size c = omega (arith, c .shared-slice-known2 .given 0)
+
+returns : tie.Need-returns
+returns c = sym (rw (lt-leb _ _ (c .if1 .taken)))
+
+returns-2 : tie.Need-returns-2
+returns-2 c =
+    let s = c .before .before .before .before .before in
+    let u : used (s .args .entry .now) ≡ true = lt-ltb 0 (size (s .args .entry .now)) (c .if3 .taken) in
+    sym (rw (c .before .if2 .taken, u) (and-none (entryRule (s .args .entry .now))))
+
+add-rest : tie.Need-add-rest
+add-rest c = search needs
+
+sub-zeros : tie.Need-sub-zeros
+sub-zeros c = search needs
+
+part-zeros-start : tie.Need-part-zeros-start
+part-zeros-start c = search needs
+
+part-zeros-end : tie.Need-part-zeros-end
+part-zeros-end c = search needs
+
+zeros-requires : tie.Need-zeros-requires
+zeros-requires c κs = search needs
+
+returns-3 : tie.Need-returns-3
+returns-3 c =
+    let s = c .before .before .before .before .before .before in
+    let e = s .args .entry .now in
+    let k = 1 + size e in
+    let t : take (length e - k) (drop k e) ≡ drop k e = take-all (length e - k) (drop k e) (rw (length-drop k e) (omega arith)) in
+    let q : c .zeros .result ≡ every (λ b. eqb b 0) (drop k e) = c .zeros .ensures ∙ ap (every (λ b. eqb b 0)) t in
+    let l : size e ≤ 64 = c .before .before .before .if1 .left in
+    let n : (s .args .ended && used e) ≡ false =
+    ⊎-elim (λ w. rw (le-ltb 0 (size e) (w .1 .left)) (and-none (s .args .ended))) (λ w. rw (w .left)) (c .before .before .if2 .came) in
+    rw (q, n, le-leb (size e) 64 l) (sym (and-all (every (λ b. eqb b 0) (drop (1 + size e) e))))
+
+pub entry-ok-spec : {M : Type 1} → statement M
+entry-ok-spec =
+    tie.close
+    (tie.spec
+    shared-slice-read-size
+    cast-size
+    returns
+    returns-2
+    add-rest
+    sub-zeros
+    part-zeros-start
+    part-zeros-end
+    zeros-requires
+    returns-3)

@@ -1,0 +1,30 @@
+-- `identifiers::register_ok` meets its contract: the rule is that of a formed register whose identifiers differ.
+use mathlib.Core.Bool.{true, false, _&&_}
+use mathlib.Core.Path.{_≡_, refl, sym, ap, _∙_}
+use borrow.Author.Needs.{needs}
+use borrow.Author.Tests.{not-true, not-false}
+use Rattle.identifiers.specs.Formed.{formed}
+use Rattle.identifiers.proofs.Entries.{rule-parts}
+use Rattle.identifiers.proofs.register_ok.Statement.{statement}
+use Rattle.identifiers.proofs.register_ok.Tie as tie
+
+formed-requires : tie.Need-formed-requires
+formed-requires c κs = search needs
+
+returns : tie.Need-returns
+returns c =
+    let r = c .before .before .before .args .register .now in
+    let f : formed r ≡ false = sym (c .before .formed .ensures) ∙ not-true _ (c .if1 .taken) in
+    sym (rule-parts r ∙ rw f)
+
+all-different-requires : tie.Need-all-different-requires
+all-different-requires c κs = sym (c .before .formed .ensures) ∙ not-false _ (c .if1 .left)
+
+returns-2 : tie.Need-returns-2
+returns-2 c =
+    let r = c .before .before .before .before .args .register .now in
+    let f : formed r ≡ true = sym (c .before .before .formed .ensures) ∙ not-false _ (c .before .if1 .left) in
+    c .all-different .ensures ∙ sym (rule-parts r ∙ rw f)
+
+pub register-ok-spec : {M : Type 1} → statement M
+register-ok-spec = tie.close (tie.spec formed-requires returns all-different-requires returns-2)
