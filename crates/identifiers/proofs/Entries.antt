@@ -146,6 +146,10 @@ module _ (r : List ℕ) (f : formed r ≡ true) where
   pub names-within : length (names r) ≤ length (entries r)
   names-within = rw (count-names r) (length-keep used (entries r))
 
+  -- a register of at most 1,024 entries has at most as many identifiers
+  pub names-bound : length r ≤ 66560 → length (names r) ≤ 1024
+  names-bound l = omega (arith, names-within, length-entries r)
+
   pub name-inside : (i : ℕ) → i < length (names r) → i < length (entries r)
   name-inside i h = omega (arith, names-within)
 

@@ -1,3 +1,4 @@
 pub mod Names
 pub mod Entries
 pub mod Added
+pub mod Chains

@@ -1,3 +1,4 @@
 pub mod Names
 pub mod Register
 pub mod Formed
+pub mod Chains

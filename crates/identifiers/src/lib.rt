@@ -9,6 +9,7 @@ ghost use Rattle.lists.specs.Lists.{every, same};
 ghost use Rattle.identifiers.specs.Names.{badLength, among, distinct, numberOf};
 ghost use Rattle.identifiers.specs.Register.{entries, used, entryRule, names, registerRule, added as addedTo};
 ghost use Rattle.identifiers.specs.Formed.{formed as formedRule};
+ghost use Rattle.identifiers.specs.Chains.{hashOf, Chained};
 
 // Is an identifier empty or too long?
 pub fn bad_length(id: &[u8]) -> bool
@@ -123,35 +124,56 @@ fn name_at(register: &[u8], i: usize) -> &[u8]
     &entry[1..end]
 }
 
-// Is the identifier with a number among those before it?
-fn repeated(register: &[u8], i: usize) -> bool
-    requires { ⌜ (formedRule (now register) ≡ true) × (i < length (names (now register))) ⌝ }
+// The hash of an identifier.
+fn hash_of(name: &[u8]) -> usize
+    ensures { λ r. ⌜ r ≡ hashOf (now (name .entry)) ⌝ }
+{
+    let mut hash = name.len() % 1024;
+    let mut i: usize = 0;
+    while i < name.len() {
+        hash = (31 * hash + name[i] as usize) % 1024;
+        i += 1;
+    }
+    hash
+}
+
+// Is the identifier with a number among those before it? Only those on its chain can be equal to it.
+fn repeated(register: &[u8], links: &[u16; 1024], first: usize, i: usize) -> bool
+    requires { ⌜ (formedRule (now register) ≡ true) × Chained (names (now register)) i first (now links) ⌝ }
     ensures { λ r. ⌜ r ≡ among (getD (names (now (register .entry))) i []) (take i (names (now (register .entry)))) ⌝ }
 {
     let name = name_at(register, i);
-    let mut left = i;
+    let mut left = first;
     while 0 < left {
-        left -= 1;
-        let other = name_at(register, left);
+        let place = left - 1;
+        let other = name_at(register, place);
         if equal(other, name) {
             return true;
         }
+        left = links[place] as usize;
     }
     false
 }
 
-// Do all identifiers of a formed register differ?
+// Do all identifiers of a formed register differ? Places with equal hashes are chained: `heads` holds, by hash, one more than the
+// last place so far, and `links`, by place, one more than the one before it on its chain; 0 ends a chain.
 fn all_different(register: &[u8]) -> bool
-    requires { ⌜ formedRule (now register) ≡ true ⌝ }
+    requires { ⌜ (formedRule (now register) ≡ true) × (length (now register) ≤ 66560) ⌝ }
     ensures { λ r. ⌜ r ≡ distinct (names (now (register .entry))) ⌝ }
 {
     let used = count_used(register);
+    let mut heads = [0u16; 1024];
+    let mut links = [0u16; 1024];
     let mut i: usize = 0;
     while i < used {
-        if repeated(register, i) {
+        let hash = hash_of(name_at(register, i));
+        let first = heads[hash];
+        if repeated(register, &links, first as usize, i) {
             return false;
         }
+        links[i] = first;
         i += 1;
+        heads[hash] = i as u16;
     }
     true
 }

@@ -18,7 +18,7 @@ returns c =
     sym (rule-parts r ∙ rw f)
 
 all-different-requires : tie.Need-all-different-requires
-all-different-requires c κs = sym (c .before .formed .ensures) ∙ not-false _ (c .if1 .left)
+all-different-requires c κs = (sym (c .before .formed .ensures) ∙ not-false _ (c .if1 .left), c .before .before .before .pre)
 
 returns-2 : tie.Need-returns-2
 returns-2 c =

@@ -1,38 +1,50 @@
--- `identifiers::repeated` meets its contract. The loop's invariant: the answer is that for the identifiers that are left.
+-- `identifiers::repeated` meets its contract. The loop's invariant: the answer is that for the identifiers that are left, and the last of them has the
+-- hash that is looked for.
 use mathlib.Core.Bool.{true, false, _||_}
 use mathlib.Core.List.{List, []}
 use mathlib.Core.Path.{_≡_, refl, sym, ap, ap₂, _∙_}
 use Prim.Native.Nat.{ℕ, suc, _-_, _<_, _≤_}
-use native.Mathlib.Nat.{le-refl}
 use native.Mathlib.Omega.{arith}
 use borrow.Author.Needs.{needs}
 use lib.ListN.{length, getD, take}
 use Rattle.lists.specs.Lists.{same}
 use Rattle.identifiers.specs.Names.{Name, among}
 use Rattle.identifiers.specs.Register.{names}
+use Rattle.identifiers.specs.Chains.{hashOf, lastWith}
 use Rattle.identifiers.proofs.Names.{among-upto}
+use Rattle.identifiers.proofs.Chains.{last-within, last-hash, last-among}
 use Rattle.identifiers.proofs.repeated.Statement.{statement}
 use Rattle.identifiers.proofs.repeated.Tie as tie
 
 abbrev Inv-loop : tie.InvT-loop
-Inv-loop register i name left₀ left =
+Inv-loop register links first i name left₀ left =
     (left ≤ i)
     × (among (getD (names register) i []) (take i (names register)) ≡ among (getD (names register) i []) (take left (names register)))
+    × ((p : ℕ) → left ≡ suc p → hashOf (getD (names register) p []) ≡ hashOf (getD (names register) i []))
 
 abbrev μ-loop : tie.MeasureT-loop
-μ-loop register i name left₀ left = left
+μ-loop register links first i name left₀ left = left
 
 name-at-requires : tie.Need-name-at-requires Inv-loop μ-loop
-name-at-requires c κs = c .before .pre
+name-at-requires c κs = (c .before .pre .0, c .before .pre .1 .there)
 
 loop-holds : tie.Need-loop-holds Inv-loop μ-loop
-loop-holds c = (le-refl _, refl)
+loop-holds c =
+    let s = c .before .before in
+    let ms = names (s .args .register .now) in
+    let i = s .args .i in
+    let b = s .pre .1 .begins in
+    rw b (
+      last-within ms (hashOf (getD ms i [])) i,
+      last-among ms (getD ms i []) i (omega (arith, s .pre .1 .there)),
+      λ p e. last-hash ms (hashOf (getD ms i [])) i p e,
+    )
 
-sub-left : tie.Need-sub-left Inv-loop μ-loop
-sub-left c = omega arith
+sub-place : tie.Need-sub-place Inv-loop μ-loop
+sub-place c = omega arith
 
 name-at-requires-2 : tie.Need-name-at-requires-2 Inv-loop μ-loop
-name-at-requires-2 c κs = let s = c .before .before .before .before in (s .pre .0, omega (arith, s .pre .1))
+name-at-requires-2 c κs = let s = c .before .before .before .before in (s .pre .0, omega (arith, s .pre .1 .there))
 
 equal-requires : tie.Need-equal-requires Inv-loop μ-loop
 equal-requires c κs = search needs
@@ -46,29 +58,56 @@ returns c =
     let n = getD ms i [] in
     let p = l .loop .left - 1 in
     let q : l .loop .left ≡ suc p = omega arith in
-    let h : p < length ms = omega (arith, s .pre .1) in
+    let h : p < length ms = omega (arith, s .pre .1 .there) in
     let e : same (getD ms p []) n ≡ true =
     ap₂ same (sym (c .before .before .name-at2 .ensures)) (sym (l .before .name-at .ensures)) ∙ sym (c .before .equal .ensures) ∙ c .if1 .taken in
     let t : among n (take (l .loop .left) ms) ≡ (same (getD ms p []) n || among n (take p ms)) = ap (λ (k : ℕ). among n (take k ms)) q ∙ among-upto ms p h n in
     sym (l .loop .inv .1 ∙ t ∙ rw e)
 
+mul-left : tie.Need-mul-left Inv-loop μ-loop
+mul-left c = omega (arith, c .before .before .before .before .before .before .before .pre .1 .room)
+
+element-copy-out-left : tie.Need-element-copy-out-left Inv-loop μ-loop
+element-copy-out-left c = omega (arith, c .before .before .before .before .before .before .before .pre .1 .room)
+
+cast-left : tie.Need-cast-left Inv-loop μ-loop
+cast-left c =
+    let l = c .before .before .before .before .before in
+    let s = l .before .before .before in
+    let ms = names (s .args .register .now) in
+    let p = l .loop .left - 1 in
+    let k : getD (s .args .links .now) p 0 ≡ lastWith ms (hashOf (getD ms p [])) p = s .pre .1 .linked p (omega arith) in
+    omega (arith, k, last-within ms (hashOf (getD ms p [])) p, s .pre .1 .room)
+
 loop-less : tie.Need-loop-less Inv-loop μ-loop
-loop-less c = omega arith
+loop-less c =
+    let l = c .before .before .before .before .before in
+    let s = l .before .before .before in
+    let ms = names (s .args .register .now) in
+    let p = l .loop .left - 1 in
+    let k : getD (s .args .links .now) p 0 ≡ lastWith ms (hashOf (getD ms p [])) p = s .pre .1 .linked p (omega arith) in
+    omega (arith, k, last-within ms (hashOf (getD ms p [])) p)
 
 loop-again : tie.Need-loop-again Inv-loop μ-loop
 loop-again c =
-    let l = c .before .before .before .before in
+    let l = c .before .before .before .before .before in
     let s = l .before .before .before in
     let ms = names (s .args .register .now) in
     let i = s .args .i in
     let n = getD ms i [] in
     let p = l .loop .left - 1 in
     let q : l .loop .left ≡ suc p = omega arith in
-    let h : p < length ms = omega (arith, s .pre .1) in
+    let h : p < length ms = omega (arith, s .pre .1 .there) in
     let e : same (getD ms p []) n ≡ false =
-    ap₂ same (sym (c .before .before .name-at2 .ensures)) (sym (l .before .name-at .ensures)) ∙ sym (c .before .equal .ensures) ∙ c .if1 .left in
+    ap₂ same (sym (c .before .before .before .name-at2 .ensures)) (sym (l .before .name-at .ensures)) ∙ sym (c .before .before .equal .ensures) ∙ c .before .if1 .left in
     let t : among n (take (l .loop .left) ms) ≡ (same (getD ms p []) n || among n (take p ms)) = ap (λ (k : ℕ). among n (take k ms)) q ∙ among-upto ms p h n in
-    (omega arith, l .loop .inv .1 ∙ t ∙ rw e)
+    let k : getD (s .args .links .now) p 0 ≡ lastWith ms (hashOf n) p =
+    s .pre .1 .linked p (omega arith) ∙ ap (λ (x : ℕ). lastWith ms x p) (l .loop .inv .2 p q) in
+    rw k (
+      omega (arith, last-within ms (hashOf n) p),
+      l .loop .inv .1 ∙ t ∙ rw e (last-among ms n p (omega arith)),
+      λ j z. last-hash ms (hashOf n) p j z,
+    )
 
 returns-2 : tie.Need-returns-2 Inv-loop μ-loop
 returns-2 c =
@@ -84,10 +123,13 @@ repeated-spec =
     μ-loop
     name-at-requires
     loop-holds
-    sub-left
+    sub-place
     name-at-requires-2
     equal-requires
     returns
+    mul-left
+    element-copy-out-left
+    cast-left
     loop-less
     loop-again
     returns-2)

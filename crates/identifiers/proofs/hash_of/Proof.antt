@@ -1,0 +1,68 @@
+-- `identifiers::hash_of` meets its contract. The loop's invariant: the hash so far, taken on over the bytes to come, is that of the whole.
+use mathlib.Core.List.{List, []}
+use mathlib.Core.Path.{_≡_, refl, sym, ap, _∙_}
+use Prim.Native.Nat.{ℕ, _-_, _<_, _≤_, zero-le}
+use native.Mathlib.Numerals.{add-one}
+use native.Mathlib.Omega.{arith}
+use lib.ListN.{length, getD, drop, drop-of-length-le}
+use Rattle.identifiers.specs.Chains.{hashFrom, hashOf}
+use Rattle.identifiers.proofs.Chains.{hash-step}
+use Rattle.identifiers.proofs.hash_of.Statement.{statement}
+use Rattle.identifiers.proofs.hash_of.Tie as tie
+
+abbrev Inv-loop : tie.InvT-loop
+Inv-loop name hash₀ i₀ hash i = (i ≤ length name) × (hash < 1024) × (hashOf name ≡ hashFrom hash (drop i name))
+
+abbrev μ-loop : tie.MeasureT-loop
+μ-loop name hash₀ i₀ hash i = length name - i
+
+loop-holds : tie.Need-loop-holds Inv-loop μ-loop
+unfolding hashOf
+loop-holds c = (zero-le, omega arith, refl)
+
+mul-hash : tie.Need-mul-hash Inv-loop μ-loop
+mul-hash c = omega arith
+
+shared-slice-read-hash : tie.Need-shared-slice-read-hash Inv-loop μ-loop
+shared-slice-read-hash c = omega arith
+
+cast-hash : tie.Need-cast-hash Inv-loop μ-loop
+cast-hash c = omega (arith, c .shared-slice-known .given (c .before .before .loop .i))
+
+add-hash : tie.Need-add-hash Inv-loop μ-loop
+add-hash c = omega (arith, c .shared-slice-known .given (c .before .before .loop .i))
+
+add-i : tie.Need-add-i Inv-loop μ-loop
+add-i c = omega arith
+
+loop-less : tie.Need-loop-less Inv-loop μ-loop
+loop-less c = omega arith
+
+loop-again : tie.Need-loop-again Inv-loop μ-loop
+loop-again c =
+    let l = c .before .before in
+    let n = l .before .args .name .now in
+    (omega arith, omega arith, rw add-one (l .loop .inv .2 ∙ hash-step (l .loop .hash) n (l .loop .i) (omega arith)))
+
+returns : tie.Need-returns Inv-loop μ-loop
+unfolding hashFrom
+returns c =
+    let l = c .before in
+    let n = l .before .args .name .now in
+    sym (l .loop .inv .2 ∙ rw (drop-of-length-le n {i = l .loop .i} (omega arith)))
+
+pub hash-of-spec : {M : Type 1} → statement M
+hash-of-spec =
+    tie.close
+    (tie.spec
+    Inv-loop
+    μ-loop
+    loop-holds
+    mul-hash
+    shared-slice-read-hash
+    cast-hash
+    add-hash
+    add-i
+    loop-less
+    loop-again
+    returns)
