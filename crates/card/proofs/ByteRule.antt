@@ -18,7 +18,7 @@ use Rattle.words.proofs.Views.{length-words, bytes-words}
 use Rattle.card.specs.Blocks.{block, isFree}
 use Rattle.card.specs.Writes.{store, release}
 use Rattle.card.proofs.Stores.{store-apart, release-apart, length-store, length-release}
-use Rattle.card.proofs.Free.{block-released}
+use Rattle.card.proofs.FreeBlocks.{block-released}
 
 -- Words ------------------------------------------------------------------------------------------------------------
 

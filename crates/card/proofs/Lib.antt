@@ -4,7 +4,7 @@ pub mod Chains
 pub mod Links
 pub mod Stores
 pub mod Stored
-pub mod Free
+pub mod FreeBlocks
 pub mod ByteRule
 pub mod Refills
 pub mod Marking

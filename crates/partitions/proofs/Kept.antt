@@ -16,7 +16,7 @@ use Rattle.card.specs.Chains.{blocksFor, chain, chainRule, content}
 use Rattle.card.specs.Writes.{store, release}
 use Rattle.card.proofs.Stores.{Agree, apart, store-agrees, release-agrees, chain-agree, rule-agree, content-agree}
 use Rattle.card.proofs.Links.{onCard}
-use Rattle.card.proofs.Free.{chain-taken, apart-free}
+use Rattle.card.proofs.FreeBlocks.{chain-taken, apart-free}
 use Rattle.card.proofs.Stored.{chain-stored, rule-stored, content-stored}
 use Rattle.partitions.specs.Layout.{lengthOf, encode}
 use Rattle.partitions.specs.Reading.{chainOf, decode, postingsOf, inPartitions}
