@@ -1,22 +1,22 @@
 -- A register with an identifier added: its identifiers, its rule and its bytes; and a register of zeros.
-use mathlib.Core.Bool.{Bool, true, false, _&&_, _||_, not, cond}
+use mathlib.Core.Bool.{true, false, not}
 use mathlib.Core.List.{List, [], _∷_, _++_, map, map-append}
-use mathlib.Core.Path.{_≡_, refl, sym, ap, ap₂, _∙_}
+use mathlib.Core.Path.{_≡_, refl, ap, _∙_}
 use Prim.Native.Nat.{ℕ, zero, suc, _+_, _-_, _*_, _/_, _<_, _≤_}
 use native.Mathlib.Omega.{arith}
-use borrow.Author.Tests.{not-true, le-leb, leb-true, ltb-false, lt-ltb, le-ltb, eqb-true}
-use lib.Dec.{eqb, ltb, leb}
+use borrow.Author.Tests.{not-true, le-leb, ltb-false, lt-ltb, le-ltb, eqb-true}
+use lib.Dec.{eqb, leb}
 use lib.ListN.{length, getD, take, drop, set, replicate, length-drop}
-use lib.Seq.{sets, length-sets, sets-eq, take-at, drop-at, drop-drop, take-append-add}
-use Rattle.lists.specs.Lists.{keep, any, every, empty}
-use Rattle.lists.proofs.Bools.{by-test, and-left, and-right, and-both, or-none}
+use lib.Seq.{sets, length-sets, sets-eq, take-at, drop-at, drop-drop}
+use Rattle.lists.specs.Lists.{keep, every}
+use Rattle.lists.proofs.Bools.{by-test, and-left, and-right, and-both}
 use Rattle.lists.proofs.Tests.{every-at}
-use Rattle.lists.proofs.Same.{every-drop, every-take, every-set, every-replicate, take-sets-le, drop-sets-add, getD-sets-other}
+use Rattle.lists.proofs.Same.{every-drop, every-take, every-set, every-replicate, take-sets-le, drop-sets-add, getD-sets-other, take-over, drop-over}
 use Rattle.identifiers.specs.Names.{Name, badLength, among, distinct}
 use Rattle.identifiers.specs.Register.{entriesOf, entries, size, used, nameOf, entryRule, usedFirst, names, registerRule, added}
 use Rattle.identifiers.specs.Formed.{formedFrom, formed}
 use Rattle.identifiers.proofs.Names.{distinct-snoc}
-use Rattle.identifiers.proofs.Entries.{length-entries, length-entriesOf, rule-parts, rule-formed, rule-distinct, formed-first, formed-rules, unused-none, count-names}
+use Rattle.identifiers.proofs.Entries.{length-entries, rule-parts, rule-formed, rule-distinct, formed-first, formed-rules, unused-none, count-names}
 
 -- an identifier of a good length has 1 to 64 bytes
 pub good-length : (n : Name) → badLength n ≡ false → (0 < length n) × (length n ≤ 64)
@@ -26,26 +26,13 @@ good-length (x ∷ n) b = (omega arith, ltb-false 64 (length (x ∷ n)) b)
 
 -- One entry written -------------------------------------------------------------------------------------------------
 
--- a list put over the start of another, cut at a place past it
-over-take : (n : ℕ) (vs r : List ℕ) → length vs ≤ n → length vs ≤ length r → take n (vs ++ drop (length vs) r) ≡ vs ++ drop (length vs) (take n r)
-over-take n [] r h k = refl
-over-take zero (v ∷ vs) r h k = absurd (omega arith)
-over-take (suc n) (v ∷ vs) [] h k = absurd (omega arith)
-over-take (suc n) (v ∷ vs) (x ∷ r) h k = ap (λ (l : List ℕ). v ∷ l) (over-take n vs r (omega arith) (omega arith))
-
-over-drop : (n : ℕ) (vs r : List ℕ) → length vs ≤ n → length vs ≤ length r → drop n (vs ++ drop (length vs) r) ≡ drop n r
-over-drop n [] r h k = refl
-over-drop zero (v ∷ vs) r h k = absurd (omega arith)
-over-drop (suc n) (v ∷ vs) [] h k = absurd (omega arith)
-over-drop (suc n) (v ∷ vs) (x ∷ r) h k = over-drop n vs r (omega arith) (omega arith)
-
 -- stores within one entry change that entry alone
 entries-stored : (m k : ℕ) (r vs : List ℕ) → k < m → 65 * m ≤ length r → length vs ≤ 65
     → entriesOf m (sets r (65 * k) vs) ≡ set (entriesOf m r) k (vs ++ drop (length vs) (getD (entriesOf m r) k []))
 entries-stored zero k r vs h room short = absurd (omega arith)
 entries-stored (suc m) zero r vs h room short =
     let e : 0 + length vs ≡ length vs = omega arith in
-    rw (sets-eq vs r 0 (omega arith), e, over-take 65 vs r short (omega arith), over-drop 65 vs r short (omega arith))
+    rw (sets-eq vs r 0 (omega arith), e, take-over 65 vs r short (omega arith), drop-over 65 vs r short (omega arith))
 entries-stored (suc m) (suc k) r vs h room short =
     let e : 65 * suc k ≡ 65 + 65 * k = omega arith in
     let s : length (drop 65 r) ≡ length r - 65 = length-drop 65 r in
@@ -150,6 +137,7 @@ module _ (r : List ℕ) (n : Name) (rule : registerRule r ≡ true) (good : badL
       rw (names-added, distinct-snoc (names r) n, rule-distinct r rule, new) in
       rule-parts (added r n) ∙ and-both (formed (added r n)) _ f d
 
+-- the register keeps its length
 pub length-added : (r : List ℕ) (n : Name) → length (added r n) ≡ length r
 unfolding added
 length-added r n = length-sets r (65 * length (names r)) (length n ∷ n)
@@ -188,10 +176,12 @@ zero-rules (suc m) r z =
     rule-one (x ∷ l) g =
         rw (eqb-true x 0 (and-left (eqb x 0) _ g)) (and-right (eqb x 0) _ g)
 
+-- a register of zeros has no identifier
 pub names-zeros : (n : ℕ) → names (replicate n 0) ≡ []
 unfolding names
 names-zeros n = ap (map nameOf) (unused-none (entries (replicate n 0)) (zero-unused (length (replicate n 0) / 65) (replicate n 0) (every-replicate (λ b. eqb b 0) n 0 refl)))
 
+-- and keeps its rule
 pub rule-zeros : (n : ℕ) → registerRule (replicate n 0) ≡ true
 unfolding formedFrom
 rule-zeros n =

@@ -1,5 +1,5 @@
 -- Laws of the hash and of chains of places with equal hashes. Of the hash they need only that it is a function of the identifier.
-use mathlib.Core.Bool.{Bool, true, false, _||_, cond}
+use mathlib.Core.Bool.{false}
 use mathlib.Core.List.{List, [], _∷_}
 use mathlib.Core.Path.{_≡_, refl, sym, ap, _∙_}
 use Prim.Native.Nat.{ℕ, zero, suc, _+_, _*_, _%_, _<_, _≤_}
@@ -17,10 +17,12 @@ use Rattle.identifiers.proofs.Names.{among-upto}
 
 -- The hash ----------------------------------------------------------------------------------------------------------
 
+-- one byte more
 pub hash-step : (h : ℕ) (n : List ℕ) (i : ℕ) → i < length n → hashFrom h (drop i n) ≡ hashFrom ((31 * h + getD n i 0) % 1024) (drop (suc i) n)
 unfolding hashFrom
 hash-step h n i k = rw (drop-cons n i 0 k)
 
+-- a hash is a place of the array of heads
 pub hash-below : (n : Name) → hashOf n < 1024
 unfolding hashFrom hashOf
 hash-below n = from (length n % 1024) n (omega arith)
@@ -37,10 +39,12 @@ module _ (ms : List Name) (h : ℕ) where
   unfolding lastWith
   last-is i e = rw (eq-eqb (hashOf (getD ms i [])) h e)
 
+  -- or else an earlier one
   pub last-not : (i : ℕ) → (hashOf (getD ms i []) ≡ h → ⊥) → lastWith ms h (suc i) ≡ lastWith ms h i
   unfolding lastWith
   last-not i e = rw (ne-eqb (hashOf (getD ms i [])) h e)
 
+  -- it is no later than i
   pub last-within : (i : ℕ) → lastWith ms h i ≤ i
   unfolding lastWith
   last-within zero = omega arith
@@ -72,11 +76,13 @@ last-among ms n (suc i) k =
 
 -- No place yet, and one more ----------------------------------------------------------------------------------------------------
 
+-- no chain has begun
 pub heads-none : (ms : List Name) → Heads ms 0 (replicate 1024 0)
 unfolding lastWith
 heads-none ms h k = getD-replicate 1024 h 0 0 k
 
 module _ (ms : List Name) (i : ℕ) where
+  -- the chain of place i begins there
   pub heads-on : (heads : List ℕ) → length heads ≡ 1024 → Heads ms i heads → Heads ms (suc i) (set heads (hashOf (getD ms i [])) (suc i))
   heads-on heads l g h k =
       by-test
@@ -88,6 +94,7 @@ module _ (ms : List Name) (i : ℕ) where
       let q : hashOf (getD ms i []) ≡ h → ⊥ = eqb-false _ _ t in
       getD-set-other heads (hashOf (getD ms i [])) h (suc i) 0 (λ e. q (sym e)) ∙ g h k ∙ sym (last-not ms h i q))
 
+  -- and goes on where it began before
   pub links-on : (links : List ℕ) → i < length links → Links ms i links → Links ms (suc i) (set links i (lastWith ms (hashOf (getD ms i [])) i))
   links-on links l g p k =
       by-test

@@ -1,29 +1,32 @@
 -- Laws of a register's entries: where each lies, and the identifiers of a formed register by their place.
-use mathlib.Core.Bool.{Bool, true, false, _&&_, _||_, not, cond}
-use mathlib.Core.List.{List, [], _∷_, _++_, map}
-use mathlib.Core.Path.{_≡_, refl, sym, ap, ap₂, _∙_}
+use mathlib.Core.Bool.{Bool, true, false, _&&_, not, cond, and-assoc}
+use mathlib.Core.List.{List, [], _∷_}
+use mathlib.Core.Path.{_≡_, refl, sym, ap, _∙_}
 use Prim.Native.Nat.{ℕ, zero, suc, _+_, _*_, _/_, _<_, _≤_}
 use native.Mathlib.Omega.{arith}
 use borrow.Author.Tests.{not-true, leb-true, ltb-true, ltb-false, eq-eqb, ne-eqb}
-use lib.Dec.{eqb, ltb, leb}
+use lib.Dec.{eqb, leb}
 use lib.ListN.{length, getD, take, drop, length-drop, length-map, List·getD-map}
 use lib.Seq.{drop-cons, drop-drop, getD-take, getD-drop, length-take-le}
 use Rattle.lists.specs.Lists.{keep, every}
-use Rattle.lists.proofs.Bools.{by-test, and-left, and-right, and-both}
+use Rattle.lists.proofs.Bools.{by-test, and-left, and-right}
 use Rattle.lists.proofs.Tests.{every-at, length-keep}
-use Rattle.identifiers.specs.Names.{Name, distinct}
+use Rattle.identifiers.specs.Names.{distinct}
 use Rattle.identifiers.specs.Register.{entriesOf, entries, size, used, nameOf, entryRule, usedFirst, names, registerRule}
 use Rattle.identifiers.specs.Formed.{formedFrom, formed}
 
 -- Where an entry lies -----------------------------------------------------------------------------------------------
 
+-- as many entries as are asked for
 pub length-entriesOf : (n : ℕ) (r : List ℕ) → length (entriesOf n r) ≡ n
 length-entriesOf zero r = refl
 length-entriesOf (suc n) r = ap suc (length-entriesOf n (drop 65 r))
 
+-- an entry for each 65 bytes
 pub length-entries : (r : List ℕ) → length (entries r) ≡ length r / 65
 length-entries r = length-entriesOf (length r / 65) r
 
+-- entry i begins at byte 65 * i
 pub entryOf-at : (n : ℕ) (r : List ℕ) (i : ℕ) → i < n → getD (entriesOf n r) i [] ≡ take 65 (drop (65 * i) r)
 entryOf-at zero r i h = absurd (omega arith)
 entryOf-at (suc n) r zero h = refl
@@ -32,12 +35,15 @@ entryOf-at (suc n) r (suc i) h =
     rw e (entryOf-at n (drop 65 r) i (omega arith) ∙ ap (take 65) (drop-drop (65 * i) 65 r))
 
 module _ (r : List ℕ) (i : ℕ) (h : i < length (entries r)) where
+  -- it lies within the register
   pub entry-room : 65 * i + 65 ≤ length r
   entry-room = omega (arith, length-entries r)
 
+  -- which 65 bytes it is
   pub entry-at : getD (entries r) i [] ≡ take 65 (drop (65 * i) r)
   entry-at = entryOf-at (length r / 65) r i (omega (arith, length-entries r))
 
+  -- it is whole
   pub length-entry : length (getD (entries r) i []) ≡ 65
   length-entry = rw entry-at (length-take-le 65 (drop (65 * i) r) (rw (length-drop (65 * i) r) (omega (arith, entry-room))))
 
@@ -52,15 +58,13 @@ module _ (r : List ℕ) (i : ℕ) (h : i < length (entries r)) where
 -- the rule is that of a formed register whose identifiers differ
 pub rule-parts : (r : List ℕ) → registerRule r ≡ (formed r && distinct (names r))
 unfolding registerRule formedFrom
-rule-parts r = assoc (every entryRule (entries r)) (usedFirst (entries r)) (distinct (names r))
-  where
-    assoc : (a b c : Bool) → (a && (b && c)) ≡ ((a && b) && c)
-    assoc true b c = refl
-    assoc false b c = refl
+rule-parts r = sym (and-assoc (every entryRule (entries r)) (usedFirst (entries r)) (distinct (names r)))
 
+-- what keeps the rule is formed
 pub rule-formed : (r : List ℕ) → registerRule r ≡ true → formed r ≡ true
 rule-formed r e = and-left (formed r) _ (sym (rule-parts r) ∙ e)
 
+-- and its identifiers differ
 pub rule-distinct : (r : List ℕ) → registerRule r ≡ true → distinct (names r) ≡ true
 rule-distinct r e = and-right (formed r) _ (sym (rule-parts r) ∙ e)
 
@@ -82,11 +86,13 @@ formed-step ended e es = parts ended (used e) (entryRule e) (every entryRule es)
     parts false false true b n f = refl
     parts false false false b n f = refl
 
+-- the entries from place i on
 pub formed-at : (ended : Bool) (r : List ℕ) (i : ℕ) → i < length (entries r)
     → formedFrom ended (drop i (entries r))
     ≡ ((entryRule (getD (entries r) i []) && not (ended && used (getD (entries r) i []))) && formedFrom (not (used (getD (entries r) i []))) (drop (suc i) (entries r)))
 formed-at ended r i h = rw (drop-cons (entries r) i [] h) (formed-step ended (getD (entries r) i []) (drop (suc i) (entries r)))
 
+-- no entries are left
 pub formed-end : (ended : Bool) → formedFrom ended [] ≡ true
 unfolding formedFrom
 formed-end true = refl
@@ -115,13 +121,14 @@ used-front (x ∷ es) e =
     (λ y. rw y (ap (λ (l : List (List ℕ)). x ∷ l) (used-front es (rw y at e))))
     (λ y. rw (y, unused-none es (rw y at e)))
 
--- the entries from place i on: an unused one ends the used ones, and a used one counts
 module _ (es : List (List ℕ)) (i : ℕ) (h : i < length es) (f : usedFirst (drop i es) ≡ true) where
+  -- an unused entry ends the used ones
   pub used-stopped : used (getD es i []) ≡ false → keep used (drop i es) ≡ []
   used-stopped n =
       let g : usedFirst (getD es i [] ∷ drop (suc i) es) ≡ true = rw (drop-cons es i [] h) at f in
       rw (drop-cons es i [] h) (rw n (unused-none (drop (suc i) es) (rw n at g)))
 
+  -- a used one counts
   pub used-on : used (getD es i []) ≡ true
       → (length (keep used (drop i es)) ≡ suc (length (keep used (drop (suc i) es)))) × (usedFirst (drop (suc i) es) ≡ true)
   used-on y =
@@ -134,10 +141,12 @@ unfolding names
 count-names r = length-map (keep used (entries r)) nameOf
 
 module _ (r : List ℕ) (f : formed r ≡ true) where
+  -- its used entries come first
   pub formed-first : usedFirst (entries r) ≡ true
   unfolding formedFrom
   formed-first = and-right (every entryRule (entries r)) _ f
 
+  -- its entries keep their rule
   pub formed-rules : every entryRule (entries r) ≡ true
   unfolding formedFrom
   formed-rules = and-left (every entryRule (entries r)) _ f
@@ -150,6 +159,7 @@ module _ (r : List ℕ) (f : formed r ≡ true) where
   pub names-bound : length r ≤ 66560 → length (names r) ≤ 1024
   names-bound l = omega (arith, names-within, length-entries r)
 
+  -- a number is a place of the register
   pub name-inside : (i : ℕ) → i < length (names r) → i < length (entries r)
   name-inside i h = omega (arith, names-within)
 
@@ -162,5 +172,6 @@ module _ (r : List ℕ) (f : formed r ≡ true) where
       ∙ ap (λ (l : List (List ℕ)). nameOf (getD l i [])) (used-front (entries r) formed-first)
       ∙ ap nameOf (getD-take (length (keep used (entries r))) (entries r) i [] k)
 
+  -- a length byte is at most 64
   pub name-size : (i : ℕ) → i < length (entries r) → size (getD (entries r) i []) ≤ 64
   name-size i h = leb-true _ _ (and-left (leb (size (getD (entries r) i [])) 64) _ (every-at entryRule (entries r) [] formed-rules i h))

@@ -1,19 +1,20 @@
 -- Laws of identifiers in a list: which is among them, whether they differ, and their numbers.
-use mathlib.Core.Bool.{Bool, true, false, _&&_, _||_, not, cond}
+use mathlib.Core.Bool.{Bool, true, false, _&&_, _||_, not, cond, or-false, or-comm}
 use mathlib.Core.List.{List, [], _∷_, _++_}
-use mathlib.Core.Path.{_≡_, refl, sym, ap, ap₂, _∙_}
-use Prim.Native.Nat.{ℕ, zero, suc, _+_, _<_, _≤_}
+use mathlib.Core.Path.{_≡_, refl, sym, _∙_}
+use Prim.Native.Nat.{ℕ, zero, suc, _<_, _≤_}
 use native.Mathlib.Omega.{arith}
 use borrow.Author.Tests.{not-true}
 use lib.ListN.{length, getD, take, drop, take-append-drop}
 use lib.Seq.{drop-cons, take-suc}
-use Rattle.lists.specs.Lists.{any, same}
-use Rattle.lists.proofs.Bools.{by-test, and-left, and-right, and-both, or-none, or-right}
-use Rattle.lists.proofs.Same.{same-refl, same-true, same-swap, any-append}
+use Rattle.lists.specs.Lists.{same}
+use Rattle.lists.proofs.Bools.{by-test, and-left, and-right, or-none}
+use Rattle.lists.proofs.Same.{same-refl, same-true, same-swap, any-append, any-at}
 use Rattle.identifiers.specs.Names.{Name, among, distinct, numberOf}
 
 -- The number of an identifier ---------------------------------------------------------------------------------------
 
+-- a number is at most how many there are
 pub number-within : (ms : List Name) (n : Name) → numberOf ms n ≤ length ms
 number-within [] n = omega arith
 number-within (m ∷ ms) n =
@@ -63,14 +64,9 @@ number-step ms n i h = rw (drop-cons ms i [] h)
 
 -- one more identifier at the end
 pub among-snoc : (ms : List Name) (m n : Name) → among n (ms ++ (m ∷ [])) ≡ (same m n || among n ms)
-among-snoc ms m n = any-append (λ k. same k n) ms (m ∷ []) ∙ turn (among n ms) (same m n)
-  where
-    turn : (a s : Bool) → (a || (s || false)) ≡ (s || a)
-    turn true true = refl
-    turn true false = refl
-    turn false true = refl
-    turn false false = refl
+among-snoc ms m n = any-append (λ k. same k n) ms (m ∷ []) ∙ rw or-false (or-comm (among n ms) (same m n))
 
+-- one more that is not among them
 pub distinct-snoc : (ms : List Name) (n : Name) → distinct (ms ++ (n ∷ [])) ≡ (distinct ms && not (among n ms))
 distinct-snoc [] n = refl
 distinct-snoc (m ∷ ms) n =
@@ -96,6 +92,7 @@ module _ (ms : List Name) (i : ℕ) (h : i < length ms) where
   pub among-upto : (n : Name) → among n (take (suc i) ms) ≡ (same (getD ms i []) n || among n (take i ms))
   among-upto n = rw (take-suc ms i [] h) (among-snoc (take i ms) (getD ms i []) n)
 
+  -- whether those up to place i differ
   pub distinct-upto : distinct (take (suc i) ms) ≡ (distinct (take i ms) && not (among (getD ms i []) (take i ms)))
   distinct-upto = rw (take-suc ms i [] h) (distinct-snoc (take i ms) (getD ms i []))
 
@@ -110,6 +107,7 @@ module _ (ms : List Name) (i : ℕ) (h : i < length ms) where
       cc)
       (λ d. d)
 
+  -- place i is new
   pub distinct-on : distinct (take i ms) ≡ true → among (getD ms i []) (take i ms) ≡ false → distinct (take (suc i) ms) ≡ true
   distinct-on d e = distinct-upto ∙ rw (d, e)
 
@@ -119,10 +117,5 @@ number-place [] i d h = absurd (omega arith)
 number-place (m ∷ ms) zero d h = rw (same-refl m)
 number-place (m ∷ ms) (suc i) d h =
     let f : among m ms ≡ false = not-true _ (and-left (not (among m ms)) _ d) in
-    let g : same m (getD ms i []) ≡ false = same-swap m _ ∙ any-false (λ k. same k m) ms i [] (omega arith) f in
+    let g : same m (getD ms i []) ≡ false = same-swap m _ ∙ any-at (λ k. same k m) ms i [] f (omega arith) in
     rw (g, number-place ms i (and-right (not (among m ms)) _ d) (omega arith))
-  where
-    any-false : (t : Name → Bool) (l : List Name) (k : ℕ) (z : Name) → k < length l → any t l ≡ false → t (getD l k z) ≡ false
-    any-false t [] k z p e = absurd (omega arith)
-    any-false t (x ∷ l) zero z p e = or-none (t x) _ e .0
-    any-false t (x ∷ l) (suc k) z p e = any-false t l k z (omega arith) (or-none (t x) _ e .1)

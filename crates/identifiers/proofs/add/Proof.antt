@@ -1,14 +1,13 @@
 -- `identifiers::add` meets its contract. The loop's invariant: the bytes to come, stored after those that are, are the whole run of stores.
-use mathlib.Core.List.{List, []}
-use mathlib.Core.Path.{_≡_, refl, sym, ap, _∙_}
+use mathlib.Core.List.{[]}
+use mathlib.Core.Path.{_≡_, refl, sym, _∙_}
 use Prim.Native.Nat.{ℕ, suc, _+_, _*_, _-_, _<_, _≤_, zero-le}
+use native.Mathlib.Nat.{add-zero}
 use native.Mathlib.Numerals.{add-one}
 use native.Mathlib.Omega.{arith}
-use borrow.Author.Needs.{needs}
-use lib.ListN.{length, getD, drop, set, length-set, drop-of-length-le}
+use lib.ListN.{length, drop, set, length-set, drop-of-length-le}
 use lib.Seq.{sets, drop-cons}
-use Rattle.identifiers.specs.Names.{badLength}
-use Rattle.identifiers.specs.Register.{names, added}
+use Rattle.identifiers.specs.Register.{added}
 use Rattle.identifiers.proofs.Added.{good-length}
 use Rattle.identifiers.proofs.add.Statement.{statement}
 use Rattle.identifiers.proofs.add.Tie as tie
@@ -18,6 +17,9 @@ Inv-loop register₀ id at start i₀ register i = (i ≤ length id) × (length 
 
 abbrev μ-loop : tie.MeasureT-loop
 μ-loop register₀ id at start i₀ register i = length id - i
+
+past : (k i : ℕ) → k + (i + 1) ≡ suc (k + i)
+past k i = omega arith
 
 mul-start : tie.Need-mul-start Inv-loop μ-loop
 mul-start c = omega arith
@@ -29,9 +31,7 @@ slice-write-register : tie.Need-slice-write-register Inv-loop μ-loop
 slice-write-register c = omega arith
 
 loop-holds : tie.Need-loop-holds Inv-loop μ-loop
-loop-holds c =
-    let e : 65 * c .args .at + 1 + 0 ≡ 65 * c .args .at + 1 = omega arith in
-    (zero-le, refl, rw e)
+loop-holds c = (zero-le, refl, rw add-zero)
 
 shared-slice-read-register : tie.Need-shared-slice-read-register Inv-loop μ-loop
 shared-slice-read-register c = omega arith
@@ -45,8 +45,7 @@ add-register-2 c = omega (arith, good-length (c .before .before .before .args .i
 slice-write-register-2 : tie.Need-slice-write-register-2 Inv-loop μ-loop
 slice-write-register-2 c =
     let s = c .before .before .before in
-    let e = length-set (s .args .register .now) (65 * s .args .at) (length (s .args .id .now)) in
-    omega (arith, good-length (s .args .id .now) (s .pre .2), c .before .before .loop .inv .1)
+    omega (arith, good-length (s .args .id .now) (s .pre .2), simp length-set at (c .before .before .loop .inv .1))
 
 add-i : tie.Need-add-i Inv-loop μ-loop
 add-i c = omega arith
@@ -60,18 +59,14 @@ loop-again c =
     let s = l .before in
     let i = l .loop .i in
     let id = s .args .id .now in
-    let k = 65 * s .args .at + 1 in
-    let e : k + (i + 1) ≡ suc (k + i) = omega arith in
     let h : i < length id = omega arith in (
       omega arith,
       rw length-set (l .loop .inv .1),
-      l .loop .inv .2 ∙ rw (e, add-one i, drop-cons id i 0 h),
+      l .loop .inv .2 ∙ rw (past, add-one i, drop-cons id i 0 h),
     )
 
 same-length : tie.Need-same-length Inv-loop μ-loop
-same-length c =
-    let s = c .before .before in
-    c .before .loop .inv .1 ∙ length-set (s .args .register .now) (65 * s .args .at) (length (s .args .id .now))
+same-length c = c .before .loop .inv .1 ∙ simp length-set
 
 returns : tie.Need-returns Inv-loop μ-loop
 unfolding added

@@ -1,16 +1,16 @@
 -- `identifiers::all_different` meets its contract. The loop's invariant: the identifiers passed differ, and the two arrays chain their places.
 use mathlib.Core.Bool.{true, false}
-use mathlib.Core.List.{List, []}
+use mathlib.Core.List.{[]}
 use mathlib.Core.Path.{_≡_, refl, sym, ap, _∙_}
-use Prim.Native.Nat.{ℕ, suc, _+_, _-_, _<_, _≤_, zero-le}
+use Prim.Native.Nat.{suc, _-_, _<_, _≤_, zero-le}
 use native.Mathlib.Numerals.{add-one}
 use native.Mathlib.Omega.{arith}
 use borrow.Author.Needs.{needs}
-use lib.ListN.{length, getD, take, set, length-set}
+use lib.ListN.{length, getD, take, length-set}
 use lib.Seq.{take-all}
-use Rattle.identifiers.specs.Names.{Name, among, distinct}
+use Rattle.identifiers.specs.Names.{among, distinct}
 use Rattle.identifiers.specs.Register.{names}
-use Rattle.identifiers.specs.Chains.{hashOf, lastWith, Heads, Links, Chained}
+use Rattle.identifiers.specs.Chains.{hashOf, lastWith, Heads, Links}
 use Rattle.identifiers.proofs.Names.{distinct-stopped, distinct-on}
 use Rattle.identifiers.proofs.Entries.{names-bound}
 use Rattle.identifiers.proofs.Chains.{hash-below, heads-none, heads-on, links-on, last-within}

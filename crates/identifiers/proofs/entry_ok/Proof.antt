@@ -1,7 +1,7 @@
 -- `identifiers::entry_ok` meets its contract, test by test.
-use mathlib.Core.Bool.{Bool, true, false, _&&_, not}
+use mathlib.Core.Bool.{true, false, _&&_, and-true, and-false}
 use mathlib.Core.Logic.{⊎-elim}
-use mathlib.Core.Path.{_≡_, refl, sym, ap, _∙_}
+use mathlib.Core.Path.{_≡_, sym, ap, _∙_}
 use Prim.Native.Nat.{_+_, _-_, _≤_}
 use native.Mathlib.Omega.{arith}
 use borrow.Author.Needs.{needs}
@@ -13,14 +13,6 @@ use Rattle.lists.specs.Lists.{every}
 use Rattle.identifiers.specs.Register.{size, used, entryRule}
 use Rattle.identifiers.proofs.entry_ok.Statement.{statement}
 use Rattle.identifiers.proofs.entry_ok.Tie as tie
-
-and-none : (a : Bool) → (a && false) ≡ false
-and-none true = refl
-and-none false = refl
-
-and-all : (a : Bool) → (a && true) ≡ a
-and-all true = refl
-and-all false = refl
 
 shared-slice-read-size : tie.Need-shared-slice-read-size
 shared-slice-read-size c = search needs
@@ -35,7 +27,7 @@ returns-2 : tie.Need-returns-2
 returns-2 c =
     let s = c .before .before .before .before .before in
     let u : used (s .args .entry .now) ≡ true = lt-ltb 0 (size (s .args .entry .now)) (c .if3 .taken) in
-    sym (rw (c .before .if2 .taken, u) (and-none (entryRule (s .args .entry .now))))
+    sym (rw (c .before .if2 .taken, u) (and-false (entryRule (s .args .entry .now))))
 
 add-rest : tie.Need-add-rest
 add-rest c = search needs
@@ -61,8 +53,8 @@ returns-3 c =
     let q : c .zeros .result ≡ every (λ b. eqb b 0) (drop k e) = c .zeros .ensures ∙ ap (every (λ b. eqb b 0)) t in
     let l : size e ≤ 64 = c .before .before .before .if1 .left in
     let n : (s .args .ended && used e) ≡ false =
-    ⊎-elim (λ w. rw (le-ltb 0 (size e) (w .1 .left)) (and-none (s .args .ended))) (λ w. rw (w .left)) (c .before .before .if2 .came) in
-    rw (q, n, le-leb (size e) 64 l) (sym (and-all (every (λ b. eqb b 0) (drop (1 + size e) e))))
+    ⊎-elim (λ w. rw (le-ltb 0 (size e) (w .1 .left)) (and-false (s .args .ended))) (λ w. rw (w .left)) (c .before .before .if2 .came) in
+    rw (q, n, le-leb (size e) 64 l) (sym (and-true (every (λ b. eqb b 0) (drop (1 + size e) e))))
 
 pub entry-ok-spec : {M : Type 1} → statement M
 entry-ok-spec =

@@ -1,11 +1,11 @@
 -- `identifiers::name_at` meets its contract: the entry at that place is used, and holds its identifier after its length byte.
-use mathlib.Core.List.{List, []}
-use mathlib.Core.Path.{_≡_, refl, sym, ap, _∙_}
-use Prim.Native.Nat.{_+_, _-_, _≤_, _<_}
+use mathlib.Core.List.{[]}
+use mathlib.Core.Path.{_≡_, sym}
+use Prim.Native.Nat.{_+_, _-_}
 use native.Mathlib.Omega.{arith}
 use borrow.Author.Needs.{needs}
-use lib.ListN.{length, getD}
-use Rattle.identifiers.specs.Register.{entries, size, nameOf, names}
+use lib.ListN.{getD}
+use Rattle.identifiers.specs.Register.{entries, size}
 use Rattle.identifiers.proofs.Entries.{length-entry, name-inside, name-entry, name-size}
 use Rattle.identifiers.proofs.name_at.Statement.{statement}
 use Rattle.identifiers.proofs.name_at.Tie as tie

@@ -1,6 +1,6 @@
 -- `identifiers::register_ok` meets its contract: the rule is that of a formed register whose identifiers differ.
-use mathlib.Core.Bool.{true, false, _&&_}
-use mathlib.Core.Path.{_≡_, refl, sym, ap, _∙_}
+use mathlib.Core.Bool.{true, false}
+use mathlib.Core.Path.{_≡_, sym, _∙_}
 use borrow.Author.Needs.{needs}
 use borrow.Author.Tests.{not-true, not-false}
 use Rattle.identifiers.specs.Formed.{formed}
