@@ -74,6 +74,10 @@ last-among ms n (suc i) k =
     let d : same (getD ms i []) n ≡ false = by-test (same (getD ms i []) n) (λ e. absurd (eqb-false _ _ t (ap hashOf (same-true (getD ms i []) n e)))) (λ e. e) in
     among-upto ms i (omega arith) n ∙ rw (d, t) (last-among ms n i (omega arith)))
 
+-- a chain goes back from place to place
+pub link-below : (ms : List Name) (i : ℕ) (links : List ℕ) → Links ms i links → (p : ℕ) → p < i → getD links p 0 ≤ p
+link-below ms i links g p k = rw (g p k) (last-within ms (hashOf (getD ms p [])) p)
+
 -- No place yet, and one more ----------------------------------------------------------------------------------------------------
 
 -- no chain has begun

@@ -1,8 +1,8 @@
 -- `identifiers::formed` meets its contract. The loop's invariant: the answer is that for the entries to come.
-use mathlib.Core.Bool.{true, false, _&&_, not}
+use mathlib.Core.Bool.{Bool, true, false, _&&_, not}
 use mathlib.Core.List.{[]}
-use mathlib.Core.Path.{_≡_, refl, sym, _∙_}
-use Prim.Native.Nat.{_-_, _<_, _≤_, zero-le}
+use mathlib.Core.Path.{_≡_, refl, sym, ap, _∙_}
+use Prim.Native.Nat.{suc, _-_, _<_, _≤_, zero-le}
 use native.Mathlib.Numerals.{add-one}
 use native.Mathlib.Omega.{arith}
 use borrow.Author.Tests.{not-true, not-false}
@@ -68,9 +68,12 @@ loop-again c =
     let i = l .loop .i in
     let h : i < length (entries r) = omega (arith, length-entries r) in
     let e : (entryRule (getD (entries r) i []) && not (l .loop .ended && used (getD (entries r) i []))) ≡ true =
-    rw (← c .before .before .before .entry-at .ensures) (sym (c .before .before .entry-ok .ensures) ∙ not-false _ (c .before .if1 .left)) in (
+    rw (← c .before .before .before .entry-at .ensures) (sym (c .before .before .entry-ok .ensures) ∙ not-false _ (c .before .if1 .left)) in
+    let t : formedFrom (l .loop .ended) (drop i (entries r)) ≡ formedFrom (not (used (getD (entries r) i []))) (drop (suc i) (entries r)) =
+    formed-at (l .loop .ended) r i h ∙ rw e in (
       omega arith,
-      rw (add-one i, c .before .before .before .entry-at .ensures, unused-flag (getD (entries r) i [])) (l .loop .inv .1 ∙ formed-at (l .loop .ended) r i h ∙ rw e),
+      rw (add-one i, c .before .before .before .entry-at .ensures)
+          (l .loop .inv .1 ∙ t ∙ ap (λ (b : Bool). formedFrom b (drop (suc i) (entries r))) (sym (unused-flag (getD (entries r) i [])))),
     )
 
 returns-2 : tie.Need-returns-2 Inv-loop μ-loop

@@ -12,7 +12,7 @@ use Rattle.identifiers.specs.Names.{among}
 use Rattle.identifiers.specs.Register.{names}
 use Rattle.identifiers.specs.Chains.{hashOf, lastWith}
 use Rattle.identifiers.proofs.Names.{among-upto}
-use Rattle.identifiers.proofs.Chains.{last-within, last-hash, last-among}
+use Rattle.identifiers.proofs.Chains.{last-within, last-hash, last-among, link-below}
 use Rattle.identifiers.proofs.repeated.Statement.{statement}
 use Rattle.identifiers.proofs.repeated.Tie as tie
 
@@ -74,19 +74,13 @@ cast-left : tie.Need-cast-left Inv-loop μ-loop
 cast-left c =
     let l = c .before .before .before .before .before in
     let s = l .before .before .before in
-    let ms = names (s .args .register .now) in
-    let p = l .loop .left - 1 in
-    let k : getD (s .args .links .now) p 0 ≡ lastWith ms (hashOf (getD ms p [])) p = s .pre .1 .linked p (omega arith) in
-    omega (arith, k, last-within ms (hashOf (getD ms p [])) p, s .pre .1 .room)
+    omega (arith, s .pre .1 .room, link-below (names (s .args .register .now)) (s .args .i) (s .args .links .now) (s .pre .1 .linked) (l .loop .left - 1) (omega arith))
 
 loop-less : tie.Need-loop-less Inv-loop μ-loop
 loop-less c =
     let l = c .before .before .before .before .before in
     let s = l .before .before .before in
-    let ms = names (s .args .register .now) in
-    let p = l .loop .left - 1 in
-    let k : getD (s .args .links .now) p 0 ≡ lastWith ms (hashOf (getD ms p [])) p = s .pre .1 .linked p (omega arith) in
-    omega (arith, k, last-within ms (hashOf (getD ms p [])) p)
+    omega (arith, link-below (names (s .args .register .now)) (s .args .i) (s .args .links .now) (s .pre .1 .linked) (l .loop .left - 1) (omega arith))
 
 loop-again : tie.Need-loop-again Inv-loop μ-loop
 loop-again c =
