@@ -2,7 +2,7 @@
 use mathlib.Core.Bool.{true}
 use mathlib.Core.List.{List, [], _∷_}
 use mathlib.Core.Logic.{_⊎_, inl, inr, ⊎-elim}
-use mathlib.Core.Path.{_≡_, sym, ap, _∙_}
+use mathlib.Core.Path.{_≡_, refl, sym, ap, _∙_}
 use Prim.Native.Nat.{ℕ, zero, suc, _+_, _*_, _/_, _%_, _<_}
 use native.Mathlib.Omega.{arith}
 use lib.Dec.{eqb}
@@ -85,6 +85,10 @@ fills-frees W W′ W″ e f m k h =
     (λ o. inr (inl o))
     (f k h)
 
+-- a word stays, or was all ones, or goes to all ones
+pub moves-word : (W W′ : List ℕ) → Moves W W′ → (k : ℕ) → k < length W → (getD W′ k 0 ≡ getD W k 0) ⊎ (getD W k 0 ≡ allOnes) ⊎ (getD W′ k 0 ≡ allOnes)
+moves-word W W′ m k h = ⊎-elim (λ s. inl s) (λ r. inr (⊎-elim (λ o. inl o) (λ g. inr (g k h refl)) r)) (m k h)
+
 -- Bytes ------------------------------------------------------------------------------------------------------------
 
 -- four bytes on, one word on
@@ -112,10 +116,11 @@ bytes-ones (u ∷ us) (suc (suc zero)) a e = ap (λ (w : ℕ). w / 65536 % 256) 
 bytes-ones (u ∷ us) (suc (suc (suc zero))) a e = ap (λ (w : ℕ). w / 16777216) e
 bytes-ones (u ∷ us) (suc (suc (suc (suc k)))) a e = bytes-ones us k (omega arith) (rw (word-on k) at e)
 
--- the same of a card of bytes, over its words
+-- from card to card′ each byte stays, or was 255
 abbrev pub FillsBytes : List ℕ → List ℕ → Type 0
 FillsBytes card card′ = (k : ℕ) → k < length card → (getD card′ k 0 ≡ getD card k 0) ⊎ (getD card k 0 ≡ 255)
 
+-- each byte stays, or every byte of its block goes to 255
 abbrev pub FreesBytes : List ℕ → List ℕ → Type 0
 FreesBytes card card′ =
     (k : ℕ) → k < length card → (getD card′ k 0 ≡ getD card k 0) ⊎ ((j : ℕ) → j < length card → j / 4096 ≡ k / 4096 → getD card′ j 0 ≡ 255)
@@ -142,16 +147,19 @@ module _ (card W′ : List ℕ) (p : Below 256 card) (m : length card % 4 ≡ 0)
       → (j : ℕ) → j < length card → j / 4096 ≡ k / 4096 → getD (bytes W′) j 0 ≡ 255
   bytes-go k g j a q = let n = length-words card in bytes-ones W′ j (omega arith) (g (j / 4) (omega arith) (omega arith))
 
+  -- words that are filled are bytes that are filled
   pub fills-bytes : Fills (words card) W′ → FillsBytes card (bytes W′)
   fills-bytes f k h =
       let n = length-words card in
       ⊎-elim (λ s. inl (byte-stays k h s)) (λ o. inr (byte-was k h o)) (f (k / 4) (omega arith))
 
+  -- words that are freed by blocks are bytes that are freed by blocks
   pub frees-bytes : Frees (words card) W′ → FreesBytes card (bytes W′)
   frees-bytes f k h =
       let n = length-words card in
       ⊎-elim (λ s. inl (byte-stays k h s)) (λ g. inr (bytes-go k g)) (f (k / 4) (omega arith))
 
+  -- and both together
   pub moves-bytes : Moves (words card) W′ → MovesBytes card (bytes W′)
   moves-bytes f k h =
       let n = length-words card in

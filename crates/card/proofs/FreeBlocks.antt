@@ -47,6 +47,7 @@ released-free W bs n b long h m = ap (every (eqb allOnes)) (block-released W bs 
 pub release-other : (W bs : List ℕ) (b : ℕ) → elem b bs ≡ false → isFree (release W bs) b ≡ isFree W b
 release-other W bs b m = ap (every (eqb allOnes)) (release-apart W bs b m)
 
+-- the same for a store
 pub store-other : (W bs c : List ℕ) (b : ℕ) → elem b bs ≡ false → isFree (store W bs c) b ≡ isFree W b
 store-other W bs c b m = ap (every (eqb allOnes)) (store-apart W bs c b m)
 

@@ -64,6 +64,7 @@ rule-last W n b (suc (suc k)) (suc j) e q = rule-last W n (link W b) (suc k) j (
 abbrev pub nextAt : List ℕ → ℕ → ℕ
 nextAt bs j = cond (ltb (suc j) (length bs)) (getD bs (suc j) 0) noBlock
 
+-- and that is what it links to
 pub chained-link : (W bs : List ℕ) (n b : ℕ) → chain W b (length bs) ≡ bs → chainRule W n b (length bs) ≡ true → (j : ℕ) → j < length bs
     → link W (getD bs j 0) ≡ nextAt bs j
 chained-link W bs n b c e j h =
@@ -75,6 +76,7 @@ chained-link W bs n b c e j h =
 -- Content ----------------------------------------------------------------------------------------------------------
 
 module _ (W : List ℕ) (n : ℕ) where
+  -- a block of the card has 1,024 words
   pub length-block : (b : ℕ) → length W ≡ 1024 * n → b < n → length (block W b) ≡ 1024
   length-block b long h = omega (arith, length-take 1024 (drop (1024 * b) W), length-drop (1024 * b) W)
 

@@ -16,11 +16,15 @@ use Rattle.card.specs.Blocks.{noBlock, block, contentOf, link}
 use Rattle.card.specs.Chains.{chain, chainRule, content}
 use Rattle.card.specs.Writes.{putBlock, store}
 use Rattle.card.proofs.Links.{onCard, link-block}
-use Rattle.card.proofs.Stores.{laid, length-laid, short, store-apart}
+use Rattle.card.proofs.Stores.{length-laid, short, length-put, store-apart}
 
 -- One block --------------------------------------------------------------------------------------------------------
 
--- a list with room for one word more, laid out as a block: its content, and the link
+-- the words that a block is written with: content, all ones, and the link
+abbrev laid : List ℕ → ℕ → List ℕ
+laid c next = c ++ replicate (1023 - length c) allOnes ++ (next ∷ [])
+
+-- their content, and their link
 laid-content : (c : List ℕ) (next : ℕ) → length c ≤ 1023 → take 1023 (laid c next) ≡ c ++ replicate (1023 - length c) allOnes
 laid-content c next h =
     take-at (c ++ replicate (1023 - length c) allOnes) (next ∷ []) 1023
@@ -47,10 +51,10 @@ nextOf (d ∷ bs) = d
 first-block : (W : List ℕ) (b : ℕ) (bs c : List ℕ) (n : ℕ) → length W ≡ 1024 * n → b < n → elem b bs ≡ false
     → block (store W (b ∷ bs) c) b ≡ laid (take 1023 c) (nextOf bs)
 unfolding store
-first-block W b [] c n long h m = block-back W b n long h (laid (take 1023 c) noBlock) (length-laid (take 1023 c) noBlock (short c))
+first-block W b [] c n long h m = block-back W b n long h (laid (take 1023 c) noBlock) (length-laid allOnes (take 1023 c) noBlock (short c))
 first-block W b (d ∷ bs) c n long h m =
     store-apart (putBlock W b (take 1023 c) d) (d ∷ bs) (drop 1023 c) b m
-    ∙ block-back W b n long h (laid (take 1023 c) d) (length-laid (take 1023 c) d (short c))
+    ∙ block-back W b n long h (laid (take 1023 c) d) (length-laid allOnes (take 1023 c) d (short c))
 
 module _ (W : List ℕ) (b : ℕ) (bs c : List ℕ) (n : ℕ) (long : length W ≡ 1024 * n) (h : b < n) (m : elem b bs ≡ false) where
   first-link : link (store W (b ∷ bs) c) b ≡ nextOf bs
@@ -82,7 +86,7 @@ chain-stored W [] c n long o d = refl
 chain-stored W (b ∷ []) c n long o d = refl
 chain-stored W (b ∷ e ∷ bs) c n long o d =
     let W′ = putBlock W b (take 1023 c) e in
-    let l : length W′ ≡ 1024 * n = length-sets W (1024 * b) (laid (take 1023 c) e) ∙ long in
+    let l : length W′ ≡ 1024 * n = length-put W b (take 1023 c) e ∙ long in
     let k = first-link W b (e ∷ bs) c n long (head-on n b (e ∷ bs) o) (head-new b (e ∷ bs) d) in
     ap (λ (r : List ℕ). b ∷ r)
     (ap (λ (j : ℕ). chain (store W′ (e ∷ bs) (drop 1023 c)) j (suc (length bs))) k
@@ -99,7 +103,7 @@ rule-stored W (b ∷ []) c n long o d s =
     and-both (ltb b n) _ (lt-ltb b n h) (eq-eqb _ noBlock k)
 rule-stored W (b ∷ e ∷ bs) c n long o d s =
     let W′ = putBlock W b (take 1023 c) e in
-    let l : length W′ ≡ 1024 * n = length-sets W (1024 * b) (laid (take 1023 c) e) ∙ long in
+    let l : length W′ ≡ 1024 * n = length-put W b (take 1023 c) e ∙ long in
     let h = head-on n b (e ∷ bs) o in
     let k = first-link W b (e ∷ bs) c n long h (head-new b (e ∷ bs) d) in
     and-both (ltb b n) _ (lt-ltb b n h)
@@ -117,7 +121,7 @@ content-stored W (b ∷ []) c n long o d s =
     append-nil _ ∙ first-content W b [] c n long (head-on n b [] o) refl ∙ rw t
 content-stored W (b ∷ e ∷ bs) c n long o d s =
     let W′ = putBlock W b (take 1023 c) e in
-    let l : length W′ ≡ 1024 * n = length-sets W (1024 * b) (laid (take 1023 c) e) ∙ long in
+    let l : length W′ ≡ 1024 * n = length-put W b (take 1023 c) e ∙ long in
     let k = suc (length bs) in
     let m : 1023 * suc k ≡ 1023 + 1023 * k = omega arith in
     ap₂ (λ (r s : List ℕ). r ++ s) (first-content W b (e ∷ bs) c n long (head-on n b (e ∷ bs) o) (head-new b (e ∷ bs) d))

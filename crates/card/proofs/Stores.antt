@@ -19,17 +19,14 @@ use Rattle.card.proofs.Links.{link-block}
 
 -- One block --------------------------------------------------------------------------------------------------------
 
--- the words that a block is written with
-abbrev pub laid : List ℕ → ℕ → List ℕ
-laid c next = c ++ replicate (1023 - length c) allOnes ++ (next ∷ [])
-
-pub length-laid : (c : List ℕ) (next : ℕ) → length c ≤ 1023 → length (laid c next) ≡ 1024
-length-laid c next h =
+-- content, one word over and over up to the last, and the last: a whole block
+pub length-laid : (a : ℕ) (c : List ℕ) (next : ℕ) → length c ≤ 1023 → length (c ++ replicate (1023 - length c) a ++ (next ∷ [])) ≡ 1024
+length-laid a c next h =
     omega (
       arith,
-      length-append (c ++ replicate (1023 - length c) allOnes) (next ∷ []),
-      length-append c (replicate (1023 - length c) allOnes),
-      length-replicate (1023 - length c) allOnes,
+      length-append (c ++ replicate (1023 - length c) a) (next ∷ []),
+      length-append c (replicate (1023 - length c) a),
+      length-replicate (1023 - length c) a,
     )
 
 -- what is put into one block has room there
@@ -43,16 +40,24 @@ block-other W vs b d e h =
     (λ y. let l : b < d = ltb-true b d y in ap (λ (r : List ℕ). take 1024 r) (sets-past W (1024 * b) vs (1024 * d) (omega arith)))
     (λ f. let l : d ≤ b = ltb-false b d f in sets-before W (1024 * b) vs (1024 * d) 1024 (omega (arith, h)))
 
+-- and so does a block that is put
+pub put-other : (W : List ℕ) (b : ℕ) (c : List ℕ) (next d : ℕ) → length c ≤ 1023 → (b ≡ d → ⊥) → block (putBlock W b c next) d ≡ block W d
+put-other W b c next d s h = simp (block-other, length-laid)
+
 -- Many blocks ------------------------------------------------------------------------------------------------------
 
--- the card keeps its length
+-- the card keeps its length where a block is put
+pub length-put : (W : List ℕ) (b : ℕ) (c : List ℕ) (next : ℕ) → length (putBlock W b c next) ≡ length W
+length-put W b c next = simp length-sets
+
+-- so it does however many are stored to
 pub length-store : (W bs c : List ℕ) → length (store W bs c) ≡ length W
 unfolding store
 length-store W [] c = refl
-length-store W (b ∷ []) c = length-sets W (1024 * b) (laid (take 1023 c) noBlock)
-length-store W (b ∷ d ∷ bs) c =
-    length-store (putBlock W b (take 1023 c) d) (d ∷ bs) (drop 1023 c) ∙ length-sets W (1024 * b) (laid (take 1023 c) d)
+length-store W (b ∷ []) c = simp length-sets
+length-store W (b ∷ d ∷ bs) c = length-store (putBlock W b (take 1023 c) d) (d ∷ bs) (drop 1023 c) ∙ length-put W b (take 1023 c) d
 
+-- or released
 pub length-release : (W bs : List ℕ) → length (release W bs) ≡ length W
 unfolding release
 length-release W [] = refl
@@ -64,12 +69,15 @@ pub store-apart : (W bs c : List ℕ) (d : ℕ) → elem d bs ≡ false → bloc
 unfolding store
 store-apart W [] c d n = refl
 store-apart W (b ∷ []) c d n =
-    block-other W (laid (take 1023 c) noBlock) b d (length-laid (take 1023 c) noBlock (short c)) (eqb-false b d (or-none (eqb b d) false n .0))
+    let s = short c in
+    let h : b ≡ d → ⊥ = eqb-false b d (or-none (eqb b d) false n .0) in
+    rw put-other
 store-apart W (b ∷ e ∷ bs) c d n =
     let o = or-none (eqb b d) (elem d (e ∷ bs)) n in
     store-apart (putBlock W b (take 1023 c) e) (e ∷ bs) (drop 1023 c) d (o .1)
-    ∙ block-other W (laid (take 1023 c) e) b d (length-laid (take 1023 c) e (short c)) (eqb-false b d (o .0))
+    ∙ put-other W b (take 1023 c) e d (short c) (eqb-false b d (o .0))
 
+-- the same for a release
 pub release-apart : (W bs : List ℕ) (d : ℕ) → elem d bs ≡ false → block (release W bs) d ≡ block W d
 unfolding release
 release-apart W [] d n = refl
@@ -88,14 +96,17 @@ Agree W′ W bs = (d : ℕ) → elem d bs ≡ true → block W′ d ≡ block W 
 abbrev pub apart : List ℕ → List ℕ → Bool
 apart ds bs = every (λ d. not (elem d bs)) ds
 
+-- a store leaves the blocks that stand apart from it
 pub store-agrees : (W bs c ds : List ℕ) → apart ds bs ≡ true → Agree (store W bs c) W ds
 store-agrees W bs c ds e d m = store-apart W bs c d (not-true (elem d bs) (every-elem (λ d. not (elem d bs)) ds d e m))
 
+-- and so does a release
 pub release-agrees : (W bs ds : List ℕ) → apart ds bs ≡ true → Agree (release W bs) W ds
 release-agrees W bs ds e d m = release-apart W bs d (not-true (elem d bs) (every-elem (λ d. not (elem d bs)) ds d e m))
 
 module _ (W′ W : List ℕ) where
-  link-agree : (b : ℕ) → block W′ b ≡ block W b → link W′ b ≡ link W b
+  -- the link is the same where the block is
+  pub link-agree : (b : ℕ) → block W′ b ≡ block W b → link W′ b ≡ link W b
   link-agree b e = link-block W′ b ∙ ap (λ (r : List ℕ). getD r 1023 0) e ∙ sym (link-block W b)
 
   first : (b : ℕ) (bs : List ℕ) → Agree W′ W (b ∷ bs) → block W′ b ≡ block W b

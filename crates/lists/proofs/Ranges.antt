@@ -15,6 +15,7 @@ use Rattle.lists.proofs.Tests.{keep-append}
 
 -- Rising -----------------------------------------------------------------------------------------------------------
 
+-- a row has as many numbers as told
 pub length-rising : (n k : ℕ) → length (rising n k) ≡ k
 unfolding rising
 length-rising n zero = refl
@@ -64,6 +65,7 @@ rising-at g n zero j d h = absurd (omega arith)
 rising-at g n (suc k) zero d h = ap g (sym (add-zero n))
 rising-at g n (suc k) (suc j) d h = rising-at g (suc n) k j d (omega arith) ∙ ap g (suc-add n j ∙ sym (add-suc n j))
 
+-- and of the row from 0
 pub upTo-at : {B : Type 0} (g : ℕ → B) (k j : ℕ) (d : B) → j < k → getD (map g (upTo k)) j d ≡ g j
 upTo-at g k j d h = rising-at g 0 k j d h ∙ ap g (zero-add j)
 
@@ -77,6 +79,7 @@ module _ {A B : Type 0} where
       ap₂ (λ (b : B) (r : List B). b ∷ r) (ap g (sym (add-zero n)) ∙ h zero (omega arith))
       (map-rising g f l d (suc n) (λ j a. ap g (suc-add n j ∙ sym (add-suc n j)) ∙ h (suc j) (omega arith)))
 
+  -- the same for the row from 0, as long as the list
   pub map-upTo : (g : ℕ → B) (f : A → B) (l : List A) (d : A) (k : ℕ) → length l ≡ k → ((j : ℕ) → j < k → g j ≡ f (getD l j d)) → map g (upTo k) ≡ map f l
   map-upTo g f l d k e h =
       rw (← e) (map-rising g f l d 0 (λ j a. ap g (zero-add j) ∙ h j (omega arith)))
@@ -94,10 +97,12 @@ module _ {A B : Type 0} where
       (ap (λ (r : List B). take (length m) r) (drop-at (map f a) (map f m ++ (map f z ++ rest)) (length a) (length-map a f))
       ∙ take-at (map f m) (map f z ++ rest) (length m) (length-map m f))
 
+  -- a test after a function is a test of what the function gives
   pub every-map : (t : B → Bool) (f : A → B) (l : List A) → every t (map f l) ≡ every (λ x. t (f x)) l
   every-map t f [] = refl
   every-map t f (x ∷ l) = ap (λ (b : Bool). t (f x) && b) (every-map t f l)
 
+  -- and so is a sum
   pub total-map : (t : B → ℕ) (f : A → B) (l : List A) → totalBy t (map f l) ≡ totalBy (λ x. t (f x)) l
   total-map t f [] = refl
   total-map t f (x ∷ l) = ap (λ (n : ℕ). t (f x) + n) (total-map t f l)
@@ -127,6 +132,7 @@ module _ {A B : Type 0} where
   length-all e (x ∷ l) = omega (arith, length-append (e x) (joined (map e l)), length-all e l)
 
 module _ {A : Type 0} where
+  -- what is kept of lists one after another is what is kept of each
   pub keep-joined : {B : Type 0} (t : A → Bool) (e : B → List A) (l : List B) → keep t (joined (map e l)) ≡ joined (map (λ x. keep t (e x)) l)
   keep-joined t e [] = refl
   keep-joined t e (x ∷ l) = keep-append t (e x) (joined (map e l)) ∙ ap (λ (r : List A). keep t (e x) ++ r) (keep-joined t e l)

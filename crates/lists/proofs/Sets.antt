@@ -161,31 +161,37 @@ different-swap (x ∷ a) b e =
 -- A list turned, so that another element comes first ---------------------------------------------------------------
 
 module _ {A : Type 0} (k : ℕ) (l : List A) where
+  -- all pass as before
   pub every-turned : (t : A → Bool) → every t (drop k l ++ take k l) ≡ every t l
   every-turned t =
       every-append t (drop k l) (take k l) ∙ and-comm (every t (drop k l)) (every t (take k l)) ∙ sym (every-append t (take k l) (drop k l))
       ∙ ap (every t) (take-append-drop k l)
 
+  -- some pass as before
   pub any-turned : (t : A → Bool) → any t (drop k l ++ take k l) ≡ any t l
   any-turned t =
       any-append t (drop k l) (take k l) ∙ or-comm (any t (drop k l)) (any t (take k l)) ∙ sym (any-append t (take k l) (drop k l))
       ∙ ap (any t) (take-append-drop k l)
 
+  -- as many are kept
   pub length-keep-turned : (t : A → Bool) → length (keep t (drop k l ++ take k l)) ≡ length (keep t l)
   length-keep-turned t =
       let e : keep t l ≡ keep t (take k l) ++ keep t (drop k l) = ap (keep t) (sym (take-append-drop k l)) ∙ keep-append t (take k l) (drop k l) in
       rw (keep-append t (drop k l) (take k l), e)
       (omega (arith, length-append (keep t (drop k l)) (keep t (take k l)), length-append (keep t (take k l)) (keep t (drop k l))))
 
+-- and different numbers stay different
 pub different-turned : (k : ℕ) (l : List ℕ) → different l ≡ true → different (drop k l ++ take k l) ≡ true
 different-turned k l e = different-swap (take k l) (drop k l) (rw (take-append-drop k l) e)
 
 -- Equal lists ------------------------------------------------------------------------------------------------------
 
+-- a list equals itself
 pub same-self : (l : List ℕ) → same l l ≡ true
 same-self [] = refl
 same-self (x ∷ l) = and-both (eqb x x) _ (eq-eqb x x refl) (same-self l)
 
+-- lists that the test finds equal are equal
 pub same-true : (l m : List ℕ) → same l m ≡ true → l ≡ m
 same-true [] [] e = refl
 same-true [] (y ∷ m) e = absurd (true≢false (sym e))

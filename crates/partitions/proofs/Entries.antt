@@ -67,12 +67,14 @@ module _ (level : ℕ) (ps : List Posting) (rest : List ℕ) where
       ap (λ (k : ℕ). map (entryNumber c) (upTo k)) field-terms
       ∙ map-upTo (entryNumber c) (λ i. i) (identifiersOf ps) 0 (termCount ps) refl entry-number ∙ map-id (identifiersOf ps)
 
+  -- how many postings each has
   pub counts-encoded : map (entryCount (encode level ps ++ rest)) (upTo (field (encode level ps ++ rest) 0)) ≡ map (λ i. length (under i ps)) (identifiersOf ps)
   counts-encoded =
       let c = encode level ps ++ rest in
       ap (λ (k : ℕ). map (entryCount c) (upTo k)) field-terms
       ∙ map-upTo (entryCount c) (λ i. length (under i ps)) (identifiersOf ps) 0 (termCount ps) refl entry-count
 
+  -- and how many stand before them
   pub firsts-encoded : map (entryFirst (encode level ps ++ rest)) (upTo (field (encode level ps ++ rest) 0)) ≡ map (λ i. length (lower i ps)) (identifiersOf ps)
   firsts-encoded =
       let c = encode level ps ++ rest in

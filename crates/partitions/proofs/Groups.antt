@@ -21,10 +21,11 @@ use Rattle.postings.proofs.Order.{precedes-cases}
 use Rattle.partitions.specs.Layout.{identifiersOf}
 use Rattle.partitions.specs.Formed.{ascending, running}
 
--- the postings of lower identifiers, and of higher ones
+-- the postings of lower identifiers
 abbrev pub lower : ℕ → List Posting → List Posting
 lower i ps = keep (λ p. ltb (p .id) i) ps
 
+-- and of higher ones
 abbrev pub higher : ℕ → List Posting → List Posting
 higher i ps = keep (λ p. ltb i (p .id)) ps
 

@@ -6,6 +6,7 @@ use Prim.Native.Nat.{ℕ, _+_, _*_, _-_, _≤_}
 use native.Mathlib.Omega.{arith}
 use lib.ListN.{length, getD, replicate}
 use Rattle.lists.specs.Lists.{every, different}
+use Rattle.lists.specs.All.{AllOf}
 use Rattle.lists.proofs.Bools.{and-left, and-right, and-both}
 use Rattle.lists.proofs.Tests.{every-from}
 use Rattle.words.specs.Words.{allOnes}
@@ -70,57 +71,63 @@ module _ (W bs : List ℕ) (n level : ℕ) (ps : List Posting) (long : length W 
 
 -- two cards that agree on a partition's blocks
 module _ (W′ W : List ℕ) (q : Partition) (a : Agree W′ W (chainOf W q)) where
+  -- its blocks are the same
   pub chain-kept : chainOf W′ q ≡ chainOf W q
   chain-kept = chain-agree W′ W (q .first) (blocksFor (q .length)) a
 
+  -- its content is the same
   pub content-kept : content W′ (chainOf W′ q) ≡ content W (chainOf W q)
   content-kept = ap (content W′) chain-kept ∙ content-agree W′ W (chainOf W q) a
 
+  -- it keeps the rule on both or on neither
   pub rule-kept : (n : ℕ) → partitionRule W′ n q ≡ partitionRule W n q
   unfolding partitionRule
   rule-kept n =
       ap₂ _&&_ (rule-agree W′ W n (q .first) (blocksFor (q .length)) a)
       (ap (λ (c : List ℕ). headerRule q c && entriesRule c) content-kept)
 
+  -- its postings are the same
   pub postings-kept : postingsOf W′ q ≡ postingsOf W q
   unfolding postingsOf
   postings-kept = ap decode content-kept
 
--- all of them, for many partitions
-module _ (W′ W : List ℕ) where
-  -- the cards agree on every partition's blocks
-  unfoldable pub AgreeAll : List Partition → Type 0
-  AgreeAll [] = Unit {0}
-  AgreeAll (q ∷ qs) = Agree W′ W (chainOf W q) × AgreeAll qs
+-- two cards that agree on the blocks of every partition of a list
+abbrev pub AgreeAll : List ℕ → List ℕ → List Partition → Type 0
+AgreeAll W′ W qs = AllOf (λ q. Agree W′ W (chainOf W q)) qs
 
-  pub chains-kept : (qs : List Partition) → AgreeAll qs → chainsOf W′ qs ≡ chainsOf W qs
-  unfolding AgreeAll chainsOf
+module _ (W′ W : List ℕ) where
+  -- their blocks are the same
+  pub chains-kept : (qs : List Partition) → AgreeAll W′ W qs → chainsOf W′ qs ≡ chainsOf W qs
+  unfolding AllOf chainsOf
   chains-kept [] a = refl
   chains-kept (q ∷ qs) a = ap₂ (λ (r s : List ℕ). r ++ s) (chain-kept W′ W q (a .0)) (chains-kept qs (a .1))
 
-  pub all-kept : (qs : List Partition) → AgreeAll qs → inPartitions W′ qs ≡ inPartitions W qs
-  unfolding AgreeAll inPartitions
+  -- their postings are the same
+  pub all-kept : (qs : List Partition) → AgreeAll W′ W qs → inPartitions W′ qs ≡ inPartitions W qs
+  unfolding AllOf inPartitions
   all-kept [] a = refl
   all-kept (q ∷ qs) a = ap₂ (λ (r s : List Posting). r ++ s) (postings-kept W′ W q (a .0)) (all-kept qs (a .1))
 
-  rules-kept : (n : ℕ) (qs : List Partition) → AgreeAll qs → every (partitionRule W′ n) qs ≡ every (partitionRule W n) qs
-  unfolding AgreeAll
+  rules-kept : (n : ℕ) (qs : List Partition) → AgreeAll W′ W qs → every (partitionRule W′ n) qs ≡ every (partitionRule W n) qs
+  unfolding AllOf
   rules-kept n [] a = refl
   rules-kept n (q ∷ qs) a = ap₂ _&&_ (rule-kept W′ W q (a .0) n) (rules-kept n qs (a .1))
 
-  pub formed-kept : (n : ℕ) (qs : List Partition) → AgreeAll qs → partitionsFormed W′ n qs ≡ partitionsFormed W n qs
+  -- they are well formed on both or on neither
+  pub formed-kept : (n : ℕ) (qs : List Partition) → AgreeAll W′ W qs → partitionsFormed W′ n qs ≡ partitionsFormed W n qs
   unfolding partitionsFormed
   formed-kept n qs a = ap₂ _&&_ (rules-kept n qs a) (ap different (chains-kept qs a))
 
 -- blocks of no partition of the list: storing to them and releasing them keeps every one
 pub store-keeps : (W bs c : List ℕ) (qs : List Partition) → every (λ q. apart (chainOf W q) bs) qs ≡ true → AgreeAll (store W bs c) W qs
-unfolding AgreeAll
+unfolding AllOf
 store-keeps W bs c [] e = tt
 store-keeps W bs c (q ∷ qs) e =
     (store-agrees W bs c (chainOf W q) (and-left _ _ e), store-keeps W bs c qs (and-right (apart (chainOf W q) bs) _ e))
 
+-- the same for a release
 pub release-keeps : (W bs : List ℕ) (qs : List Partition) → every (λ q. apart (chainOf W q) bs) qs ≡ true → AgreeAll (release W bs) W qs
-unfolding AgreeAll
+unfolding AllOf
 release-keeps W bs [] e = tt
 release-keeps W bs (q ∷ qs) e =
     (release-agrees W bs (chainOf W q) (and-left _ _ e), release-keeps W bs qs (and-right (apart (chainOf W q) bs) _ e))
@@ -131,6 +138,7 @@ pub rule-apart : (W bs : List ℕ) (n : ℕ) (q : Partition) → length W ≡ 10
 rule-apart W bs n q long m e f =
     apart-free W (chainOf W q) bs (chain-taken W n (q .first) (blocksFor (q .length)) long m (rule-chain W n q e)) f
 
+-- nor of any of many
 pub rules-apart : (W bs : List ℕ) (n : ℕ) (qs : List Partition) → length W ≡ 1024 * n → n ≤ allOnes → every (partitionRule W n) qs ≡ true
     → every (isFree W) bs ≡ true → every (λ q. apart (chainOf W q) bs) qs ≡ true
 rules-apart W bs n qs long m e f =

@@ -71,5 +71,6 @@ pub length-buffer : (ps : List Posting) → length ps ≤ 128 → lengthOf ps �
 unfolding lengthOf
 length-buffer ps h = omega (arith, terms-most ps)
 
+-- so a flush takes one block
 pub one-block : (ps : List Posting) → length ps ≤ 128 → blocksFor (lengthOf ps) ≡ 1
 one-block ps h = omega (arith, length-buffer ps h, blocks-some ps)

@@ -25,6 +25,7 @@ use Rattle.partitions.proofs.Lengths.{blocks-hold}
 -- The three parts of the rule --------------------------------------------------------------------------------------
 
 module _ (W : List ℕ) (limit : ℕ) (p : Partition) (e : partitionRule W limit p ≡ true) where
+  -- the rule of its chain
   pub rule-chain : chainRule W limit (p .first) (blocksFor (p .length)) ≡ true
   unfolding partitionRule
   rule-chain = and-left (chainRule W limit (p .first) (blocksFor (p .length))) _ e
@@ -33,9 +34,11 @@ module _ (W : List ℕ) (limit : ℕ) (p : Partition) (e : partitionRule W limit
   unfolding partitionRule
   rule-words = and-right (chainRule W limit (p .first) (blocksFor (p .length))) _ e
 
+  -- of its header
   pub rule-header : headerRule p (content W (chainOf W p)) ≡ true
   rule-header = and-left (headerRule p (content W (chainOf W p))) _ rule-words
 
+  -- and of its entries
   pub rule-entries : entriesRule (content W (chainOf W p)) ≡ true
   rule-entries = and-right (headerRule p (content W (chainOf W p))) _ rule-words
 
@@ -51,6 +54,7 @@ pub record Headed (p : Partition) (c : List ℕ) : Type 0 where
   pub long : p .length ≡ totalLength (field c 0) (field c 1)
   pub level : field c 5 ≡ p .level
 
+-- the rule says all of it
 pub headed : (p : Partition) (c : List ℕ) → headerRule p c ≡ true → Headed p c
 headed p c e =
     let e1 = and-right (leb 1 (field c 0)) _ e in
@@ -109,6 +113,7 @@ pub record Entered (c : List ℕ) : Type 0 where
 of-row : (t : ℕ → Bool) (k : ℕ) → every t (upTo k) ≡ true → (j : ℕ) → j < k → t j ≡ true
 of-row t k e j h = every-elem t (upTo k) j e (elem-rising 0 k j (omega arith) (omega arith))
 
+-- the rule says all of it
 pub entered : (c : List ℕ) → entriesRule c ≡ true → Entered c
 entered c e =
     let k = field c 0 in
@@ -197,11 +202,13 @@ module _ (c : List ℕ) (e : entriesRule c ≡ true) (h : 8 + 3 * field c 0 + fi
 -- On a card --------------------------------------------------------------------------------------------------------
 
 module _ (W : List ℕ) (limit : ℕ) (p : Partition) (e : partitionRule W limit p ≡ true) where
+  -- the postings under an entry's number
   pub postings-entry : (j : ℕ) → j < field (content W (chainOf W p)) 0
       → under (entryNumber (content W (chainOf W p)) j) (postingsOf W p) ≡ listOf (content W (chainOf W p)) j
   unfolding postingsOf
   postings-entry j h = under-entry (content W (chainOf W p)) (rule-entries W limit p e) j h
 
+  -- and under a number that no entry has
   pub postings-none : (i : ℕ) → ((j : ℕ) → j < field (content W (chainOf W p)) 0 → entryNumber (content W (chainOf W p)) j ≡ i → ⊥)
       → under i (postingsOf W p) ≡ []
   unfolding postingsOf

@@ -4,7 +4,7 @@ use mathlib.Core.List.{List, _++_, map}
 use mathlib.Core.Path.{_≡_, refl, sym, ap, _∙_}
 use Prim.Native.Nat.{ℕ, _+_, _*_, _≤_}
 use native.Mathlib.Nat.{zero-add}
-use lib.Dec.{leb}
+use lib.Dec.{eqb, leb}
 use lib.ListN.{length}
 use borrow.Author.Tests.{le-leb, eq-eqb}
 use Rattle.lists.specs.Lists.{every, totalBy, same, upTo}
@@ -42,14 +42,15 @@ module _ (level : ℕ) (ps : List Posting) (rest : List ℕ) where
   header-rule p s l v =
       let n = termCount ps in
       let k = length ps in
-      rw (
-        le-leb 1 n (terms-some ps s),
-        le-leb 1 k s,
-        eq-eqb (32 + 12 * n) (32 + 12 * n) refl,
-        eq-eqb (totalLength n k) (totalLength n k) refl,
-        eq-eqb (totalLength n k) (p .length) (sym l),
-        eq-eqb level (p .level) (sym v),
-      )
+      let t = totalLength n k in
+      let f = encode level ps ++ rest in
+      and-both (leb 1 (field f 0)) _ (le-leb 1 n (terms-some ps s))
+      (and-both (leb 1 (field f 1)) _ (le-leb 1 k s)
+      (and-both (eqb (field f 2) 32) _ refl
+      (and-both (eqb (field f 3) (32 + 12 * n)) _ (eq-eqb (field f 3) (32 + 12 * n) refl)
+      (and-both (eqb (field f 4) t) _ (eq-eqb (field f 4) t refl)
+      (and-both (eqb (field f 4) (p .length)) _ (eq-eqb (field f 4) (p .length) (sym l))
+      (and-both (eqb (field f 5) (p .level)) _ (eq-eqb (field f 5) (p .level) (sym v)) refl))))))
 
   -- the entries
   pub entries-rule : ordered ps ≡ true → every (λ p. leb (p .id) 1023) ps ≡ true → entriesRule (encode level ps ++ rest) ≡ true

@@ -34,18 +34,19 @@ words-back i (p ∷ l) e f =
     (word-back i p (eqb-true (p .id) i (and-left (eqb (p .id) i) _ e)) (leb-true (natAbs (p .count)) 32767 (and-left (inRange (p .count)) _ f)))
     (words-back i l (and-right (eqb (p .id) i) _ e) (and-right (inRange (p .count)) _ f))
 
-module _ (level : ℕ) (ps : List Posting) (rest : List ℕ) (o : ordered ps ≡ true) (f : every (λ p. inRange (p .count)) ps ≡ true) where
-  -- the words of one identifier, among all
-  pub words-under : (i : ℕ) → take (length (under i ps)) (drop (length (lower i ps)) (map wordOf ps ++ rest)) ≡ map wordOf (under i ps)
-  words-under i =
-      ap (λ (l : List Posting). take (length (under i ps)) (drop (length (lower i ps)) (map wordOf l ++ rest))) (parted i ps o)
-      ∙ map-middle wordOf (lower i ps) (under i ps) (higher i ps) rest
+-- the words of one identifier, among all
+pub words-under : (ps : List Posting) (rest : List ℕ) → ordered ps ≡ true → (i : ℕ)
+    → take (length (under i ps)) (drop (length (lower i ps)) (map wordOf ps ++ rest)) ≡ map wordOf (under i ps)
+words-under ps rest o i =
+    ap (λ (l : List Posting). take (length (under i ps)) (drop (length (lower i ps)) (map wordOf l ++ rest))) (parted i ps o)
+    ∙ map-middle wordOf (lower i ps) (under i ps) (higher i ps) rest
 
+module _ (level : ℕ) (ps : List Posting) (rest : List ℕ) (o : ordered ps ≡ true) (f : every (λ p. inRange (p .count)) ps ≡ true) where
   -- entry j leads to the postings of identifier j
   pub list-encoded : (j : ℕ) → j < termCount ps → listOf (encode level ps ++ rest) j ≡ under (getD (identifiersOf ps) j 0) ps
   list-encoded j a =
       let i = getD (identifiersOf ps) j 0 in
-      rw (posting-words level ps rest, entry-first level ps rest j a, entry-count level ps rest j a, entry-number level ps rest j a, words-under i)
+      rw (posting-words level ps rest, entry-first level ps rest j a, entry-count level ps rest j a, entry-number level ps rest j a, words-under ps rest o i)
       (words-back i (under i ps) (every-kept (λ p. eqb (p .id) i) ps) (every-keep (λ p. eqb (p .id) i) (λ p. inRange (p .count)) ps f))
 
   -- all postings are read back
