@@ -3,22 +3,19 @@ use mathlib.Core.Bool.{true}
 use mathlib.Core.List.{List, [], _∷_}
 use mathlib.Core.Logic.{_⊎_, inl, inr, ⊎-elim}
 use mathlib.Core.Path.{_≡_, refl, sym, ap, _∙_}
-use Prim.Native.Nat.{ℕ, zero, suc, _+_, _*_, _/_, _%_, _<_}
+use Prim.Native.Nat.{ℕ, zero, suc, _*_, _/_, _%_, _<_}
 use native.Mathlib.Omega.{arith}
-use lib.Dec.{eqb}
-use lib.ListN.{length, getD, drop, length-take, length-drop, getD-replicate}
-use lib.Seq.{getD-take, getD-drop}
-use borrow.Author.Tests.{eqb-true}
+use lib.ListN.{length, getD, getD-replicate}
 use Rattle.lists.specs.Lists.{every, elem}
 use Rattle.lists.proofs.Bools.{by-test}
-use Rattle.lists.proofs.Tests.{every-at}
 use Rattle.lists.proofs.Sets.{every-elem}
 use Rattle.words.specs.Words.{words, bytes, allOnes, Below}
 use Rattle.words.proofs.Views.{length-words, bytes-words}
 use Rattle.card.specs.Blocks.{block, isFree}
 use Rattle.card.specs.Writes.{store, release}
+use Rattle.card.proofs.Links.{word-in}
 use Rattle.card.proofs.Stores.{store-apart, release-apart, length-store, length-release}
-use Rattle.card.proofs.FreeBlocks.{block-released}
+use Rattle.card.proofs.FreeBlocks.{block-released, free-word}
 
 -- Words ------------------------------------------------------------------------------------------------------------
 
@@ -36,21 +33,6 @@ abbrev pub Moves : List ℕ → List ℕ → Type 0
 Moves W W′ =
     (k : ℕ) → k < length W
     → (getD W′ k 0 ≡ getD W k 0) ⊎ (getD W k 0 ≡ allOnes) ⊎ ((j : ℕ) → j < length W → j / 1024 ≡ k / 1024 → getD W′ j 0 ≡ allOnes)
-
--- a word by its block and its place there
-pub word-in : (W : List ℕ) (k : ℕ) → getD W k 0 ≡ getD (block W (k / 1024)) (k % 1024) 0
-word-in W k =
-    let e : 1024 * (k / 1024) + k % 1024 ≡ k = omega arith in
-    sym
-    (getD-take 1024 (drop (1024 * (k / 1024)) W) (k % 1024) 0 (omega arith) ∙ getD-drop (1024 * (k / 1024)) W (k % 1024) 0
-    ∙ ap (λ (i : ℕ). getD W i 0) e)
-
--- a word of a free block is all ones
-pub free-word : (W : List ℕ) (k : ℕ) → k < length W → isFree W (k / 1024) ≡ true → getD W k 0 ≡ allOnes
-free-word W k h e =
-    let b = 1024 * (k / 1024) in
-    let l : k % 1024 < length (block W (k / 1024)) = omega (arith, length-take 1024 (drop b W), length-drop b W) in
-    word-in W k ∙ sym (eqb-true allOnes (getD (block W (k / 1024)) (k % 1024) 0) (every-at (eqb allOnes) (block W (k / 1024)) 0 e (k % 1024) l))
 
 -- a word of a block that does not change stays
 pub word-kept : (W W′ : List ℕ) (k : ℕ) → block W′ (k / 1024) ≡ block W (k / 1024) → getD W′ k 0 ≡ getD W k 0

@@ -2,10 +2,10 @@
 use mathlib.Core.Bool.{Bool, true, false, not, _||_, true≢false}
 use mathlib.Core.List.{List, [], _∷_}
 use mathlib.Core.Path.{_≡_, refl, sym, ap, _∙_}
-use Prim.Native.Nat.{ℕ, zero, suc, _*_, _<_, _≤_}
+use Prim.Native.Nat.{ℕ, zero, suc, _+_, _*_, _/_, _%_, _<_, _≤_}
 use native.Mathlib.Omega.{arith}
 use lib.Dec.{eqb, ltb}
-use lib.ListN.{length, getD, replicate, length-replicate}
+use lib.ListN.{length, getD, drop, replicate, length-replicate, length-take, length-drop}
 use lib.Seq.{sets, length-sets}
 use borrow.Author.Tests.{eqb-true, lt-ltb, ltb-true, not-true}
 use Rattle.lists.specs.Lists.{keep, every, elem, different, upTo}
@@ -17,7 +17,7 @@ use Rattle.words.specs.Words.{allOnes}
 use Rattle.card.specs.Blocks.{noBlock, block, link, isFree, afterTaken, freeBlocks}
 use Rattle.card.specs.Chains.{chain, chainRule}
 use Rattle.card.specs.Writes.{store, release}
-use Rattle.card.proofs.Links.{onCard, link-block, length-block, rule-first}
+use Rattle.card.proofs.Links.{onCard, word-in, rule-first}
 use Rattle.card.proofs.Stores.{apart, store-apart, release-apart}
 use Rattle.card.proofs.Stored.{block-back}
 
@@ -78,18 +78,31 @@ module _ (W : List ℕ) (n taken : ℕ) where
       elem-keep (isFree W) (afterTaken n taken) b e
       (any-turned (suc taken) (upTo n) (λ m. eqb m b) ∙ elem-rising 0 n b (omega arith) (omega arith))
 
-  -- so how many they are does not depend on the block last taken
+  -- the one at place j is on the card and free
+  pub free-at : (j : ℕ) → j < length (freeBlocks W n taken) → (getD (freeBlocks W n taken) j 0 < n) × (isFree W (getD (freeBlocks W n taken) j 0) ≡ true)
+  free-at j h =
+      let bs = freeBlocks W n taken in
+      (ltb-true (getD bs j 0) n (every-at (λ b. ltb b n) bs 0 free-on j h), every-at (isFree W) bs 0 free-free j h)
+
+  -- and how many they are does not depend on the block last taken
   pub free-count : length (freeBlocks W n taken) ≡ length (keep (isFree W) (upTo n))
   unfolding freeBlocks
   free-count = length-keep-turned (suc taken) (upTo n) (isFree W)
 
 -- Taken ------------------------------------------------------------------------------------------------------------
 
--- a free block's link is all ones
+-- a word of a free block is all ones
+pub free-word : (W : List ℕ) (k : ℕ) → k < length W → isFree W (k / 1024) ≡ true → getD W k 0 ≡ allOnes
+free-word W k h e =
+    let b = 1024 * (k / 1024) in
+    let l : k % 1024 < length (block W (k / 1024)) = omega (arith, length-take 1024 (drop b W), length-drop b W) in
+    word-in W k ∙ sym (eqb-true allOnes (getD (block W (k / 1024)) (k % 1024) 0) (every-at (eqb allOnes) (block W (k / 1024)) 0 e (k % 1024) l))
+
+-- and so is a free block's link
 pub free-link : (W : List ℕ) (n b : ℕ) → length W ≡ 1024 * n → b < n → isFree W b ≡ true → link W b ≡ allOnes
 free-link W n b long h e =
-    let l : 1023 < length (block W b) = omega (arith, length-block W n b long h) in
-    link-block W b ∙ sym (eqb-true allOnes (getD (block W b) 1023 0) (every-at (eqb allOnes) (block W b) 0 e 1023 l))
+    let q : (1024 * b + 1023) / 1024 ≡ b = omega arith in
+    free-word W (1024 * b + 1023) (omega arith) (rw q e)
 
 -- so a block that links to another of the card, or to none, is not free
 taken : (W : List ℕ) (n b : ℕ) → length W ≡ 1024 * n → b < n → link W b < allOnes → isFree W b ≡ false

@@ -2,7 +2,7 @@
 use mathlib.Core.Bool.{Bool, true, cond, true≢false}
 use mathlib.Core.List.{List, [], _∷_}
 use mathlib.Core.Path.{_≡_, refl, sym, ap, _∙_}
-use Prim.Native.Nat.{ℕ, zero, suc, _+_, _*_, _<_}
+use Prim.Native.Nat.{ℕ, zero, suc, _+_, _*_, _/_, _%_, _<_}
 use native.Mathlib.Omega.{arith}
 use lib.Dec.{ltb}
 use lib.ListN.{length, getD, drop, length-append, length-take, length-drop, List·getD-append}
@@ -16,6 +16,14 @@ use Rattle.card.specs.Chains.{chain, chainRule, content}
 -- every block is one of a card of n
 abbrev pub onCard : ℕ → List ℕ → Bool
 onCard n bs = every (λ b. ltb b n) bs
+
+-- a word by its block and its place there
+pub word-in : (W : List ℕ) (k : ℕ) → getD W k 0 ≡ getD (block W (k / 1024)) (k % 1024) 0
+word-in W k =
+    let e : 1024 * (k / 1024) + k % 1024 ≡ k = omega arith in
+    sym
+    (getD-take 1024 (drop (1024 * (k / 1024)) W) (k % 1024) 0 (omega arith) ∙ getD-drop (1024 * (k / 1024)) W (k % 1024) 0
+    ∙ ap (λ (i : ℕ). getD W i 0) e)
 
 -- the link is the block's last word
 pub link-block : (W : List ℕ) (b : ℕ) → link W b ≡ getD (block W b) 1023 0
