@@ -5,3 +5,4 @@ pub mod Counts
 pub mod Forms
 pub mod Kept
 pub mod Runs
+pub mod Replaced
