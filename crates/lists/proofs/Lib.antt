@@ -11,3 +11,6 @@ pub mod Padding
 pub mod Parts
 pub mod Runs
 pub mod Same
+pub mod Shifts
+pub mod Places
+pub mod Sizes
