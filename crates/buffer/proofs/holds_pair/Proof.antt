@@ -1,0 +1,83 @@
+use mathlib.Core.Path.{_≡_, refl, sym, _∙_}
+use Prim.Native.Nat.{_≤_, _-_}
+use native.Mathlib.Omega.{arith}
+use borrow.Author.Needs.{needs}
+use lib.ListN.{length, take, drop}
+use Rattle.lists.specs.Lists.{any}
+use Rattle.lists.proofs.Arrays.{unmapped}
+use Rattle.lists.proofs.Places.{any-turn, any-ended}
+use Rattle.postings.specs.Order.{samePair}
+use Rattle.state.specs.Views.{noPosting}
+use Rattle.buffer.specs.Places.{pair}
+use Rattle.buffer.proofs.holds_pair.Statement.{statement}
+use Rattle.buffer.proofs.holds_pair.Tie as tie
+
+abbrev Inv-loop : tie.InvT-loop
+Inv-loop id window b n i₀ i =
+    (length (b .postings) ≡ 128) × (i ≤ n) × (any (samePair (pair id window)) (take n (b .postings)) ≡ any (samePair (pair id window)) (drop i (take n (b .postings))))
+
+abbrev μ-loop : tie.MeasureT-loop
+μ-loop id window b n i₀ i = n - i
+
+cast-n : tie.Need-cast-n Inv-loop μ-loop
+cast-n c = omega arith
+
+loop-holds : tie.Need-loop-holds Inv-loop μ-loop
+loop-holds c = (search (unmapped, needs), omega arith, refl)
+
+mul-q : tie.Need-mul-q Inv-loop μ-loop
+mul-q c = omega arith
+
+element-copy-out-q : tie.Need-element-copy-out-q Inv-loop μ-loop
+element-copy-out-q c = omega arith
+
+is-pair-requires : tie.Need-is-pair-requires Inv-loop μ-loop
+is-pair-requires c κs = tt
+
+returns : tie.Need-returns Inv-loop μ-loop
+returns c =
+    let a = c .before .before .before .before in
+    let b = a .before .args .t1 in
+    let len = a .loop .inv .0 in
+    let t = any-turn (samePair (pair (a .before .args .id) (a .before .args .window))) (b .postings) noPosting (b .used) (a .loop .i) (omega arith) (omega arith) in
+    let e = sym (c .before .is-pair .ensures) ∙ c .if1 .taken in
+    sym (a .loop .inv .2 ∙ t ∙ rw e)
+
+add-i : tie.Need-add-i Inv-loop μ-loop
+add-i c = omega arith
+
+loop-less : tie.Need-loop-less Inv-loop μ-loop
+loop-less c = omega arith
+
+loop-again : tie.Need-loop-again Inv-loop μ-loop
+loop-again c =
+    let a = c .before .before .before .before in
+    let b = a .before .args .t1 in
+    let len = a .loop .inv .0 in
+    let t = any-turn (samePair (pair (a .before .args .id) (a .before .args .window))) (b .postings) noPosting (b .used) (a .loop .i) (omega arith) (omega arith) in
+    let e = sym (c .before .is-pair .ensures) ∙ c .if1 .left in
+    (len, omega arith, a .loop .inv .2 ∙ t ∙ rw e)
+
+returns-2 : tie.Need-returns-2 Inv-loop μ-loop
+returns-2 c =
+    let s = c .before .before in
+    let b = s .args .t1 in
+    let len = c .before .loop .inv .0 in
+    sym (c .before .loop .inv .2 ∙ any-ended (samePair (pair (s .args .id) (s .args .window))) (b .postings) (b .used) (c .before .loop .i) (omega arith) (omega arith))
+
+pub holds-pair-spec : {M : Type 1} → statement M
+holds-pair-spec =
+    tie.close
+    (tie.spec
+    Inv-loop
+    μ-loop
+    cast-n
+    loop-holds
+    mul-q
+    element-copy-out-q
+    is-pair-requires
+    returns
+    add-i
+    loop-less
+    loop-again
+    returns-2)

@@ -1,0 +1,104 @@
+use mathlib.Core.List.{List}
+use mathlib.Core.Path.{_≡_, refl, sym, ap, ap₂, _∙_}
+use Prim.Native.Nat.{ℕ, _≤_, _+_, _-_}
+use native.Mathlib.Omega.{arith}
+use borrow.Author.Needs.{needs}
+use lib.ListN.{length, getD, set}
+use Rattle.lists.proofs.Arrays.{unmapped}
+use Rattle.lists.proofs.Shifts.{raised, raised-none, raised-more}
+use Rattle.postings.specs.declared.Posting.{Posting}
+use Rattle.state.specs.Views.{noPosting}
+use Rattle.buffer.proofs.Canonical.{made, insert-made}
+use Rattle.buffer.proofs.insert.Statement.{statement}
+use Rattle.buffer.proofs.insert.Tie as tie
+
+abbrev Inv-loop : tie.InvT-loop
+Inv-loop k p c₀ i₀ c i =
+    (length (c₀ .postings) ≡ 128) × (k ≤ i) × (i ≤ c₀ .used) × (c .used ≡ c₀ .used)
+    × (c .postings ≡ raised (c₀ .used) i (c₀ .postings))
+
+abbrev μ-loop : tie.MeasureT-loop
+μ-loop k p c₀ i₀ c i = i
+
+cast-i : tie.Need-cast-i Inv-loop μ-loop
+cast-i c = omega arith
+
+loop-holds : tie.Need-loop-holds Inv-loop μ-loop
+loop-holds c =
+    let b = c .args .b in
+    (search (unmapped, needs), omega arith, omega arith, refl, sym (raised-none (b .used) (b .postings)))
+
+sub-q : tie.Need-sub-q Inv-loop μ-loop
+sub-q c = omega arith
+
+mul-q : tie.Need-mul-q Inv-loop μ-loop
+mul-q c = omega arith
+
+element-copy-out-q : tie.Need-element-copy-out-q Inv-loop μ-loop
+element-copy-out-q c = omega arith
+
+mul-q-2 : tie.Need-mul-q-2 Inv-loop μ-loop
+mul-q-2 c = omega arith
+
+element-set-from-q : tie.Need-element-set-from-q Inv-loop μ-loop
+element-set-from-q c = omega arith
+
+sub-i : tie.Need-sub-i Inv-loop μ-loop
+sub-i c = omega arith
+
+loop-less : tie.Need-loop-less Inv-loop μ-loop
+loop-less c = omega arith
+
+loop-again : tie.Need-loop-again Inv-loop μ-loop
+loop-again c =
+    let a = c .before .before in
+    let b = a .before .args .b in
+    let i = a .loop .i in
+    let v = a .loop .inv in
+    let len = v .0 in (
+      len,
+      omega arith,
+      omega arith,
+      v .3,
+      ap (λ (xs : List Posting). set xs i (getD xs (i - 1) noPosting)) (v .4) ∙ raised-more noPosting (b .used) i (b .postings) (omega arith) (omega arith) (omega arith),
+    )
+
+mul-p : tie.Need-mul-p Inv-loop μ-loop
+mul-p c = omega arith
+
+element-set-from-p : tie.Need-element-set-from-p Inv-loop μ-loop
+element-set-from-p c = omega arith
+
+add-c : tie.Need-add-c Inv-loop μ-loop
+add-c c = omega arith
+
+returns : tie.Need-returns Inv-loop μ-loop
+returns c =
+    let s = c .before .before in
+    let b = s .args .b in
+    let k = s .args .k in
+    let v = c .before .loop .inv in
+    let e : c .before .loop .i ≡ k = omega arith in
+    ap₂ (λ (u : ℕ) (xs : List Posting). made (u + 1) (set xs k (s .args .p))) (v .3) (v .4 ∙ ap (λ (j : ℕ). raised (b .used) j (b .postings)) e)
+    ∙ insert-made b (s .pre .0) k (s .args .p) (s .pre .2) (s .pre .1)
+
+pub insert-spec : {M : Type 1} → statement M
+insert-spec =
+    tie.close
+    (tie.spec
+    Inv-loop
+    μ-loop
+    cast-i
+    loop-holds
+    sub-q
+    mul-q
+    element-copy-out-q
+    mul-q-2
+    element-set-from-q
+    sub-i
+    loop-less
+    loop-again
+    mul-p
+    element-set-from-p
+    add-c
+    returns)

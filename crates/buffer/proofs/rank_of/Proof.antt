@@ -1,0 +1,95 @@
+use mathlib.Core.Path.{_≡_, sym, _∙_}
+use Prim.Native.Nat.{_≤_, _+_, _-_, _/_}
+use native.Mathlib.Omega.{arith}
+use borrow.Author.Needs.{needs}
+use lib.ListN.{length}
+use lib.Seq.{getD-take}
+use Rattle.lists.proofs.Arrays.{unmapped}
+use Rattle.state.specs.Views.{buffered, noPosting}
+use Rattle.buffer.specs.Places.{pair, rank}
+use Rattle.buffer.proofs.Canonical.{canonical-used}
+use Rattle.buffer.proofs.Ranks.{rank-le, rank-above, rank-below}
+use Rattle.buffer.proofs.rank_of.Statement.{statement}
+use Rattle.buffer.proofs.rank_of.Tie as tie
+
+abbrev Inv-loop : tie.InvT-loop
+Inv-loop id window b p low₀ high₀ low high =
+    (length (b .postings) ≡ 128) × (low ≤ rank (pair id window) (buffered b)) × (rank (pair id window) (buffered b) ≤ high) × (high ≤ b .used)
+
+abbrev μ-loop : tie.MeasureT-loop
+μ-loop id window b p low₀ high₀ low high = high - low
+
+cast-high : tie.Need-cast-high Inv-loop μ-loop
+cast-high c = omega arith
+
+loop-holds : tie.Need-loop-holds Inv-loop μ-loop
+loop-holds c =
+    let b = c .args .t1 in
+    (search (unmapped, needs), omega arith, omega (arith, rank-le (pair (c .args .id) (c .args .window)) (buffered b), canonical-used b (c .pre)), omega arith)
+
+add-middle : tie.Need-add-middle Inv-loop μ-loop
+add-middle c = omega arith
+
+mul-q : tie.Need-mul-q Inv-loop μ-loop
+mul-q c = omega arith
+
+element-copy-out-q : tie.Need-element-copy-out-q Inv-loop μ-loop
+element-copy-out-q c = omega arith
+
+precedes-requires : tie.Need-precedes-requires Inv-loop μ-loop
+precedes-requires c κs = tt
+
+add-low : tie.Need-add-low Inv-loop μ-loop
+add-low c = omega arith
+
+loop-less : tie.Need-loop-less Inv-loop μ-loop
+loop-less c = omega arith
+
+loop-again : tie.Need-loop-again Inv-loop μ-loop
+loop-again c =
+    let a = c .before .before .before .before in
+    let s = a .before in
+    let b = s .args .t1 in
+    let p = pair (s .args .id) (s .args .window) in
+    let i = (a .loop .low + a .loop .high) / 2 in
+    let u = canonical-used b (s .pre) in
+    let e = getD-take (b .used) (b .postings) i noPosting (omega arith) in
+    let r = rank-above p (buffered b) noPosting i (s .pre .inOrder) (omega arith) (rw e (sym (c .before .precedes .ensures) ∙ c .if1 .taken)) in
+    (a .loop .inv .0, omega arith, omega arith, omega arith)
+
+loop-less-2 : tie.Need-loop-less-2 Inv-loop μ-loop
+loop-less-2 c = omega arith
+
+loop-again-2 : tie.Need-loop-again-2 Inv-loop μ-loop
+loop-again-2 c =
+    let a = c .before .before .before .before in
+    let s = a .before in
+    let b = s .args .t1 in
+    let p = pair (s .args .id) (s .args .window) in
+    let i = (a .loop .low + a .loop .high) / 2 in
+    let u = canonical-used b (s .pre) in
+    let e = getD-take (b .used) (b .postings) i noPosting (omega arith) in
+    let r = rank-below p (buffered b) noPosting i (s .pre .inOrder) (omega arith) (rw e (sym (c .before .precedes .ensures) ∙ c .if1 .left)) in
+    (a .loop .inv .0, omega arith, omega arith, omega arith)
+
+returns : tie.Need-returns Inv-loop μ-loop
+returns c = omega arith
+
+pub rank-of-spec : {M : Type 1} → statement M
+rank-of-spec =
+    tie.close
+    (tie.spec
+    Inv-loop
+    μ-loop
+    cast-high
+    loop-holds
+    add-middle
+    mul-q
+    element-copy-out-q
+    precedes-requires
+    add-low
+    loop-less
+    loop-again
+    loop-less-2
+    loop-again-2
+    returns)

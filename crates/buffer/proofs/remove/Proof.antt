@@ -1,0 +1,111 @@
+use mathlib.Core.List.{List}
+use mathlib.Core.Path.{_≡_, refl, sym, ap, ap₂, _∙_}
+use Prim.Native.Nat.{ℕ, _≤_, _<_, _+_, _-_}
+use native.Mathlib.Omega.{arith}
+use borrow.Author.Needs.{needs}
+use lib.ListN.{length, getD, set}
+use Rattle.lists.proofs.Arrays.{unmapped}
+use Rattle.lists.proofs.Shifts.{lowered, lowered-none, lowered-more}
+use Rattle.postings.specs.declared.Posting.{Posting}
+use Rattle.state.specs.Views.{noPosting}
+use Rattle.buffer.proofs.Canonical.{made, remove-made}
+use Rattle.buffer.proofs.remove.Statement.{statement}
+use Rattle.buffer.proofs.remove.Tie as tie
+
+abbrev Inv-loop : tie.InvT-loop
+Inv-loop k c₀ n i₀ c i =
+    (length (c₀ .postings) ≡ 128) × (k ≤ i) × (i < n) × (c .used ≡ c₀ .used)
+    × (c .postings ≡ lowered k i (c₀ .postings))
+
+abbrev μ-loop : tie.MeasureT-loop
+μ-loop k c₀ n i₀ c i = n - i
+
+cast-n : tie.Need-cast-n Inv-loop μ-loop
+cast-n c = omega arith
+
+loop-holds : tie.Need-loop-holds Inv-loop μ-loop
+loop-holds c =
+    let b = c .args .b in
+    (search (unmapped, needs), omega arith, omega arith, refl, sym (lowered-none (c .args .k) (b .postings)))
+
+add-loop : tie.Need-add-loop Inv-loop μ-loop
+add-loop c = omega arith
+
+add-q : tie.Need-add-q Inv-loop μ-loop
+add-q c = omega arith
+
+mul-q : tie.Need-mul-q Inv-loop μ-loop
+mul-q c = omega arith
+
+element-copy-out-q : tie.Need-element-copy-out-q Inv-loop μ-loop
+element-copy-out-q c = omega arith
+
+mul-q-2 : tie.Need-mul-q-2 Inv-loop μ-loop
+mul-q-2 c = omega arith
+
+element-set-from-q : tie.Need-element-set-from-q Inv-loop μ-loop
+element-set-from-q c = omega arith
+
+add-i : tie.Need-add-i Inv-loop μ-loop
+add-i c = omega arith
+
+loop-less : tie.Need-loop-less Inv-loop μ-loop
+loop-less c = omega arith
+
+loop-again : tie.Need-loop-again Inv-loop μ-loop
+loop-again c =
+    let a = c .before .before in
+    let s = a .before in
+    let b = s .args .b in
+    let i = a .loop .i in
+    let v = a .loop .inv in
+    let len = v .0 in (
+      len,
+      omega arith,
+      omega arith,
+      v .3,
+      ap (λ (xs : List Posting). set xs i (getD xs (i + 1) noPosting)) (v .4) ∙ lowered-more noPosting (s .args .k) i (b .postings) (omega arith) (omega arith),
+    )
+
+mul-t17 : tie.Need-mul-t17 Inv-loop μ-loop
+mul-t17 c = omega arith
+
+element-set-from-c : tie.Need-element-set-from-c Inv-loop μ-loop
+element-set-from-c c = omega arith
+
+sub-c : tie.Need-sub-c Inv-loop μ-loop
+sub-c c = omega arith
+
+returns : tie.Need-returns Inv-loop μ-loop
+returns c =
+    let s = c .before .before in
+    let b = s .args .b in
+    let k = s .args .k in
+    let v = c .before .loop .inv in
+    let i = c .before .loop .i in
+    let e : i ≡ b .used - 1 = omega arith in
+    ap₂ (λ (u : ℕ) (xs : List Posting). made (u - 1) (set xs i noPosting)) (v .3) (v .4)
+    ∙ ap (λ (j : ℕ). made (b .used - 1) (set (lowered k j (b .postings)) j noPosting)) e
+    ∙ remove-made b (s .pre .0) k (s .pre .1)
+
+pub remove-spec : {M : Type 1} → statement M
+remove-spec =
+    tie.close
+    (tie.spec
+    Inv-loop
+    μ-loop
+    cast-n
+    loop-holds
+    add-loop
+    add-q
+    mul-q
+    element-copy-out-q
+    mul-q-2
+    element-set-from-q
+    add-i
+    loop-less
+    loop-again
+    mul-t17
+    element-set-from-c
+    sub-c
+    returns)
