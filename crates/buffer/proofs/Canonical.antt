@@ -37,8 +37,9 @@ canonical-of l o h = record { short = h; inOrder = rw (buffered-of l) o; clean =
 pub canonical-used : (b : Buffer) → Canonical b → length (buffered b) ≡ b .used
 canonical-used b c = sym (ap (λ (x : Buffer). x .used) (c .clean))
 
--- refusal 1 leaves only canonical buffers, without a count of 0
+-- what refusal 1 lets through
 module _ (w : Windows) (b : Buffer) (r : bufferRule w b ≡ true) where
+  -- so the buffer is canonical
   pub rule-canonical : length (b .postings) ≡ 128 → Canonical b
   unfolding bufferRule
   rule-canonical e =
@@ -57,6 +58,7 @@ module _ (w : Windows) (b : Buffer) (r : bufferRule w b ≡ true) where
           let z = is-zero (q .count) (and-right (eqb (q .window) 0) _ g) in
           λ k. record { id = i k; window = v k; count = z k }
 
+  -- and each posting counts
   pub rule-counts : every counts (buffered b) ≡ true
   unfolding bufferRule postingRule
   rule-counts =
@@ -85,11 +87,14 @@ module _ (l : List Posting) (k : ℕ) where
   changed b e p h = rw e (ap₂ made (sym (length-set l k p)) (filled-set 128 noPosting l k p h))
 
 module _ (b : Buffer) (c : Canonical b) (k : ℕ) where
+  -- a posting put in, the rest having moved up
   pub insert-made : (p : Posting) → k ≤ b .used → b .used < 128 → made (b .used + 1) (set (raised (b .used) k (b .postings)) k p) ≡ bufferOf (insertedAt k p (buffered b))
   insert-made p h f = let u = canonical-used b c in inserted (buffered b) k b (c .clean) p (omega arith) (omega arith)
 
+  -- a posting dropped, the rest having moved down
   pub remove-made : k < b .used → made (b .used - 1) (set (lowered k (b .used - 1) (b .postings)) (b .used - 1) noPosting) ≡ bufferOf (droppedAt k (buffered b))
   remove-made h = let u = canonical-used b c in dropped (buffered b) k b (c .clean) (omega arith) (omega (arith, c .short))
 
+  -- a posting in the place of another
   pub replace-made : (p : Posting) → k < b .used → made (b .used) (set (b .postings) k p) ≡ bufferOf (set (buffered b) k p)
   replace-made p h = let u = canonical-used b c in changed (buffered b) k b (c .clean) p (omega arith)

@@ -52,6 +52,7 @@ module _ (p : Posting) where
           (λ y. absurd (true≢false (sym (precedes-trans q r p (and-left (precedes q r) _ e) y) ∙ n)))
           (λ k. rw (k, after m (and-right (precedes q r) _ e)))
 
+  -- a rank is a place of the list or its end
   pub rank-le : (l : List Posting) → rank p l ≤ length l
   unfolding rank
   rank-le l = length-keep (λ q. precedes q p) l

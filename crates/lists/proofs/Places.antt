@@ -15,22 +15,25 @@ use Rattle.lists.proofs.Shifts.{raised, lowered, raised-done, lowered-d
 module _ {A : Type 0} where
   -- ---- lengths and tests
 
+  -- one element more
   pub length-insert : (k : ℕ) (a : A) (l : List A) → length (take k l ++ a ∷ drop k l) ≡ suc (length l)
   length-insert zero a l = refl
   length-insert (suc k) a [] = refl
   length-insert (suc k) a (x ∷ l) = ap suc (length-insert k a l)
 
+  -- one element less
   pub length-without : (k : ℕ) (l : List A) → k < length l → suc (length (take k l ++ drop (suc k) l)) ≡ length l
   length-without k [] h = absurd (omega arith)
   length-without zero (x ∷ l) h = refl
   length-without (suc k) (x ∷ l) h = ap suc (length-without k l (omega arith))
 
-  -- an element that passes a test, and one that is in the list
+  -- a place whose element passes a test
   pub any-at : (t : A → Bool) (l : List A) (d : A) (i : ℕ) → i < length l → t (getD l i d) ≡ true → any t l ≡ true
   any-at t [] d i h e = absurd (omega arith)
   any-at t (x ∷ l) d zero h e = rw e
   any-at t (x ∷ l) d (suc i) h e = or-right (t x) _ (any-at t l d i (omega arith) e)
 
+  -- the element of a place is in the list
   pub mem-at : (l : List A) (d : A) (i : ℕ) → i < length l → List·Memᴰ (getD l i d) l
   mem-at [] d i h = absurd (omega arith)
   mem-at (x ∷ l) d zero h = List·Memᴰ·head refl
