@@ -21,7 +21,7 @@ mod merge;
 mod partition;
 mod postings;
 pub mod refusal;
-mod register;
+pub mod register;
 mod rules;
 pub mod state;
 pub mod weights;
