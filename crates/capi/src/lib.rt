@@ -13,5 +13,9 @@ pub extern "C" fn gemsilver_register_ok(register: &[u8]) -> u8
     if 66560 < register.len() {
         return 0;
     }
-    if identifiers::register_ok(register) { 1 } else { 0 }
+    if identifiers::register_ok(register) {
+        1
+    } else {
+        0
+    }
 }
