@@ -6,7 +6,6 @@ pub mod Falling
 pub mod Ranges
 pub mod Sets
 pub mod Turns
-pub mod Neighbours
 pub mod Padding
 pub mod Parts
 pub mod Runs

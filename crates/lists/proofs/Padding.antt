@@ -6,8 +6,8 @@ use Prim.Native.Nat.{ℕ, zero, suc, _+_, _-_, _<_, _≤_}
 use native.Mathlib.Nat.{sub-zero, zero-sub, suc-sub-suc}
 use native.Mathlib.Numerals.{add-one}
 use native.Mathlib.Omega.{arith}
-use lib.ListN.{length, getD, take, drop, set, replicate, length-append, length-take, length-drop, length-replicate, length-set, take-append-drop, List·getD-append}
-use lib.Seq.{drop-append-add, take-append-le, drop-append-le, take-append-seam, drop-append-seam, length-take-le, take-suc-set, drop-set-lt, take-take, drop-drop, getD-drop, getD-append-add, set-split, take-suc, drop-cons, set-at, set-append-left, append-snoc}
+use lib.ListN.{length, getD, take, drop, set, replicate, length-append, length-drop, length-replicate, length-set, take-append-drop}
+use lib.Seq.{drop-append-add, take-append-le, drop-append-seam, length-take-le, take-suc-set, drop-set-lt, take-take, drop-drop, getD-drop, getD-append-add, take-suc, drop-cons, set-at, set-append-left}
 use Rattle.lists.specs.Lists.{every}
 use Rattle.lists.proofs.Bools.{and-left, and-right, and-both}
 

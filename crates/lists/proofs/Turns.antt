@@ -1,12 +1,31 @@
--- A loop over the places of an array, where the answer for the whole is the answer for what is left: what a turn does to that, and the end.
-use mathlib.Core.Bool.{Bool, true, false, _&&_}
-use mathlib.Core.List.{List, [], _∷_}
-use mathlib.Core.Path.{_≡_, refl, _∙_}
-use Prim.Native.Nat.{ℕ, _+_, _<_, _≤_}
+-- Tests over a list part by part, and loops over the places of an array: where the answer for the whole is the answer for what is left, what a
+-- turn does to that, and the end.
+use mathlib.Core.Bool.{Bool, true, false, _&&_, and-assoc, and-false}
+use mathlib.Core.List.{List, [], _∷_, _++_}
+use mathlib.Core.Path.{_≡_, refl, sym, _∙_}
+use Prim.Native.Nat.{ℕ, zero, suc, _+_, _<_, _≤_}
+use lib.ListN.{take, drop, length, getD, drop-of-length-le, length-drop}
 use native.Mathlib.Numerals.{add-one}
 use native.Mathlib.Omega.{arith}
-use lib.ListN.{length, getD, take, drop, drop-of-length-le}
 use lib.Seq.{drop-cons, getD-take, length-take-le}
+use Rattle.lists.specs.Lists.{every}
+use Rattle.lists.proofs.Bools.{and-left, and-right, and-both}
+use Rattle.lists.proofs.Tests.{every-from}
+
+module _ {A : Type 0} (t : A → Bool) where
+  pub every-append : (l m : List A) → every t (l ++ m) ≡ (every t l && every t m)
+  every-append [] m = refl
+  every-append (x ∷ l) m = rw (every-append l m) (sym (and-assoc (t x) (every t l) (every t m)))
+
+  pub every-take : (n : ℕ) (l : List A) → every t l ≡ true → every t (take n l) ≡ true
+  every-take zero l e = refl
+  every-take (suc n) [] e = refl
+  every-take (suc n) (x ∷ l) e = and-both (t x) _ (and-left (t x) _ e) (every-take n l (and-right (t x) _ e))
+
+  pub every-drop : (n : ℕ) (l : List A) → every t l ≡ true → every t (drop n l) ≡ true
+  every-drop zero l e = e
+  every-drop (suc n) [] e = e
+  every-drop (suc n) (x ∷ l) e = every-drop n l (and-right (t x) _ e)
 
 -- a conjunction stops at its first part
 pub and-stop : (a b : Bool) → a ≡ false → (a && b) ≡ false
@@ -36,3 +55,43 @@ module _ {A B : Type 0} (f : List A → B) {whole : B} where
   -- the end, over the first n places
   pub used-end : (all : List A) (n i : ℕ) → n ≤ length all → n ≤ i → whole ≡ f (drop i (take n all)) → whole ≡ f []
   used-end all n i fits h inv = let l : length (take n all) ≡ n = length-take-le n all fits in end (take n all) i (omega arith) inv
+
+-- a test of each element with every later one needs to look at the next only, where it goes on from one to the next
+pub near-next : {A : Type 0} (f : List A → Bool) (near : A → A → Bool)
+    → ((x : A) (l : List A) → f (x ∷ l) ≡ (every (near x) l && f l))
+    → ((x y z : A) → near x y ≡ true → near y z ≡ true → near x z ≡ true)
+    → (x y : A) (l : List A) → f (x ∷ y ∷ l) ≡ (near x y && f (y ∷ l))
+near-next {A = A} f near cons trans x y l = cons x (y ∷ l) ∙ same (near x y) (every (near x) l) (f (y ∷ l)) later
+  where
+    same : (a b c : Bool) → (a ≡ true → c ≡ true → b ≡ true) → ((a && b) && c) ≡ (a && c)
+    same true b true h = rw (h refl refl)
+    same true b false h = and-false b
+    same false b c h = refl
+
+    later : near x y ≡ true → f (y ∷ l) ≡ true → every (near x) l ≡ true
+    later e o =
+        let g : every (near y) l ≡ true = and-left (every (near y) l) (f l) (rw (cons y l) at o) in
+        every-from (near y) (near y) (near x) (λ z p q. trans x y z e p) l g g
+
+module _ {A : Type 0} (f : List A → Bool) (near : A → A → Bool)
+    (none : f [] ≡ true) (one : (x : A) → f (x ∷ []) ≡ true) (next : (x y : A) (l : List A) → f (x ∷ y ∷ l) ≡ (near x y && f (y ∷ l)))
+    {whole : Bool} (all : List A) (n i : ℕ) where
+  -- one turn
+  pub near-turn : (d : A) → n ≤ length all → i + 1 < n → whole ≡ f (drop i (take n all)) → whole ≡ (near (getD all i d) (getD all (i + 1) d) && f (drop (i + 1) (take n all)))
+  near-turn d fits h inv =
+      let l : length (take n all) ≡ n = length-take-le n all fits in
+      let rest : drop (i + 1) (take n all) ≡ getD all (i + 1) d ∷ drop (suc (i + 1)) (take n all) =
+      drop-cons (take n all) (i + 1) d (omega arith) ∙ rw (getD-take n all (i + 1) d h) in
+      let u : whole ≡ f (getD all i d ∷ drop (i + 1) (take n all)) = used-turn f all n i d fits (omega arith) inv in
+      rw rest (rw rest at u ∙ next (getD all i d) (getD all (i + 1) d) (drop (suc (i + 1)) (take n all)))
+
+  -- the end: fewer than two are left
+  pub near-end : n ≤ length all → n ≤ i + 1 → whole ≡ f (drop i (take n all)) → whole ≡ true
+  near-end fits h inv =
+      let l : length (take n all) ≡ n = length-take-le n all fits in
+      inv ∙ short (drop i (take n all)) (rw (length-drop i (take n all)) (omega arith))
+    where
+      short : (m : List A) → length m ≤ 1 → f m ≡ true
+      short [] p = none
+      short (x ∷ []) p = one x
+      short (x ∷ y ∷ m) p = absurd (omega arith)

@@ -1,16 +1,16 @@
 -- The three lists of a state in their one form: what a used place after the count would break, and back.
-use mathlib.Core.Bool.{Bool, true, false, _&&_, _||_, not}
-use mathlib.Core.List.{List, [], _∷_}
-use mathlib.Core.Path.{_≡_, refl, sym, ap, _∙_}
+use mathlib.Core.Bool.{Bool, true}
+use mathlib.Core.List.{List}
+use mathlib.Core.Path.{_≡_, refl, sym}
 use Prim.Native.Nat.{ℕ, zero, suc, _-_, _≤_}
 use native.Mathlib.Omega.{arith}
 use lib.Dec.{eqb, leb}
 use lib.IntN.{ℤ, pos, negsuc}
 use lib.ListN.{length, take, drop, replicate}
 use lib.Seq.{length-take-le, take-append-seam, drop-append-seam}
-use borrow.Author.Tests.{eqb-true, le-leb, eq-eqb, ne-eqb}
+use borrow.Author.Tests.{eqb-true, le-leb}
 use Rattle.lists.specs.Lists.{every, different}
-use Rattle.lists.proofs.Bools.{by-test, and-left, and-right, and-both}
+use Rattle.lists.proofs.Bools.{by-test, and-left, and-right}
 use Rattle.lists.proofs.Padding.{padded-form, every-replicate}
 use Rattle.postings.specs.declared.Posting.{Posting}
 use Rattle.postings.specs.Merge.{isZero}

@@ -1,9 +1,9 @@
 -- What the rules of the state say, as plain facts, and back.
 use mathlib.Core.Bool.{Bool, true, false, _&&_, _||_, not, cond}
-use mathlib.Core.List.{List, [], _∷_}
+use mathlib.Core.List.{[]}
 use mathlib.Core.Logic.{_⊎_, inl, inr}
-use mathlib.Core.Path.{_≡_, refl, sym, ap, _∙_}
-use Prim.Native.Nat.{ℕ, zero, suc, _+_, _*_, _/_, _%_, _<_, _≤_}
+use mathlib.Core.Path.{_≡_, refl}
+use Prim.Native.Nat.{ℕ, _*_, _/_, _%_, _<_, _≤_}
 use native.Mathlib.Nat.{div-add-mod', mul-comm}
 use native.Mathlib.Omega.{arith}
 use lib.Dec.{eqb, leb, ltb}
@@ -24,9 +24,9 @@ use Rattle.state.specs.declared.Partition.{Partition}
 use Rattle.state.specs.declared.Partitions.{Partitions}
 use Rattle.state.specs.declared.MergeJob.{MergeJob}
 use Rattle.state.specs.declared.State.{State}
-use Rattle.state.specs.Views.{blocks, entries, noMerge, listed, buffered, finished, listedOf, bufferOf, partitionsOf, emptyState}
+use Rattle.state.specs.Views.{blocks, noMerge, listed, buffered, finished, listedOf, bufferOf, partitionsOf, emptyState}
 use Rattle.state.specs.Levels.{levels, levelLimit, ofLevel, dueLevels}
-use Rattle.state.specs.Rules.{cardLength, registerLength, lengthsRule, windowsRule, listedRule, postingRule, unusedPosting, bufferRule, recordRule, unusedRecord, neverRise, partitionsRule, mergeRule, stateRule}
+use Rattle.state.specs.Rules.{cardLength, registerLength, lengthsRule, windowsRule, listedRule, postingRule, bufferRule, recordRule, unusedRecord, neverRise, partitionsRule, mergeRule, stateRule}
 use Rattle.state.proofs.Forms.{listed-form, buffer-form, partitions-form, listed-rule, buffer-rule, partitions-rule}
 
 -- ---- lengths

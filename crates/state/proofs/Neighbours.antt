@@ -1,13 +1,13 @@
 -- The order of postings and the levels of partitions, by each two neighbours.
 use mathlib.Core.Bool.{Bool, true, _&&_}
-use mathlib.Core.List.{List, [], _∷_}
+use mathlib.Core.List.{List, _∷_}
 use mathlib.Core.Path.{_≡_, refl}
 use Prim.Native.Nat.{ℕ, _+_, _<_, _≤_}
 use native.Mathlib.Omega.{arith}
 use lib.Dec.{leb}
 use lib.ListN.{length, getD, take, drop}
 use borrow.Author.Tests.{leb-true, le-leb}
-use Rattle.lists.proofs.Neighbours.{near-next, near-turn, near-end}
+use Rattle.lists.proofs.Turns.{near-next, near-turn, near-end}
 use Rattle.postings.specs.declared.Posting.{Posting}
 use Rattle.postings.specs.Order.{precedes, ordered}
 use Rattle.postings.proofs.Order.{ordered-next}

@@ -1,16 +1,16 @@
 -- What a flush and a merge do to the levels: one more partition of level 0 at the end, and the inputs' place taken by the result.
-use mathlib.Core.Bool.{Bool, true, false, _&&_, cond}
+use mathlib.Core.Bool.{Bool, true, _&&_}
 use mathlib.Core.List.{List, [], _∷_, _++_}
 use mathlib.Core.Path.{_≡_, refl, sym, ap, ap₂, _∙_}
-use Prim.Native.Nat.{ℕ, zero, suc, _+_, _-_, _<_, _≤_}
+use Prim.Native.Nat.{ℕ, zero, suc, _+_, _<_, _≤_}
 use native.Mathlib.Omega.{arith}
 use lib.Dec.{eqb, leb, ltb}
 use lib.ListN.{length, take, drop, length-append, take-append-drop}
-use borrow.Author.Tests.{ltb-true, leb-true, eqb-true, eqb-false, le-leb, ne-eqb, eq-eqb}
-use Rattle.lists.specs.Lists.{keep, any, every, below}
+use borrow.Author.Tests.{ltb-true, leb-true, eqb-true, eqb-false, le-leb, ne-eqb}
+use Rattle.lists.specs.Lists.{keep, every, below}
 use Rattle.lists.proofs.Bools.{by-test, and-left, and-right, and-both}
-use Rattle.lists.proofs.Tests.{every-from, keep-append, keep-all, keep-none}
-use Rattle.lists.proofs.Parts.{every-append, every-take, every-drop}
+use Rattle.lists.proofs.Tests.{every-from, keep-append, keep-all}
+use Rattle.lists.proofs.Turns.{every-append, every-take, every-drop}
 use Rattle.state.specs.Levels.{dueAt, nextLevel, levelLimit, levels, ofLevel, dueLevels, placeOf, oldest, replaced}
 use Rattle.state.proofs.Runs.{falls, due-first, before-run, oldest-length, oldest-level}
 

@@ -1,19 +1,19 @@
 -- The due levels, and the run in which the partitions of a level stand where levels never rise, for partitions of whatever kind that have a level.
-use mathlib.Core.Bool.{Bool, true, false, _&&_, _||_, cond}
-use mathlib.Core.List.{List, [], _∷_, _++_}
+use mathlib.Core.Bool.{Bool, true, false, _&&_}
+use mathlib.Core.List.{List, [], _∷_}
 use mathlib.Core.Path.{_≡_, refl, sym, ap, _∙_}
-use Prim.Native.Nat.{ℕ, zero, suc, _+_, _-_, _<_, _≤_}
+use Prim.Native.Nat.{ℕ, zero, suc, _+_, _<_, _≤_}
 use native.Mathlib.Omega.{arith}
 use lib.Dec.{eqb, leb, ltb}
-use lib.ListN.{length, take, drop, length-take, length-drop}
-use lib.Seq.{take-take, length-take-le, take-all}
-use borrow.Author.Tests.{ltb-true, leb-true, leb-false, eqb-true, eqb-false, le-leb, lt-leb, lt-ltb, ne-eqb, eq-eqb}
+use lib.ListN.{length, take, drop, length-drop}
+use lib.Seq.{take-take, length-take-le}
+use borrow.Author.Tests.{ltb-true, leb-true, leb-false, eqb-true, eqb-false, lt-ltb, ne-eqb}
 use Rattle.lists.specs.Lists.{keep, any, every, below}
 use Rattle.lists.proofs.Bools.{by-test, and-left, and-right, and-both}
-use Rattle.lists.proofs.Tests.{every-from, every-keep, every-kept, keep-none, length-keep}
-use Rattle.lists.proofs.Parts.{every-take, every-drop}
+use Rattle.lists.proofs.Tests.{every-from, every-kept, keep-none, length-keep}
+use Rattle.lists.proofs.Turns.{every-take}
 use Rattle.state.specs.declared.Partition.{Partition}
-use Rattle.state.specs.Levels.{dueAt, levels, ofLevel, dueLevels, placeOf, oldest}
+use Rattle.state.specs.Levels.{dueAt, ofLevel, dueLevels, placeOf, oldest}
 use Rattle.state.specs.Rules.{neverRise}
 use Rattle.state.proofs.Counts.{levels-below}
 
