@@ -20,6 +20,7 @@ module _ {A : Type 0} (d : A) where
   getD-padded m (x ∷ l) zero = refl
   getD-padded m (x ∷ l) (suc k) = getD-padded m l k
 
+  -- it fills the array
   pub length-padded : (n : ℕ) (l : List A) → length l ≤ n → length (l ++ replicate (n - length l) d) ≡ n
   length-padded n l h = rw (length-append, length-replicate) (omega arith)
 
@@ -41,6 +42,7 @@ module _ {A : Type 0} (d : A) where
   all-same t is [] e = refl
   all-same t is (x ∷ l) e = rw (is x (and-left (t x) _ e), ← all-same t is l (and-right (t x) _ e))
 
+  -- a test that the value passes
   pub every-replicate : (t : A → Bool) → t d ≡ true → (n : ℕ) → every t (replicate n d) ≡ true
   every-replicate t e zero = refl
   every-replicate t e (suc n) = and-both (t d) _ e (every-replicate t e n)
@@ -54,6 +56,7 @@ module _ {A : Type 0} (d : A) where
       sym (take-append-drop n all) ∙ ap (λ (r : List A). take n all ++ r) (all-same t is (drop n all) e) ∙ rw (b, a)
 
 module _ {A : Type 0} where
+  -- the rest of a list of one value
   pub drop-replicate : (k n : ℕ) (d : A) → drop k (replicate n d) ≡ replicate (n - k) d
   drop-replicate zero n d = rw (sub-zero n)
   drop-replicate (suc k) zero d = rw (zero-sub (suc k))

@@ -1,6 +1,6 @@
 -- Tests over a list part by part, and loops over the places of an array: where the answer for the whole is the answer for what is left, what a
 -- turn does to that, and the end.
-use mathlib.Core.Bool.{Bool, true, false, _&&_, and-assoc, and-false}
+use mathlib.Core.Bool.{Bool, true, false, not, _&&_, and-assoc, and-false}
 use mathlib.Core.List.{List, [], _∷_, _++_}
 use mathlib.Core.Path.{_≡_, refl, sym, _∙_}
 use Prim.Native.Nat.{ℕ, zero, suc, _+_, _<_, _≤_}
@@ -8,15 +8,18 @@ use lib.ListN.{take, drop, length, getD, drop-of-length-le, length-drop}
 use native.Mathlib.Numerals.{add-one}
 use native.Mathlib.Omega.{arith}
 use lib.Seq.{drop-cons, getD-take, length-take-le}
+use borrow.Author.Tests.{not-true, not-false}
 use Rattle.lists.specs.Lists.{every}
 use Rattle.lists.proofs.Bools.{and-left, and-right, and-both}
 use Rattle.lists.proofs.Tests.{every-from}
 
 module _ {A : Type 0} (t : A → Bool) where
+  -- a test of two lists one after another
   pub every-append : (l m : List A) → every t (l ++ m) ≡ (every t l && every t m)
   every-append [] m = refl
   every-append (x ∷ l) m = rw (every-append l m) (sym (and-assoc (t x) (every t l) (every t m)))
 
+  -- what all pass, all of a part pass
   pub every-take : (n : ℕ) (l : List A) → every t l ≡ true → every t (take n l) ≡ true
   every-take zero l e = refl
   every-take (suc n) [] e = refl
@@ -26,6 +29,13 @@ module _ {A : Type 0} (t : A → Bool) where
   every-drop zero l e = e
   every-drop (suc n) [] e = e
   every-drop (suc n) (x ∷ l) e = every-drop n l (and-right (t x) _ e)
+
+-- what a test that was made by a call says, where it passed and where it failed
+pub passed : {r t : Bool} → r ≡ t → not r ≡ false → t ≡ true
+passed {r = r} e h = sym e ∙ not-false r h
+
+pub failed : {r t : Bool} → r ≡ t → not r ≡ true → t ≡ false
+failed {r = r} e h = sym e ∙ not-true r h
 
 -- a conjunction stops at its first part
 pub and-stop : (a b : Bool) → a ≡ false → (a && b) ≡ false

@@ -25,6 +25,7 @@ unfolding below
 below-pred zero h = absurd (omega arith)
 below-pred (suc v) h = let e : suc v - 1 ≡ v = omega arith in rw e
 
+-- and none below 0
 pub below-zero : (v : ℕ) → v ≡ 0 → below v ≡ []
 unfolding below
 below-zero v e = rw e
@@ -46,6 +47,7 @@ module _ (p : Partitions) (m : MergeJob) (going : m .steps ≡ 0 → ⊥) (tag :
   merge-due one r e t =
       rw (ne-eqb (m .steps) 0 going) (ap not (sym (due-some tag one (dueLevels (λ q. q .level) (finished p)) (rw e at t))))
 
+  -- and breaks it where none is
   pub merge-none : ((v : ℕ) → tag (Due.Level v) ≡ 0) → (r : Due) → r ≡ dueOf (dueLevels (λ q. q .level) (finished p)) → tag r ≡ 1 → false ≡ mergeRule p m
   unfolding mergeRule
   merge-none one r e t =

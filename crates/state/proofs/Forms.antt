@@ -68,7 +68,7 @@ pub partitions-form : (p : Partitions) → length (p .records) ≡ 51 → p .use
 partitions-form p len h e =
     same-parts (sym (length-take-le (p .used) (p .records) (omega arith))) (padded-form noPartition unusedRecord unused-record 51 (p .used) (p .records) len h e)
 
--- ---- the list that a form holds, and the rules of a list in that form
+-- ---- the list that a form holds, and the rules of a list in that form, from what the list has to keep
 
 -- finished (partitionsOf l), buffered (bufferOf l) and listed (listedOf l) are l
 pub held : {A : Type 0} (n : ℕ) (d : A) (l : List A) → take (length l) (padded n d l) ≡ l

@@ -47,6 +47,7 @@ whole n m e =
     let c = mul-comm m (n / m) in
     omega arith
 
+-- what the rule of the lengths says
 pub lengths-kept : (l : Lengths) → lengthsRule l ≡ true → LengthsKept l
 unfolding lengthsRule
 lengths-kept l e =
@@ -78,17 +79,16 @@ pub record Opened (w : Windows) : Type 0 where
   pub uncounted : w .events ≡ 0 → w .live < w .current
   pub counted : 1 ≤ w .events → 1 ≤ w .live
 
+-- N is at most the last number given, and a window is open or not
 pub record WindowsKept (w : Windows) : Type 0 where
   pub live : w .live ≤ w .last
   pub window : Shut w ⊎ Opened w
 
+-- what the rule of the windows says
 pub windows-kept : (w : Windows) → windowsRule w ≡ true → WindowsKept w
 unfolding windowsRule
 windows-kept w e = record { live = leb-true _ _ (and-left (leb (w .live) (w .last)) _ e); window = cases (and-right (leb (w .live) (w .last)) _ e) }
   where
-    counting : Bool
-    counting = cond (eqb (w .events) 0) (ltb (w .live) (w .current)) (leb 1 (w .live))
-
     cases : cond (eqb (w .current) 0) (eqb (w .events) 0) (eqb (w .current) (w .last) && (leb (w .events) 32767 && cond (eqb (w .events) 0) (ltb (w .live) (w .current)) (leb 1 (w .live)))) ≡ true
         → Shut w ⊎ Opened w
     cases q =
@@ -121,6 +121,7 @@ windows-rule w k = rw (le-leb (w .live) (w .last) (k .live)) (cases (k .window))
 
 -- ---- the open window's identifiers
 
+-- at most 64 different identifiers, none without an open window, and zeros after them
 pub record ListedKept (w : Windows) (l : Listed) : Type 0 where
   pub used : l .used ≤ 64
   pub small : every (λ i. leb i 1023) (listed l) ≡ true
@@ -128,6 +129,7 @@ pub record ListedKept (w : Windows) (l : Listed) : Type 0 where
   pub none : w .current ≡ 0 → l .used ≡ 0
   pub form : length (l .ids) ≡ 64 → l ≡ listedOf (listed l)
 
+-- what the rule of the list says
 pub listed-kept : (w : Windows) (l : Listed) → listedRule w l ≡ true → ListedKept w l
 unfolding listedRule
 listed-kept w l e =
@@ -146,6 +148,7 @@ listed-kept w l e =
 
 -- ---- buffered postings
 
+-- a buffered posting's identifier, window and count are within their limits
 pub record PostingKept (w : Windows) (p : Posting) : Type 0 where
   pub id : p .id ≤ 1023
   pub some : 1 ≤ p .window
@@ -154,6 +157,7 @@ pub record PostingKept (w : Windows) (p : Posting) : Type 0 where
   pub small : natAbs (p .count) ≤ 32767
   pub own : p .window ≡ w .current → (1 ≤ above (p .count)) × (above (p .count) ≤ w .events)
 
+-- what a buffered posting's rule says
 pub posting-kept : (w : Windows) (p : Posting) → postingRule w p ≡ true → PostingKept w p
 unfolding postingRule
 posting-kept w p e =
@@ -180,12 +184,14 @@ posting-rule w p k =
     rw (le-leb _ _ (k .id), le-leb _ _ (k .some), le-leb _ _ (k .given), k .counts, le-leb _ _ (k .small))
     (by-test (eqb (p .window) (w .current)) (λ y. let o = k .own (eqb-true _ _ y) in rw (y, le-leb _ _ (o .0), le-leb _ _ (o .1))) (λ n. rw n))
 
+-- at most 128 postings in order, each within its limits, and zeros after them
 pub record BufferKept (w : Windows) (b : Buffer) : Type 0 where
   pub used : b .used ≤ 128
   pub order : ordered (buffered b) ≡ true
   pub rules : every (postingRule w) (buffered b) ≡ true
   pub form : length (b .postings) ≡ 128 → b ≡ bufferOf (buffered b)
 
+-- what the rule of the buffer says
 pub buffer-kept : (w : Windows) (b : Buffer) → bufferRule w b ≡ true → BufferKept w b
 unfolding bufferRule
 buffer-kept w b e =
@@ -201,10 +207,12 @@ buffer-kept w b e =
 
 -- ---- finished partitions
 
+-- a finished partition's level and length are within their limits
 pub record RecordKept (blockCount : ℕ) (p : Partition) : Type 0 where
   pub level : p .level ≤ 5
   pub length : p .length ≤ 4092 * blockCount
 
+-- what its rule says
 pub record-kept : (blockCount : ℕ) (p : Partition) → recordRule blockCount p ≡ true → RecordKept blockCount p
 unfolding recordRule
 record-kept n p e = record { level = leb-true _ _ (and-left (leb (p .level) 5) _ e); length = leb-true _ _ (and-right (leb (p .level) 5) _ e) }
@@ -214,6 +222,7 @@ pub record-rule : (blockCount : ℕ) (p : Partition) → RecordKept blockCount p
 unfolding recordRule
 record-rule n p k = and-both _ _ (le-leb _ _ (k .level)) (le-leb _ _ (k .length))
 
+-- at most 51 partitions within their limits, whose levels never rise, and zeros after them
 pub record PartitionsKept (blockCount : ℕ) (p : Partitions) : Type 0 where
   pub used : p .used ≤ 51
   pub rules : every (recordRule blockCount) (finished p) ≡ true
@@ -221,6 +230,7 @@ pub record PartitionsKept (blockCount : ℕ) (p : Partitions) : Type 0 where
   pub limits : every (λ v. leb (ofLevel (λ q. q .level) v (finished p)) (levelLimit v)) levels ≡ true
   pub form : length (p .records) ≡ 51 → p ≡ partitionsOf (finished p)
 
+-- what the rule of the partitions says
 pub partitions-kept : (blockCount : ℕ) (p : Partitions) → partitionsRule blockCount p ≡ true → PartitionsKept blockCount p
 unfolding partitionsRule
 partitions-kept n p e =
@@ -248,6 +258,7 @@ pub record MergeKept (p : Partitions) (m : MergeJob) : Type 0 where
 job-of : {i j v w a b : ℕ} → i ≡ j → v ≡ w → a ≡ b → _≡_ {A = MergeJob} (record { first = i; length = v; steps = a }) (record { first = j; length = w; steps = b })
 job-of p q r = cc
 
+-- what the rule of the merge says
 pub merge-kept : (p : Partitions) (m : MergeJob) → mergeRule p m ≡ true → MergeKept p m
 unfolding mergeRule
 merge-kept p m e = record {
@@ -268,6 +279,7 @@ pub record Rules (s : State) : Type 0 where
   pub taken : s .taken < blocks s
   pub merge : mergeRule (s .partitions) (s .merge) ≡ true
 
+-- the state's rule taken apart
 pub rules-of : (s : State) → stateRule s ≡ true → Rules s
 unfolding stateRule
 rules-of s e =
@@ -301,6 +313,7 @@ pub record Kept (s : State) : Type 0 where
   pub taken : s .taken < blocks s
   pub merge : MergeKept (s .partitions) (s .merge)
 
+-- what the state's rule says
 pub state-kept : (s : State) → stateRule s ≡ true → Kept s
 state-kept s e =
     let r = rules-of s e in

@@ -23,12 +23,14 @@ rise-next =
     le-leb (r .level) (p .level) (omega arith))
 
 module _ {whole : Bool} where
+  -- a loop that judges the order of postings: one turn, and the end
   pub ordered-turn : (all : List Posting) (n i : ℕ) (d : Posting) → n ≤ length all → i + 1 < n → whole ≡ ordered (drop i (take n all)) → whole ≡ (precedes (getD all i d) (getD all (i + 1) d) && ordered (drop (i + 1) (take n all)))
   ordered-turn all n i d = near-turn ordered precedes refl (λ x. refl) ordered-next all n i d
 
   pub ordered-end : (all : List Posting) (n i : ℕ) → n ≤ length all → n ≤ i + 1 → whole ≡ ordered (drop i (take n all)) → whole ≡ true
   ordered-end all n i = near-end ordered precedes refl (λ x. refl) ordered-next all n i
 
+  -- a loop that judges the levels: one turn, and the end
   pub rise-turn : (all : List Partition) (n i : ℕ) (d : Partition) → n ≤ length all → i + 1 < n → whole ≡ neverRise (drop i (take n all)) → whole ≡ (leb (getD all (i + 1) d .level) (getD all i d .level) && neverRise (drop (i + 1) (take n all)))
   rise-turn all n i d = near-turn neverRise (λ p q. leb (q .level) (p .level)) refl (λ x. refl) rise-next all n i d
 

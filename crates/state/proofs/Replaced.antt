@@ -14,7 +14,7 @@ use Rattle.lists.proofs.Turns.{every-append, every-take, every-drop}
 use Rattle.state.specs.Levels.{dueAt, nextLevel, levelLimit, levels, ofLevel, dueLevels, placeOf, oldest, replaced}
 use Rattle.state.proofs.Runs.{falls, due-first, before-run, oldest-length, oldest-level}
 
--- what holds of every level from 0 to 5, as a test and back
+-- what a test over the levels says of each of 0 to 5
 pub at-levels : (t : ℕ → Bool) → every t levels ≡ true → (u : ℕ) → u ≤ 5 → t u ≡ true
 unfolding below
 at-levels t e u h = at-below 6 u e (omega arith)
@@ -25,6 +25,7 @@ at-levels t e u h = at-below 6 u e (omega arith)
         by-test (eqb u n) (λ y. rw (eqb-true u n y) (and-left (t n) _ e))
         (λ d. let apart = eqb-false u n d in at-below n u (and-right (t n) _ e) (omega arith))
 
+-- and back
 pub all-levels : (t : ℕ → Bool) → ((u : ℕ) → u ≤ 5 → t u ≡ true) → every t levels ≡ true
 unfolding below
 all-levels t h = all-below 6 (λ u low. h u (omega arith))
@@ -96,6 +97,7 @@ module _ {P : Type 0} (level : P → ℕ) where
   pub count-all : (v : ℕ) (l : List P) → every (λ q. eqb (level q) v) l ≡ true → ofLevel level v l ≡ length l
   count-all v l e = rw (keep-all (λ q. eqb (level q) v) l e)
 
+  -- and of any other level
   pub count-other : (u v : ℕ) (l : List P) → every (λ q. eqb (level q) v) l ≡ true → (u ≡ v → ⊥) → ofLevel level u l ≡ 0
   count-other u v [] e h = refl
   count-other u v (p ∷ l) e h =

@@ -21,6 +21,7 @@ used-form p form = ap (λ (x : Partitions). x .used) form
 pub records-form : (p : Partitions) → p ≡ partitionsOf (finished p) → p .records ≡ padded 51 noPartition (finished p)
 records-form p form = ap (λ (x : Partitions). x .records) form
 
+-- the same count and the same array
 pub same-parts : {n m : ℕ} {a b : List Partition} → n ≡ m → a ≡ b → _≡_ {A = Partitions} (record { used = n; records = a }) (record { used = m; records = b })
 same-parts e f = cc
 
@@ -47,9 +48,11 @@ module _ (p : Partitions) (at : ℕ) (q : Partition) (inside : at < p .used) (fo
   abbrev put : Partitions
   put = record { used = p .used; records = set (p .records) at q }
 
+  -- its list
   pub finished-set : finished put ≡ set (finished p) at q
   finished-set = take-set-lt (p .used) (p .records) at q inside
 
+  -- and its form
   pub form-set : put ≡ partitionsOf (finished put)
   form-set =
       let k = used-form p form in

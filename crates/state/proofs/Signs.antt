@@ -33,6 +33,7 @@ pub above-pos : (z : ℤ) → ltZ z (pos 0) ≡ false → natAbs z ≡ above z
 above-pos (pos n) t = refl
 above-pos (negsuc n) t = let e : _≡_ {A = ℕ} 0 1 = cc in absurd (omega arith)
 
+-- and then it has 16 bits without a sign
 pub cast-pos : (z : ℤ) → SFits w16 z → ltZ z (pos 0) ≡ false → T (nonNeg z) × Fits w16 (natAbs z)
 cast-pos (pos n) f t = let h : n < 32768 = f .sfits in (tt, record { fits = omega arith })
 cast-pos (negsuc n) f t = let e : _≡_ {A = ℕ} 0 1 = cc in absurd (omega arith)

@@ -1,6 +1,6 @@
-use mathlib.Core.Path.{sym, _∙_}
 use borrow.Author.Needs.{needs}
-use borrow.Author.Tests.{not-true, not-false, le-leb, lt-leb}
+use borrow.Author.Tests.{le-leb, lt-leb}
+use Rattle.lists.proofs.Turns.{passed, failed}
 use Rattle.state.specs.Rules.{bufferRule}
 use Rattle.state.proofs.buffer_rules.buffer_ok.Statement.{statement}
 use Rattle.state.proofs.buffer_rules.buffer_ok.Tie as tie
@@ -14,21 +14,39 @@ postings-ordered-requires c κs = search needs
 
 returns-2 : tie.Need-returns-2
 unfolding bufferRule
-returns-2 c = rw (le-leb _ _ (c .before .before .if1 .left), sym (c .before .postings-ordered .ensures) ∙ not-true _ (c .if2 .taken))
+returns-2 c =
+    let a1 = c .before .before in
+    rw (le-leb _ _ (a1 .if1 .left), failed (c .before .postings-ordered .ensures) (c .if2 .taken))
 
 postings-ok-requires : tie.Need-postings-ok-requires
 postings-ok-requires c κs = search needs
 
 returns-3 : tie.Need-returns-3
 unfolding bufferRule
-returns-3 c = rw (le-leb _ _ (c .before .before .before .before .if1 .left), sym (c .before .before .before .postings-ordered .ensures) ∙ not-false _ (c .before .before .if2 .left), sym (c .before .postings-ok .ensures) ∙ not-true _ (c .if3 .taken))
+returns-3 c =
+    let a2 = c .before .before in
+    let a1 = a2 .before .before in
+    rw (
+      le-leb _ _ (a1 .if1 .left),
+      passed (a2 .before .postings-ordered .ensures) (a2 .if2 .left),
+      failed (c .before .postings-ok .ensures) (c .if3 .taken),
+    )
 
 postings-end-requires : tie.Need-postings-end-requires
 postings-end-requires c κs = search needs
 
 returns-4 : tie.Need-returns-4
 unfolding bufferRule
-returns-4 c = rw (le-leb _ _ (c .before .before .before .before .before .if1 .left), sym (c .before .before .before .before .postings-ordered .ensures) ∙ not-false _ (c .before .before .before .if2 .left), sym (c .before .before .postings-ok .ensures) ∙ not-false _ (c .before .if3 .left)) (c .postings-end .ensures)
+returns-4 c =
+    let a3 = c .before in
+    let a2 = a3 .before .before in
+    let a1 = a2 .before .before in
+    rw (
+      le-leb _ _ (a1 .if1 .left),
+      passed (a2 .before .postings-ordered .ensures) (a2 .if2 .left),
+      passed (a3 .before .postings-ok .ensures) (a3 .if3 .left),
+    )
+    (c .postings-end .ensures)
 
 pub buffer-ok-spec : {M : Type 1} → statement M
 buffer-ok-spec =

@@ -3,10 +3,9 @@ use Prim.Native.Nat.{_-_}
 use native.Mathlib.Omega.{arith}
 use lib.ListN.{length, drop}
 use borrow.Author.Needs.{needs}
-use borrow.Author.Tests.{not-true, not-false}
 use Rattle.lists.specs.Lists.{every}
 use Rattle.lists.proofs.Arrays.{unmapped}
-use Rattle.lists.proofs.Turns.{and-stop, and-go, used-turn, used-end}
+use Rattle.lists.proofs.Turns.{passed, failed, and-stop, and-go, used-turn, used-end}
 use Rattle.state.specs.Views.{buffered, noPosting}
 use Rattle.state.specs.Rules.{postingRule}
 use Rattle.state.proofs.buffer_rules.postings_ok.Statement.{statement}
@@ -39,7 +38,7 @@ returns c =
     let s = a .before .args in
     let len = a .loop .inv .0 in
     let ok = c .before .posting-ok in
-    sym (used-turn (every (postingRule (s .w))) (s .t2 .postings) (s .t2 .used) (a .loop .i) noPosting (omega arith) (omega arith) (a .loop .inv .1) ∙ and-stop _ _ (sym (ok .ensures) ∙ not-true _ (c .if1 .taken)))
+    sym (used-turn (every (postingRule (s .w))) (s .t2 .postings) (s .t2 .used) (a .loop .i) noPosting (omega arith) (omega arith) (a .loop .inv .1) ∙ and-stop _ _ (failed (ok .ensures) (c .if1 .taken)))
 
 add-i : tie.Need-add-i Inv-loop μ-loop
 add-i c = search needs
@@ -53,7 +52,7 @@ loop-again c =
     let s = a .before .args in
     let len = a .loop .inv .0 in
     let ok = c .before .posting-ok in
-    (len, used-turn (every (postingRule (s .w))) (s .t2 .postings) (s .t2 .used) (a .loop .i) noPosting (omega arith) (omega arith) (a .loop .inv .1) ∙ and-go _ _ (sym (ok .ensures) ∙ not-false _ (c .if1 .left)))
+    (len, used-turn (every (postingRule (s .w))) (s .t2 .postings) (s .t2 .used) (a .loop .i) noPosting (omega arith) (omega arith) (a .loop .inv .1) ∙ and-go _ _ (passed (ok .ensures) (c .if1 .left)))
 
 returns-2 : tie.Need-returns-2 Inv-loop μ-loop
 returns-2 c =

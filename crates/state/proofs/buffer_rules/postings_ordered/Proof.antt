@@ -3,9 +3,8 @@ use Prim.Native.Nat.{_-_, _≤_}
 use native.Mathlib.Omega.{arith}
 use lib.ListN.{length, drop}
 use borrow.Author.Needs.{needs}
-use borrow.Author.Tests.{not-true, not-false}
 use Rattle.lists.proofs.Arrays.{unmapped}
-use Rattle.lists.proofs.Turns.{and-stop, and-go}
+use Rattle.lists.proofs.Turns.{passed, failed, and-stop, and-go}
 use Rattle.postings.specs.Order.{ordered}
 use Rattle.state.specs.Views.{buffered, noPosting}
 use Rattle.state.proofs.Neighbours.{ordered-turn, ordered-end}
@@ -50,7 +49,7 @@ returns c =
     let a = c .before .before .before .before .before in
     let l = a .before .args .t1 in
     let len = a .loop .inv .0 in
-    sym (ordered-turn (l .postings) (l .used) (a .loop .i) noPosting (omega arith) (omega arith) (a .loop .inv .2) ∙ and-stop _ _ (sym (c .before .precedes .ensures) ∙ not-true _ (c .if1 .taken)))
+    sym (ordered-turn (l .postings) (l .used) (a .loop .i) noPosting (omega arith) (omega arith) (a .loop .inv .2) ∙ and-stop _ _ (failed (c .before .precedes .ensures) (c .if1 .taken)))
 
 add-i : tie.Need-add-i Inv-loop μ-loop
 add-i c = search needs
@@ -63,7 +62,7 @@ loop-again c =
     let a = c .before .before .before .before .before in
     let l = a .before .args .t1 in
     let len = a .loop .inv .0 in
-    (len, omega arith, ordered-turn (l .postings) (l .used) (a .loop .i) noPosting (omega arith) (omega arith) (a .loop .inv .2) ∙ and-go _ _ (sym (c .before .precedes .ensures) ∙ not-false _ (c .if1 .left)))
+    (len, omega arith, ordered-turn (l .postings) (l .used) (a .loop .i) noPosting (omega arith) (omega arith) (a .loop .inv .2) ∙ and-go _ _ (passed (c .before .precedes .ensures) (c .if1 .left)))
 
 returns-2 : tie.Need-returns-2 Inv-loop μ-loop
 returns-2 c =

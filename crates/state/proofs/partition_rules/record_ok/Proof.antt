@@ -13,7 +13,9 @@ mul-result c = search needs
 
 returns-2 : tie.Need-returns-2
 unfolding recordRule
-returns-2 c = rw (le-leb _ _ (c .before .if1 .left))
+returns-2 c =
+    let a1 = c .before in
+    rw (le-leb _ _ (a1 .if1 .left))
 
 pub record-ok-spec : {M : Type 1} → statement M
 record-ok-spec = tie.close (tie.spec returns mul-result returns-2)
