@@ -1,11 +1,10 @@
 -- Marks bit by bit: setting one bit of one word marks one block more.
-use mathlib.Core.Bool.{Bool, true, false, _||_, cond}
-use mathlib.Core.List.{List, [], _∷_}
-use mathlib.Core.Logic.{⊎-elim}
+use mathlib.Core.Bool.{Bool, false, _||_}
+use mathlib.Core.List.{List}
 use mathlib.Core.Path.{_≡_, refl, sym, ap, _∙_}
 use Prim.Native.Nat.{ℕ, zero, suc, _+_, _-_, _*_, _/_, _%_, _^_, _<_, _≤_}
 use native.Mathlib.Omega.{arith}
-use lib.Bits.{bitOr, or-shr, or-mod, or-zero-l, or-zero-r, or-self, shifted-even}
+use lib.Bits.{bitOr, or-shr, or-mod, or-zero-r, shifted-even}
 use lib.Dec.{eqb, ltb, lit≤}
 use lib.ListN.{length, getD, set, replicate}
 use lib.Pow.{pow-add, pow-lt, shl-shr, shl-exact, shr-lt, shr-le}

@@ -1,5 +1,5 @@
 // The card's blocks: links, chains, free blocks. A block's words begin at 1,024 times its number; the last one is its link.
-ghost use mathlib.Core.Bool.{Bool, true, false, _||_};
+ghost use mathlib.Core.Bool.{true, false, _||_};
 ghost use mathlib.Core.List.{[], _∷_};
 ghost use mathlib.Core.Path.{_≡_};
 ghost use Prim.Native.Nat.{ℕ, _+_, _*_, _%_, _≤_, _<_};
@@ -228,8 +228,7 @@ pub fn enough_free(card: &[u8], blocks: u32, taken: u16, wanted: u32) -> bool
     let mut missing = wanted;
     let mut i = 0;
     while i < blocks && 0 < missing {
-        let block = tried(blocks, taken, i);
-        if is_free(card, block) {
+        if is_free(card, tried(blocks, taken, i)) {
             missing -= 1;
         }
         i += 1;
@@ -250,10 +249,10 @@ pub fn release_block(card: &mut [u8], block: u16)
     requires { ⌜ (length (now card) % 4 ≡ 0) × (1024 * block + 1023 < length (wordsOf (now card))) ⌝ }
     ensures { λ r. ⌜ wordsOf (now (card .exit)) ≡ release (wordsOf (now (card .entry))) (block ∷ []) ⌝ }
 {
-    let mut at: u16 = 0;
-    while at < 1024 {
-        put_block_word(card, block, at, 4294967295);
-        at += 1;
+    let mut i: u16 = 0;
+    while i < 1024 {
+        put_block_word(card, block, i, 4294967295);
+        i += 1;
     }
 }
 
@@ -263,11 +262,11 @@ pub fn release_chain(card: &mut [u8], first: u16, n: u32)
     ensures { λ r. ⌜ wordsOf (now (card .exit)) ≡ release (wordsOf (now (card .entry))) (chain (wordsOf (now (card .entry))) first n) ⌝ }
 {
     let mut next = first as u32;
-    let mut i = n;
-    while 0 < i {
-        let block = next as u16;
-        next = block_word(card, block, 1023);
-        release_block(card, block);
-        i -= 1;
+    let mut left = n;
+    while 0 < left {
+        let freed = next as u16;
+        next = block_word(card, freed, 1023);
+        release_block(card, freed);
+        left -= 1;
     }
 }

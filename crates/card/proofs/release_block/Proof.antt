@@ -1,6 +1,6 @@
 -- `card::release_block` meets its contract. The invariant: storing what is left of 1,024 words of all ones gives the freed block. Assumes nothing.
 use mathlib.Core.List.{[], _∷_}
-use mathlib.Core.Path.{_≡_, refl, sym, ap, _∙_}
+use mathlib.Core.Path.{_≡_, refl, sym, _∙_}
 use Prim.Native.Nat.{_+_, _-_, _*_, _≤_}
 use native.Mathlib.Omega.{arith}
 use lib.ListN.{length, replicate}
@@ -13,13 +13,13 @@ use Rattle.card.proofs.release_block.Statement.{statement}
 use Rattle.card.proofs.release_block.Tie as tie
 
 abbrev Inv-loop : tie.InvT-loop
-Inv-loop card₀ block at₀ card at =
-    (at ≤ 1024)
+Inv-loop card₀ block i₀ card i =
+    (i ≤ 1024)
     × (length card ≡ length card₀)
-    × (release (words card₀) (block ∷ []) ≡ sets (words card) (1024 * block + at) (replicate (1024 - at) allOnes))
+    × (release (words card₀) (block ∷ []) ≡ sets (words card) (1024 * block + i) (replicate (1024 - i) allOnes))
 
 abbrev μ-loop : tie.MeasureT-loop
-μ-loop card₀ block at₀ card at = 1024 - at
+μ-loop card₀ block i₀ card i = 1024 - i
 
 loop-holds : tie.Need-loop-holds Inv-loop μ-loop
 loop-holds c = let e : 1024 * c .before .args .block + 0 ≡ 1024 * c .before .args .block = omega arith in (omega arith, refl, release-one (words (c .before .args .card .now)) (c .before .args .block) ∙ rw e)
@@ -29,8 +29,8 @@ put-block-word-requires c κs =
     let a = c .before .before in
     omega (arith, length-words (a .loop .card), length-words (a .before .before .args .card .now))
 
-add-at : tie.Need-add-at Inv-loop μ-loop
-add-at c = omega arith
+add-i : tie.Need-add-i Inv-loop μ-loop
+add-i c = omega arith
 
 loop-less : tie.Need-loop-less Inv-loop μ-loop
 loop-less c = omega arith
@@ -41,11 +41,11 @@ loop-again c =
     let s = a .before .before in
     let v = a .loop .inv in
     let put = c .before .before .put-block-word in
-    let n : 1024 - (a .loop .at + 1) ≡ 1024 - a .loop .at - 1 = omega arith in
-    let k : 1024 * s .args .block + (a .loop .at + 1) ≡ 1024 * s .args .block + a .loop .at + 1 = omega arith in (
+    let n : 1024 - (a .loop .i + 1) ≡ 1024 - a .loop .i - 1 = omega arith in
+    let k : 1024 * s .args .block + (a .loop .i + 1) ≡ 1024 * s .args .block + a .loop .i + 1 = omega arith in (
       omega arith,
       put .kept .0 ∙ v .1,
-      v .2 ∙ ones-more (words (a .loop .card)) (1024 * s .args .block + a .loop .at) (1024 - a .loop .at) (omega arith) ∙ rw (put .ensures, n, k),
+      v .2 ∙ ones-more (words (a .loop .card)) (1024 * s .args .block + a .loop .i) (1024 - a .loop .i) (omega arith) ∙ rw (put .ensures, n, k),
     )
 
 same-length : tie.Need-same-length Inv-loop μ-loop
@@ -55,7 +55,7 @@ returns : tie.Need-returns Inv-loop μ-loop
 returns c =
     let a = c .before in
     let s = a .before .before in
-    let e : 1024 - a .loop .at ≡ 0 = omega arith in
+    let e : 1024 - a .loop .i ≡ 0 = omega arith in
     sym (a .loop .inv .2 ∙ rw e)
 
 pub release-block-spec : {M : Type 1} → statement M
@@ -66,7 +66,7 @@ release-block-spec =
     μ-loop
     loop-holds
     put-block-word-requires
-    add-at
+    add-i
     loop-less
     loop-again
     same-length

@@ -15,29 +15,29 @@ use Rattle.card.proofs.release_chain.Statement.{statement}
 use Rattle.card.proofs.release_chain.Tie as tie
 
 abbrev Inv-loop : tie.InvT-loop
-Inv-loop card₀ first n next₀ i₀ card next i =
+Inv-loop card₀ first n next₀ left₀ card next left =
     (length card ≡ length card₀)
-    × Chained (words card) next i
-    × (different (chain (words card) next i) ≡ true)
-    × (release (words card₀) (chain (words card₀) first n) ≡ release (words card) (chain (words card) next i))
+    × Chained (words card) next left
+    × (different (chain (words card) next left) ≡ true)
+    × (release (words card₀) (chain (words card₀) first n) ≡ release (words card) (chain (words card) next left))
 
 abbrev μ-loop : tie.MeasureT-loop
-μ-loop card₀ first n next₀ i₀ card next i = i
+μ-loop card₀ first n next₀ left₀ card next left = left
 
 loop-holds : tie.Need-loop-holds Inv-loop μ-loop
 loop-holds c = (refl, c .before .pre .1, c .before .pre .2, refl)
 
-cast-block : tie.Need-cast-block Inv-loop μ-loop
-cast-block c = let a = c .before in omega (arith, chained-more (words (a .loop .card)) (a .loop .next) (a .loop .i) (c .loop-test .taken) (a .loop .inv .1) .0 .few)
+cast-freed : tie.Need-cast-freed Inv-loop μ-loop
+cast-freed c = let a = c .before in omega (arith, chained-more (words (a .loop .card)) (a .loop .next) (a .loop .left) (c .loop-test .taken) (a .loop .inv .1) .0 .few)
 
 block-word-requires : tie.Need-block-word-requires Inv-loop μ-loop
-block-word-requires c κs = let a = c .before .before in chained-more (words (a .loop .card)) (a .loop .next) (a .loop .i) (c .before .loop-test .taken) (a .loop .inv .1) .0 .inside
+block-word-requires c κs = let a = c .before .before in chained-more (words (a .loop .card)) (a .loop .next) (a .loop .left) (c .before .loop-test .taken) (a .loop .inv .1) .0 .inside
 
 release-block-requires : tie.Need-release-block-requires Inv-loop μ-loop
-release-block-requires c κs = let a = c .before .before .before .before in (omega arith, chained-more (words (a .loop .card)) (a .loop .next) (a .loop .i) (c .before .before .before .loop-test .taken) (a .loop .inv .1) .0 .inside)
+release-block-requires c κs = let a = c .before .before .before .before in (omega arith, chained-more (words (a .loop .card)) (a .loop .next) (a .loop .left) (c .before .before .before .loop-test .taken) (a .loop .inv .1) .0 .inside)
 
-sub-i : tie.Need-sub-i Inv-loop μ-loop
-sub-i c = omega arith
+sub-left : tie.Need-sub-left Inv-loop μ-loop
+sub-left c = omega arith
 
 loop-less : tie.Need-loop-less Inv-loop μ-loop
 loop-less c = omega arith
@@ -47,7 +47,7 @@ loop-again c =
     let a = c .before .before .before .before .before .before .before in
     let v = a .loop .inv in
     let freed = c .before .before .release-block in
-    let m = release-more (words (a .loop .card)) (a .loop .next) (a .loop .i) (c .before .before .before .before .before .before .loop-test .taken) (v .1) (v .2) in
+    let m = release-more (words (a .loop .card)) (a .loop .next) (a .loop .left) (c .before .before .before .before .before .before .loop-test .taken) (v .1) (v .2) in
     rw (freed .ensures, c .before .before .before .before .block-word .ensures) (freed .kept .0 ∙ v .0, m .0, m .1, v .3 ∙ m .2)
 
 same-length : tie.Need-same-length Inv-loop μ-loop
@@ -56,7 +56,7 @@ same-length c = c .before .loop .inv .0
 returns : tie.Need-returns Inv-loop μ-loop
 returns c =
     let a = c .before in
-    sym (a .loop .inv .3 ∙ release-none (words (a .loop .card)) (a .loop .next) (a .loop .i) (omega arith))
+    sym (a .loop .inv .3 ∙ release-none (words (a .loop .card)) (a .loop .next) (a .loop .left) (omega arith))
 
 pub release-chain-spec : {M : Type 1} → statement M
 release-chain-spec =
@@ -65,10 +65,10 @@ release-chain-spec =
     Inv-loop
     μ-loop
     loop-holds
-    cast-block
+    cast-freed
     block-word-requires
     release-block-requires
-    sub-i
+    sub-left
     loop-less
     loop-again
     same-length
