@@ -23,7 +23,7 @@ returns c =
     let a = c .before .before in
     let s = a .before .before in
     let W = words (s .args .card .now) in
-    sym (rule-rest W (s .args .blocks) (s .args .first) (s .args .n) (omega arith) ∙ a .loop .inv .1 ∙ rest-out W (s .args .blocks) (a .loop .next) (a .loop .m) (c .before .loop-test .taken) (c .if1 .taken))
+    sym (rule-rest W (s .args .blocks) (s .args .first) (s .args .n) (omega arith) ∙ a .loop .inv .1 ∙ rest-out W (s .args .blocks) (a .loop .next) (a .loop .m) (omega arith) (omega arith))
 
 cast-block-word : tie.Need-cast-block-word Inv-loop μ-loop
 cast-block-word c = omega arith

@@ -28,7 +28,7 @@ returns c =
     let a = c .before .before .before in
     let s = a .before .before in
     let W = words (s .args .card .now) in
-    sym (a .loop .inv .1 ∙ free-not W (s .args .block) (s .pre) (a .loop .at) (c .before .before .loop-test .taken) (λ e. c .if1 .taken (c .before .block-word .ensures ∙ e)))
+    sym (a .loop .inv .1 ∙ free-not W (s .args .block) (s .pre) (a .loop .at) (omega arith) (λ e. c .if1 .taken (c .before .block-word .ensures ∙ e)))
 
 add-at : tie.Need-add-at Inv-loop μ-loop
 add-at c = omega arith
@@ -41,13 +41,13 @@ loop-again c =
     let a = c .before .before .before in
     let s = a .before .before in
     let W = words (s .args .card .now) in
-    (omega arith, a .loop .inv .1 ∙ free-past W (s .args .block) (s .pre) (a .loop .at) (c .before .before .loop-test .taken) (sym (c .before .block-word .ensures) ∙ c .if1 .left))
+    (omega arith, a .loop .inv .1 ∙ free-past W (s .args .block) (s .pre) (a .loop .at) (omega arith) (sym (c .before .block-word .ensures) ∙ c .if1 .left))
 
 returns-2 : tie.Need-returns-2 Inv-loop μ-loop
 returns-2 c =
     let a = c .before in
     let s = a .before .before in
-    sym (a .loop .inv .1 ∙ free-end (words (s .args .card .now)) (s .args .block) (s .pre) (a .loop .at) (c .loop-test .left))
+    sym (a .loop .inv .1 ∙ free-end (words (s .args .card .now)) (s .args .block) (s .pre) (a .loop .at) (omega arith))
 
 pub is-free-spec : {M : Type 1} → statement M
 is-free-spec =

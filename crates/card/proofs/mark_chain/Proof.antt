@@ -28,27 +28,27 @@ loop-holds : tie.Need-loop-holds Inv-loop μ-loop
 loop-holds c = (c .before .pre, refl, λ b. refl)
 
 cast-block : tie.Need-cast-block Inv-loop μ-loop
-cast-block c = let a = c .before in omega (arith, chained-more (words (a .before .before .args .card .now)) (a .loop .next) (a .loop .i) (c .loop-test .taken) (a .loop .inv .0) .0 .few)
+cast-block c = let a = c .before in omega (arith, chained-more (words (a .before .before .args .card .now)) (a .loop .next) (a .loop .i) (omega arith) (a .loop .inv .0) .0 .few)
 
 is-marked-requires : tie.Need-is-marked-requires Inv-loop μ-loop
-is-marked-requires c κs = let a = c .before in chained-more (words (a .before .before .args .card .now)) (a .loop .next) (a .loop .i) (c .loop-test .taken) (a .loop .inv .0) .0 .few
+is-marked-requires c κs = let a = c .before in chained-more (words (a .before .before .args .card .now)) (a .loop .next) (a .loop .i) (omega arith) (a .loop .inv .0) .0 .few
 
 returns : tie.Need-returns Inv-loop μ-loop
 returns c =
     let a = c .before .before .before in
     let s = a .before .before in
     let W = words (s .args .card .now) in
-    let e = chain-more W (a .loop .next) (a .loop .i) (c .before .before .loop-test .taken) in
+    let e = chain-more W (a .loop .next) (a .loop .i) (omega arith) in
     let hit = sym (c .before .is-marked .ensures) ∙ c .if1 .taken in (
       sym (a .loop .inv .1 ∙ rw e (apart-hit (marked (a .loop .marks)) (a .loop .next) (chain W (link W (a .loop .next)) (a .loop .i - 1)) hit)),
       (λ no. refl, λ no. never no),
     )
 
 mark-requires : tie.Need-mark-requires Inv-loop μ-loop
-mark-requires c κs = let a = c .before .before .before in chained-more (words (a .before .before .args .card .now)) (a .loop .next) (a .loop .i) (c .before .before .loop-test .taken) (a .loop .inv .0) .0 .few
+mark-requires c κs = let a = c .before .before .before in chained-more (words (a .before .before .args .card .now)) (a .loop .next) (a .loop .i) (omega arith) (a .loop .inv .0) .0 .few
 
 block-word-requires : tie.Need-block-word-requires Inv-loop μ-loop
-block-word-requires c κs = let a = c .before .before .before .before in chained-more (words (a .before .before .args .card .now)) (a .loop .next) (a .loop .i) (c .before .before .before .loop-test .taken) (a .loop .inv .0) .0 .inside
+block-word-requires c κs = let a = c .before .before .before .before in chained-more (words (a .before .before .args .card .now)) (a .loop .next) (a .loop .i) (omega arith) (a .loop .inv .0) .0 .inside
 
 sub-i : tie.Need-sub-i Inv-loop μ-loop
 sub-i c = omega arith

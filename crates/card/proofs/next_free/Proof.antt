@@ -53,7 +53,7 @@ returns-2 : tie.Need-returns-2 Inv-loop μ-loop
 returns-2 c =
     let a = c .before in
     let s = a .before .before in
-    sym (ap firstOf (a .loop .inv .1 ∙ free-none (words (s .args .card .now)) (s .args .blocks) (s .args .taken) (a .loop .i) (s .pre .2) (c .loop-test .left)))
+    sym (ap firstOf (a .loop .inv .1 ∙ free-none (words (s .args .card .now)) (s .args .blocks) (s .args .taken) (a .loop .i) (s .pre .2) (omega arith)))
 
 pub next-free-spec : {M : Type 1} → statement M
 next-free-spec =

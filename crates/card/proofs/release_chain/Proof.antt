@@ -28,13 +28,13 @@ loop-holds : tie.Need-loop-holds Inv-loop μ-loop
 loop-holds c = (refl, c .before .pre .1, c .before .pre .2, refl)
 
 cast-freed : tie.Need-cast-freed Inv-loop μ-loop
-cast-freed c = let a = c .before in omega (arith, chained-more (words (a .loop .card)) (a .loop .next) (a .loop .left) (c .loop-test .taken) (a .loop .inv .1) .0 .few)
+cast-freed c = let a = c .before in omega (arith, chained-more (words (a .loop .card)) (a .loop .next) (a .loop .left) (omega arith) (a .loop .inv .1) .0 .few)
 
 block-word-requires : tie.Need-block-word-requires Inv-loop μ-loop
-block-word-requires c κs = let a = c .before .before in chained-more (words (a .loop .card)) (a .loop .next) (a .loop .left) (c .before .loop-test .taken) (a .loop .inv .1) .0 .inside
+block-word-requires c κs = let a = c .before .before in chained-more (words (a .loop .card)) (a .loop .next) (a .loop .left) (omega arith) (a .loop .inv .1) .0 .inside
 
 release-block-requires : tie.Need-release-block-requires Inv-loop μ-loop
-release-block-requires c κs = let a = c .before .before .before .before in (omega arith, chained-more (words (a .loop .card)) (a .loop .next) (a .loop .left) (c .before .before .before .loop-test .taken) (a .loop .inv .1) .0 .inside)
+release-block-requires c κs = let a = c .before .before .before .before in (omega arith, chained-more (words (a .loop .card)) (a .loop .next) (a .loop .left) (omega arith) (a .loop .inv .1) .0 .inside)
 
 sub-left : tie.Need-sub-left Inv-loop μ-loop
 sub-left c = omega arith
@@ -47,7 +47,7 @@ loop-again c =
     let a = c .before .before .before .before .before .before .before in
     let v = a .loop .inv in
     let freed = c .before .before .release-block in
-    let m = release-more (words (a .loop .card)) (a .loop .next) (a .loop .left) (c .before .before .before .before .before .before .loop-test .taken) (v .1) (v .2) in
+    let m = release-more (words (a .loop .card)) (a .loop .next) (a .loop .left) (omega arith) (v .1) (v .2) in
     rw (freed .ensures, c .before .before .before .before .block-word .ensures) (freed .kept .0 ∙ v .0, m .0, m .1, v .3 ∙ m .2)
 
 same-length : tie.Need-same-length Inv-loop μ-loop

@@ -28,7 +28,7 @@ next-block-requires : tie.Need-next-block-requires Inv-loop μ-loop
 next-block-requires c κs =
     let a = c .before .before in
     let s = a .before .before in
-    let p = past (words (s .args .card .now)) (a .loop .block) (a .loop .m) (a .loop .k) (s .args .left) (c .before .loop-test .taken) (ltb-true _ _ (c .if1 .taken)) (a .loop .inv .0) (a .loop .inv .1) in
+    let p = past (words (s .args .card .now)) (a .loop .block) (a .loop .m) (a .loop .k) (s .args .left) (omega arith) (ltb-true _ _ (c .if1 .taken)) (a .loop .inv .0) (a .loop .inv .1) in
     (p .0, p .1)
 
 sub-m : tie.Need-sub-m Inv-loop μ-loop
@@ -41,7 +41,7 @@ loop-again : tie.Need-loop-again Inv-loop μ-loop
 loop-again c =
     let a = c .before .before .before in
     let s = a .before .before in
-    let p = past (words (s .args .card .now)) (a .loop .block) (a .loop .m) (a .loop .k) (s .args .left) (c .before .before .loop-test .taken) (ltb-true _ _ (c .before .if1 .taken)) (a .loop .inv .0) (a .loop .inv .1) in
+    let p = past (words (s .args .card .now)) (a .loop .block) (a .loop .m) (a .loop .k) (s .args .left) (omega arith) (ltb-true _ _ (c .before .if1 .taken)) (a .loop .inv .0) (a .loop .inv .1) in
     (omega arith, rw (c .next-block .ensures) (p .2), rw (c .next-block .ensures, ← p .3) (a .loop .inv .2))
 
 cast-t11 : tie.Need-cast-t11 Inv-loop μ-loop
@@ -53,7 +53,7 @@ returns c =
     let s = a .before .before in
     let r =
     ahead-chain (words (s .args .card .now)) (s .args .left) (a .loop .m) (a .loop .block) (a .loop .k)
-    (⊎-elim (λ w. inr (ltb-false _ _ (w .1 .left))) (λ w. inl (w .left)) (c .loop-test .came)) (a .loop .inv .0) (a .loop .inv .1) in
+    (⊎-elim (λ w. inr (ltb-false _ _ (w .1 .left))) (λ w. inl (omega arith)) (c .loop-test .came)) (a .loop .inv .0) (a .loop .inv .1) in
     (r .0 ∙ a .loop .inv .2, r .1)
 
 pub seek-spec : {M : Type 1} → statement M
