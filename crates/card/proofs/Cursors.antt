@@ -12,12 +12,12 @@ use Rattle.card.specs.Blocks.{link}
 use Rattle.card.specs.Cursors.{wordOf, InCard, nextBlock, nextWord, aheadAt, ahead, goodAt, Good, headOf, movedOf}
 
 module _ (W : List ℕ) where
-  -- a cursor has as many words to come as it says
   length-at : (n b i : ℕ) → length (aheadAt W n b i) ≡ n
   unfolding aheadAt
   length-at zero b i = refl
   length-at (suc n) b i = ap suc (length-at n (nextBlock W b i) (nextWord i))
 
+  -- a cursor has as many words to come as it says
   pub length-ahead : (c : Cursor) → length (ahead W c) ≡ c .left
   length-ahead c = length-at (c .left) (c .block) (c .word)
 
@@ -50,16 +50,20 @@ module _ (W : List ℕ) where
     link-at (suc (suc n)) h g e = (rw (eq-eqb i 1022 e) at (g .2)) .1
 
   module _ (c : Cursor) (h : 0 < c .left) where
+    -- the words to come are the head and those of the moved cursor
     pub ahead-more : ahead W c ≡ headOf W c ∷ ahead W (movedOf W c)
     ahead-more = ahead-at (c .block) (c .word) (c .left) h
 
     module _ (g : Good W c) where
+      -- the head is a content word
       pub in-block : c .word < 1023
       in-block = good-at (c .block) (c .word) (c .left) h g .0
 
+      -- of a block of the card
       pub in-card : InCard W (c .block)
       in-card = good-at (c .block) (c .word) (c .left) h g .1
 
+      -- and so are the words of the moved cursor
       pub good-moved : Good W (movedOf W c)
       good-moved = good-at (c .block) (c .word) (c .left) h g .2
 

@@ -1,6 +1,6 @@
 -- Marks bit by bit: setting one bit of one word marks one block more.
-use mathlib.Core.Bool.{Bool, false, _||_}
-use mathlib.Core.List.{List}
+use mathlib.Core.Bool.{Bool, false, _&&_, _||_}
+use mathlib.Core.List.{List, _++_}
 use mathlib.Core.Path.{_≡_, refl, sym, ap, _∙_}
 use Prim.Native.Nat.{ℕ, zero, suc, _+_, _-_, _*_, _/_, _%_, _^_, _<_, _≤_}
 use native.Mathlib.Omega.{arith}
@@ -10,7 +10,11 @@ use lib.ListN.{length, getD, set, replicate}
 use lib.Pow.{pow-add, pow-lt, shl-shr, shl-exact, shr-lt, shr-le}
 use lib.Seq.{getD-set-same, getD-set-other}
 use borrow.Author.Tests.{eqb-true, eqb-false, eq-eqb, ne-eqb, ltb-true, ltb-false}
+use Rattle.lists.specs.Lists.{elem, different}
 use Rattle.lists.proofs.Bools.{by-test}
+use Rattle.lists.proofs.Runs.{apart-append, apart-none}
+use Rattle.card.specs.declared.Marks.{Marks}
+use Rattle.card.specs.Marks.{marked, unmarked}
 
 -- bit j of 2 ^ s
 power-same : (s : ℕ) → 2 ^ s / 2 ^ s % 2 ≡ 1
@@ -64,12 +68,12 @@ bits-set l b k h =
     (λ y. let q : b / 64 ≡ k / 64 → ⊥ = eqb-false _ _ y in
     rw (getD-set-other l (b / 64) (k / 64) (bitOr (getD l (b / 64) 0) (2 ^ (b % 64))) 0 (λ e. q (sym e)), ne-eqb b k (λ e. q (ap (λ (x : ℕ). x / 64) e))))
 
--- no bit is set in words of zero
 zero-at : (n i : ℕ) → _≡_ {A = ℕ} (getD (replicate n 0) i 0) 0
 zero-at zero i = refl
 zero-at (suc n) zero = refl
 zero-at (suc n) (suc i) = zero-at n i
 
+-- no bit is set in words of zero
 pub bits-none : (n k : ℕ) → bitOf (replicate n 0) k ≡ false
 bits-none n k =
     let z : 0 / 2 ^ (k % 64) ≡ 0 = omega (arith, shr-le 0 (k % 64)) in
@@ -78,3 +82,15 @@ bits-none n k =
 -- a one shifted up in a word of 64 bits
 pub one-at : (s : ℕ) → s < 64 → 1 * 2 ^ s % 2 ^ 64 ≡ 2 ^ s
 one-at s h = let e : 1 * 2 ^ s ≡ 2 ^ s = omega arith in shl-exact 1 s 64 (lit≤ tt) (omega arith) ∙ e
+
+-- marks handed on from list to list: r has the marks of m and those of l, after which k comes
+pub unmarked-append : (m r : Marks) (l k : List ℕ) → ((b : ℕ) → marked r b ≡ (marked m b || elem b l)) → unmarked m (l ++ k) ≡ (unmarked m l && unmarked r k)
+unmarked-append m r l k more = apart-append (marked m) (marked r) l k more
+
+-- a list that is not unmarked, and a list after it
+pub unmarked-stop : (m : Marks) (l k : List ℕ) → unmarked m l ≡ false → unmarked m (l ++ k) ≡ false
+unmarked-stop m l k e = apart-append (marked m) (λ b. marked m b || elem b l) l k (λ b. refl) ∙ rw e
+
+-- without marks a list is unmarked where its numbers are different
+pub unmarked-first : (m : Marks) (l : List ℕ) → ((b : ℕ) → marked m b ≡ false) → unmarked m l ≡ different l
+unmarked-first m l h = apart-none (marked m) l h

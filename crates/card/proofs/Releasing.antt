@@ -32,6 +32,7 @@ module _ (W : List ℕ) (b : ℕ) where
   unfolding release
   release-one = refl
 
+  -- as many words as before
   pub length-one : length (release W (b ∷ [])) ≡ length W
   length-one = rw release-one (length-sets W (1024 * b) (replicate 1024 allOnes))
 
@@ -69,6 +70,7 @@ module _ (W : List ℕ) (b : ℕ) where
       let k = chain-kept (link W b) (n - 1) (not-true (elem b l) (and-left (not (elem b l)) (different l) d)) in
       (rw k (all-kept l ((rw m at g) .1)), rw k (and-right (not (elem b l)) (different l) d), rw (m, k))
 
+  -- a chain of no block changes nothing
   pub release-none : (n : ℕ) → n ≡ 0 → release W (chain W b n) ≡ W
   unfolding release
   release-none n e = rw (chain-none W b n e)

@@ -16,6 +16,7 @@ use Rattle.lists.proofs.Bools.{and-left, and-right}
 use Rattle.card.specs.Blocks.{block, contentOf, link}
 use Rattle.card.specs.Chains.{chain, chainRule, content}
 use Rattle.card.specs.Cursors.{wordOf, InCard, Chained, aheadAt, goodAt}
+use Rattle.card.proofs.Chains.{first-in}
 
 -- the content of the chain of n blocks from b on
 abbrev held : List ℕ → ℕ → ℕ → List ℕ
@@ -30,10 +31,6 @@ module _ (W : List ℕ) where
   held-more : (b n : ℕ) → held W b (suc n) ≡ contentOf W b ++ held W (link W b) n
   unfolding chain content
   held-more b n = refl
-
-  pub first-in : (b n : ℕ) → Chained W b (suc n) → InCard W b × Chained W (link W b) n
-  unfolding chain AllOf
-  first-in b n g = g
 
   content-at : (b i : ℕ) → i < 1023 → getD (contentOf W b) i 0 ≡ wordOf W b i
   content-at b i l = getD-take 1023 (block W b) i 0 l ∙ getD-take 1024 (drop (1024 * b) W) i 0 (omega arith) ∙ getD-drop (1024 * b) W i 0
@@ -72,7 +69,7 @@ module _ (W : List ℕ) where
   within zero n b i l h g = (refl, tt)
   within (suc left) zero b i l h g = absurd (omega arith)
   within (suc left) (suc n) b i l h g =
-      let f = first-in b n g in
+      let f = first-in W b n g in
       ⊎-elim
       (λ e. last left n b i l (f .0) e (within left n (link W b) 0 (omega arith) (omega arith) (f .1)))
       (λ e. more left n b i l (f .0) e (within left (suc n) b (i + 1) (omega arith) (omega arith) g))
@@ -92,8 +89,8 @@ module _ (W : List ℕ) where
   past b (suc (suc n)) k left l m h g =
       let e : suc (suc n) - 1 ≡ suc n = omega arith in
       let p : k ≡ 1023 + (k - 1023) = omega arith in
-      let f = first-in b (suc n) g in
-      (f .0, first-in (link W b) n (f .1) .0, rw e (f .1), rw (e, ← past-block b (suc n) (k - 1023) (f .0)) (ap (λ (x : ℕ). drop x (held W b (suc (suc n)))) p))
+      let f = first-in W b (suc n) g in
+      (f .0, first-in W (link W b) n (f .1) .0, rw e (f .1), rw (e, ← past-block b (suc n) (k - 1023) (f .0)) (ap (λ (x : ℕ). drop x (held W b (suc (suc n)))) p))
 
   -- the blocks of a chain that keeps the rule are blocks of the card
   pub rule-chained : (limit b n : ℕ) → length W ≡ 1024 * limit → limit ≤ 4096 → chainRule W limit b n ≡ true → Chained W b n

@@ -22,7 +22,7 @@ length-after n taken h =
     let b = length-take-le (suc taken) (upTo n) (omega (arith, length-rising 0 n)) in
     length-append (drop (suc taken) (upTo n)) (take (suc taken) (upTo n)) ∙ (omega (arith, length-rising 0 n))
 
--- the block in place i: first upward, then from 0 on
+-- the block in place i: first upward
 pub after-up : (n taken i : ℕ) → taken + 1 + i < n → getD (afterTaken n taken) i 0 ≡ taken + 1 + i
 after-up n taken i h =
     let l : i < length (drop (suc taken) (upTo n)) = omega (arith, length-drop (suc taken) (upTo n), length-rising 0 n) in
@@ -31,6 +31,7 @@ after-up n taken i h =
     ∙ getD-rising 0 n (suc taken + i) (omega arith)
     ∙ (omega arith)
 
+-- then from 0 on
 pub after-round : (n taken i : ℕ) → taken < n → i < n → n ≤ taken + 1 + i → getD (afterTaken n taken) i 0 ≡ taken + 1 + i - n
 after-round n taken i t l h =
     let e : i ≡ length (drop (suc taken) (upTo n)) + (taken + 1 + i - n) = omega (arith, length-drop (suc taken) (upTo n), length-rising 0 n) in
@@ -51,18 +52,21 @@ module _ (W : List ℕ) (b : ℕ) (h : 1024 * b + 1023 < length W) where
       let e : getD (block W b) i 0 ≡ wordOf W b i = getD-take 1024 (drop (1024 * b) W) i 0 l ∙ getD-drop (1024 * b) W i 0 in
       rw (add-one i) (drop-cons (block W b) i 0 k ∙ rw e)
 
-  -- what is left of the test of a free block: past a word of all ones, at another word, at the end
+  -- what is left of the test of a free block: past a word of all ones
   pub free-past : (i : ℕ) → i < 1024 → wordOf W b i ≡ allOnes → every (eqb allOnes) (drop i (block W b)) ≡ every (eqb allOnes) (drop (i + 1) (block W b))
   free-past i l e = rw (block-at i l, e)
 
+  -- at another word
   pub free-not : (i : ℕ) → i < 1024 → (wordOf W b i ≡ allOnes → ⊥) → every (eqb allOnes) (drop i (block W b)) ≡ false
   free-not i l e = rw (block-at i l, ne-eqb allOnes (wordOf W b i) (λ q. e (sym q)))
 
+  -- at the end
   pub free-end : (i : ℕ) → 1024 ≤ i → every (eqb allOnes) (drop i (block W b)) ≡ true
   free-end i l = let k : length (block W b) ≤ i = omega (arith, length-block) in rw (drop-of-length-le (block W b) k)
 
--- the free blocks in the order of taking from place i on, of which block b is in that place
+-- the free blocks in the order of taking from place i on
 module _ (W : List ℕ) (n taken i : ℕ) (t : taken < n) where
+  -- past the last place
   pub free-none : n ≤ i → keep (isFree W) (drop i (afterTaken n taken)) ≡ []
   free-none h = let k : length (afterTaken n taken) ≤ i = omega (arith, length-after n taken t) in rw (drop-of-length-le (afterTaken n taken) k)
 
@@ -70,8 +74,10 @@ module _ (W : List ℕ) (n taken i : ℕ) (t : taken < n) where
     within : i < length (afterTaken n taken)
     within = omega (arith, length-after n taken t)
 
+    -- block b is in place i, and is free
     pub free-here : isFree W b ≡ true → keep (isFree W) (drop i (afterTaken n taken)) ≡ b ∷ keep (isFree W) (drop (i + 1) (afterTaken n taken))
     free-here f = rw (e, add-one i) (keep-here (isFree W) (afterTaken n taken) i within (rw e at f))
 
+    -- it is not free
     pub free-not-here : isFree W b ≡ false → keep (isFree W) (drop i (afterTaken n taken)) ≡ keep (isFree W) (drop (i + 1) (afterTaken n taken))
     free-not-here f = rw (add-one i) (keep-past (isFree W) (afterTaken n taken) i within (rw e at f))

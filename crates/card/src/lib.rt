@@ -119,6 +119,7 @@ pub fn no_marks() -> Marks
     Marks { bits: [0; 64] }
 }
 
+// A block's bit is bit block % 64 of word block / 64.
 fn is_marked(m: Marks, block: u16) -> bool
     requires { ⌜ block < 4096 ⌝ }
     ensures { λ r. ⌜ r ≡ marked m block ⌝ }
@@ -127,6 +128,7 @@ fn is_marked(m: Marks, block: u16) -> bool
     m.bits[i] >> (block as u64 % 64) & 1 == 1
 }
 
+// Sets a block's bit.
 fn mark(m: Marks, block: u16) -> Marks
     requires { ⌜ block < 4096 ⌝ }
     ensures { λ r. ⌜ ((b : ℕ) → marked r b ≡ (eqb block b || marked m b)) ⌝ }
@@ -137,7 +139,7 @@ fn mark(m: Marks, block: u16) -> Marks
     r
 }
 
-// Whether the blocks of a chain were unmarked and all different, and the marks with theirs.
+// Whether the blocks of a chain were unmarked and all different, and then the marks with theirs, else as they were.
 pub struct Marked {
     pub apart: bool,
     pub marks: Marks,
@@ -199,6 +201,7 @@ fn tried(blocks: u32, taken: u16, i: u32) -> u16
     }
 }
 
+// A free block, if there is one.
 pub enum Free {
     Block(u16),
     Nothing,
