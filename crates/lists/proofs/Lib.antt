@@ -7,7 +7,6 @@ pub mod Ranges
 pub mod Sets
 pub mod Turns
 pub mod Padding
-pub mod Parts
 pub mod Runs
 pub mod Same
 pub mod Shifts
