@@ -1,4 +1,4 @@
--- What a call may do to a card's words and bytes: each stays, or was 255, or goes to 255 with its whole block.
+-- Storing to free blocks and releasing blocks move words and bytes only as is allowed.
 use mathlib.Core.Bool.{true}
 use mathlib.Core.List.{List, [], _∷_}
 use mathlib.Core.Logic.{_⊎_, inl, inr, ⊎-elim}
@@ -13,26 +13,12 @@ use Rattle.words.specs.Words.{words, bytes, allOnes, Below}
 use Rattle.words.proofs.Views.{length-words, bytes-words}
 use Rattle.card.specs.Blocks.{block, isFree}
 use Rattle.card.specs.Writes.{store, release}
+use Rattle.card.specs.Moves.{Fills, Frees, Moves, FillsBytes, FreesBytes, MovesBytes}
 use Rattle.card.proofs.Links.{word-in}
 use Rattle.card.proofs.Stores.{store-apart, release-apart, length-store, length-release}
 use Rattle.card.proofs.FreeBlocks.{block-released, free-word}
 
 -- Words ------------------------------------------------------------------------------------------------------------
-
--- from W to W′ each word stays, or was all ones
-abbrev pub Fills : List ℕ → List ℕ → Type 0
-Fills W W′ = (k : ℕ) → k < length W → (getD W′ k 0 ≡ getD W k 0) ⊎ (getD W k 0 ≡ allOnes)
-
--- each word stays, or every word of its block goes to all ones
-abbrev pub Frees : List ℕ → List ℕ → Type 0
-Frees W W′ =
-    (k : ℕ) → k < length W → (getD W′ k 0 ≡ getD W k 0) ⊎ ((j : ℕ) → j < length W → j / 1024 ≡ k / 1024 → getD W′ j 0 ≡ allOnes)
-
--- one or the other
-abbrev pub Moves : List ℕ → List ℕ → Type 0
-Moves W W′ =
-    (k : ℕ) → k < length W
-    → (getD W′ k 0 ≡ getD W k 0) ⊎ (getD W k 0 ≡ allOnes) ⊎ ((j : ℕ) → j < length W → j / 1024 ≡ k / 1024 → getD W′ j 0 ≡ allOnes)
 
 -- a word of a block that does not change stays
 pub word-kept : (W W′ : List ℕ) (k : ℕ) → block W′ (k / 1024) ≡ block W (k / 1024) → getD W′ k 0 ≡ getD W k 0
@@ -97,21 +83,6 @@ bytes-ones (u ∷ us) (suc zero) a e = ap (λ (w : ℕ). w / 256 % 256) e
 bytes-ones (u ∷ us) (suc (suc zero)) a e = ap (λ (w : ℕ). w / 65536 % 256) e
 bytes-ones (u ∷ us) (suc (suc (suc zero))) a e = ap (λ (w : ℕ). w / 16777216) e
 bytes-ones (u ∷ us) (suc (suc (suc (suc k)))) a e = bytes-ones us k (omega arith) (rw (word-on k) at e)
-
--- from card to card′ each byte stays, or was 255
-abbrev pub FillsBytes : List ℕ → List ℕ → Type 0
-FillsBytes card card′ = (k : ℕ) → k < length card → (getD card′ k 0 ≡ getD card k 0) ⊎ (getD card k 0 ≡ 255)
-
--- each byte stays, or every byte of its block goes to 255
-abbrev pub FreesBytes : List ℕ → List ℕ → Type 0
-FreesBytes card card′ =
-    (k : ℕ) → k < length card → (getD card′ k 0 ≡ getD card k 0) ⊎ ((j : ℕ) → j < length card → j / 4096 ≡ k / 4096 → getD card′ j 0 ≡ 255)
-
--- document 01's rule of a card's bytes
-abbrev pub MovesBytes : List ℕ → List ℕ → Type 0
-MovesBytes card card′ =
-    (k : ℕ) → k < length card
-    → (getD card′ k 0 ≡ getD card k 0) ⊎ (getD card k 0 ≡ 255) ⊎ ((j : ℕ) → j < length card → j / 4096 ≡ k / 4096 → getD card′ j 0 ≡ 255)
 
 -- what the words of a card may do, its bytes may do
 module _ (card W′ : List ℕ) (p : Below 256 card) (m : length card % 4 ≡ 0) (l : length W′ ≡ length (words card)) where

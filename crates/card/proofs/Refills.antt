@@ -18,7 +18,8 @@ use Rattle.card.specs.Writes.{store}
 use Rattle.card.proofs.Links.{onCard, rule-on, chained-link, content-at}
 use Rattle.card.proofs.Stores.{length-store, store-apart}
 use Rattle.card.proofs.Stored.{chain-stored, rule-stored, content-stored}
-use Rattle.card.proofs.ByteRule.{Fills, word-kept}
+use Rattle.card.specs.Moves.{Fills}
+use Rattle.card.proofs.ByteRule.{word-kept}
 
 module _ (W bs c : List ℕ) (n : ℕ) (long : length W ≡ 1024 * n) (new : different bs ≡ true) (room : length c ≤ 1023 * length bs)
     (linked : chain W (getD bs 0 0) (length bs) ≡ bs) (rule : chainRule W n (getD bs 0 0) (length bs) ≡ true)

@@ -4,3 +4,4 @@ pub mod Writes
 pub mod Cursors
 pub mod Marks
 pub mod Free
+pub mod Moves

@@ -185,16 +185,3 @@ pub different-turned : (k : ℕ) (l : List ℕ) → different l ≡ true → dif
 different-turned k l e = different-swap (take k l) (drop k l) (rw (take-append-drop k l) e)
 
 -- Equal lists ------------------------------------------------------------------------------------------------------
-
--- a list equals itself
-pub same-self : (l : List ℕ) → same l l ≡ true
-same-self [] = refl
-same-self (x ∷ l) = and-both (eqb x x) _ (eq-eqb x x refl) (same-self l)
-
--- lists that the test finds equal are equal
-pub same-true : (l m : List ℕ) → same l m ≡ true → l ≡ m
-same-true [] [] e = refl
-same-true [] (y ∷ m) e = absurd (true≢false (sym e))
-same-true (x ∷ l) [] e = absurd (true≢false (sym e))
-same-true (x ∷ l) (y ∷ m) e =
-    ap₂ (λ (n : ℕ) (r : List ℕ). n ∷ r) (eqb-true x y (and-left (eqb x y) _ e)) (same-true l m (and-right (eqb x y) _ e))

@@ -10,7 +10,8 @@ use borrow.Author.Tests.{ltb-true, ltb-false, leb-true, eqb-true, eq-eqb, ne-eqb
 use Rattle.lists.specs.Lists.{every, totalBy, same, upTo}
 use Rattle.lists.proofs.Bools.{by-test, and-left, and-right}
 use Rattle.lists.proofs.Tests.{every-at}
-use Rattle.lists.proofs.Sets.{same-true, every-elem}
+use Rattle.lists.proofs.Same.{same-true}
+use Rattle.lists.proofs.Sets.{every-elem}
 use Rattle.lists.proofs.Ranges.{length-rising, elem-rising, total-rising, upTo-at, total-map, length-all, keep-joined, joined-none, joined-one}
 use Rattle.postings.specs.Pack.{posted}
 use Rattle.postings.specs.Sums.{under}

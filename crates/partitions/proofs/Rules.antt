@@ -10,7 +10,7 @@ use borrow.Author.Tests.{le-leb, eq-eqb}
 use Rattle.lists.specs.Lists.{every, totalBy, same, upTo}
 use Rattle.lists.proofs.Bools.{and-left, and-both}
 use Rattle.lists.proofs.Ranges.{every-map, total-map}
-use Rattle.lists.proofs.Sets.{same-self}
+use Rattle.lists.proofs.Same.{same-refl}
 use Rattle.postings.specs.declared.Posting.{Posting}
 use Rattle.postings.specs.Order.{ordered}
 use Rattle.postings.specs.Sums.{under}
@@ -68,7 +68,7 @@ module _ (level : ℕ) (ps : List Posting) (rest : List ℕ) where
       (and-both (every (λ j. leb 1 (entryCount c j)) js) _
       (sym (every-map (leb 1) (entryCount c) js) ∙ ap (every (leb 1)) cs ∙ every-map (leb 1) (λ i. length (under i ps)) (identifiersOf ps) ∙ groups-some ps)
       (and-both (same (map (entryFirst c) js) (running 0 (map (entryCount c) js))) _
-      (rw (fs, cs, r) (same-self (map (λ i. length (lower i ps)) (identifiersOf ps))))
+      (rw (fs, cs, r) (same-refl (map (λ i. length (lower i ps)) (identifiersOf ps))))
       (eq-eqb (totalBy (entryCount c) js) (field c 1)
       (sym (total-map (λ k. k) (entryCount c) js) ∙ ap (totalBy (λ k. k)) cs ∙ total-map (λ k. k) (λ i. length (under i ps)) (identifiersOf ps)
       ∙ groups-total ps o ∙ sym (field-postings level ps rest))))))
