@@ -183,5 +183,3 @@ module _ {A : Type 0} (k : ℕ) (l : List A) where
 -- and different numbers stay different
 pub different-turned : (k : ℕ) (l : List ℕ) → different l ≡ true → different (drop k l ++ take k l) ≡ true
 different-turned k l e = different-swap (take k l) (drop k l) (rw (take-append-drop k l) e)
-
--- Equal lists ------------------------------------------------------------------------------------------------------
