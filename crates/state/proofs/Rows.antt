@@ -1,9 +1,9 @@
 -- The lists of partitions and of identifiers in their one form: one more, a run replaced or gone.
 use mathlib.Core.List.{List, [], _∷_, _++_}
 use mathlib.Core.Path.{_≡_, sym, ap, _∙_}
-use Prim.Native.Nat.{ℕ, _+_, _<_}
+use Prim.Native.Nat.{ℕ, _+_, _<_, _≤_}
 use native.Mathlib.Omega.{arith}
-use lib.ListN.{length, set, length-append, length-set}
+use lib.ListN.{length, length-take, set, length-append, length-set}
 use lib.Seq.{take-set-lt}
 use Rattle.lists.proofs.Padding.{padded-add, padded-set}
 use Rattle.state.specs.declared.Listed.{Listed}
@@ -20,6 +20,13 @@ used-form p form = ap (λ (x : Partitions). x .used) form
 
 pub records-form : (p : Partitions) → p ≡ partitionsOf (finished p) → p .records ≡ padded 51 noPartition (finished p)
 records-form p form = ap (λ (x : Partitions). x .records) form
+
+-- the count is within the array
+pub used-fits : (p : Partitions) → p ≡ partitionsOf (finished p) → length (p .records) ≡ 51 → p .used ≤ 51
+used-fits p form len =
+    let k = used-form p form in
+    let m = length-take (p .used) (p .records) in
+    omega arith
 
 -- the same count and the same array
 pub same-parts : {n m : ℕ} {a b : List Partition} → n ≡ m → a ≡ b → _≡_ {A = Partitions} (record { used = n; records = a }) (record { used = m; records = b })

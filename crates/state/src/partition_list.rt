@@ -35,7 +35,7 @@ fn record_at(p: Partitions, i: usize) -> Partition
 
 // The partitions without `count` of them from place `at` on: those after move down, and zeros follow.
 pub fn cut(p: Partitions, at: u16, count: u16) -> Partitions
-    requires { ⌜ (at + count ≤ p .used) × (p .used ≤ 51) × (p ≡ partitionsOf (finished p)) ⌝ }
+    requires { ⌜ (at + count ≤ p .used) × (p ≡ partitionsOf (finished p)) ⌝ }
     ensures { λ r. ⌜ r ≡ partitionsOf (take at (finished p) ++ drop count (drop at (finished p))) ⌝ }
 {
     let n = p.used as usize;
@@ -52,7 +52,7 @@ pub fn cut(p: Partitions, at: u16, count: u16) -> Partitions
 
 // The same, with q in their place.
 pub fn replace(p: Partitions, at: u16, count: u16, q: Partition) -> Partitions
-    requires { ⌜ (1 ≤ count) × (at + count ≤ p .used) × (p .used ≤ 51) × (p ≡ partitionsOf (finished p)) ⌝ }
+    requires { ⌜ (1 ≤ count) × (at + count ≤ p .used) × (p ≡ partitionsOf (finished p)) ⌝ }
     ensures { λ r. ⌜ r ≡ partitionsOf (take at (finished p) ++ (q ∷ drop count (drop at (finished p)))) ⌝ }
 {
     let mut t = p;

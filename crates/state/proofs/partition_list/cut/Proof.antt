@@ -6,13 +6,14 @@ use lib.ListN.{length, getD}
 use borrow.Author.Needs.{needs}
 use Rattle.state.specs.Views.{finished, noPartition, padded}
 use Rattle.state.specs.declared.Partition.{Partition}
+use Rattle.lists.proofs.Arrays.{unmapped}
 use Rattle.lists.proofs.Padding.{closing, closing-none, closing-more, closing-done, length-without}
-use Rattle.state.proofs.Rows.{used-form, records-form, same-parts}
+use Rattle.state.proofs.Rows.{used-fits, used-form, records-form, same-parts}
 use Rattle.state.proofs.partition_list.cut.Statement.{statement}
 use Rattle.state.proofs.partition_list.cut.Tie as tie
 
 abbrev Inv-loop : tie.InvT-loop
-Inv-loop p at count n t₀ i₀ t i = (at ≤ i) × (i ≤ n) × (t .records ≡ closing noPartition 51 (finished p) at count i)
+Inv-loop p at count n t₀ i₀ t i = (at ≤ i) × (i ≤ n) × (n ≤ 51) × (t .records ≡ closing noPartition 51 (finished p) at count i)
 
 abbrev μ-loop : tie.MeasureT-loop
 μ-loop p at count n t₀ i₀ t i = n - i
@@ -24,8 +25,10 @@ loop-holds : tie.Need-loop-holds Inv-loop μ-loop
 loop-holds c =
     let s = c .before in
     let p = s .args .p in
-    let k = used-form p (s .pre .2) in
-    (omega arith, omega arith, records-form p (s .pre .2) ∙ sym (closing-none noPartition 51 (finished p) (s .args .at) (s .args .count) (omega arith) (omega arith)))
+    let k = used-form p (s .pre .1) in
+    let len : length (p .records) ≡ 51 = search (unmapped, needs) in
+    let fits = used-fits p (s .pre .1) len in
+    (omega arith, omega arith, fits, records-form p (s .pre .1) ∙ sym (closing-none noPartition 51 (finished p) (s .args .at) (s .args .count) (omega arith) (omega arith)))
 
 add-record-at : tie.Need-add-record-at Inv-loop μ-loop
 add-record-at c = search needs
@@ -54,12 +57,13 @@ loop-again c =
     let at = s .args .at in
     let count = s .args .count in
     let i = a .loop .i in
-    let k = used-form p (s .pre .2) in
+    let k = used-form p (s .pre .1) in
     let q : c .record-at .result ≡ getD (padded 51 noPartition l) (i + count) noPartition =
-    c .record-at .ensures ∙ ap (λ (r : List Partition). getD r (i + count) noPartition) (records-form p (s .pre .2)) in (
+    c .record-at .ensures ∙ ap (λ (r : List Partition). getD r (i + count) noPartition) (records-form p (s .pre .1)) in (
       omega arith,
       omega arith,
-      rw (a .loop .inv .2, q) (closing-more noPartition 51 l at count (omega arith) (omega arith) i (omega arith) (omega arith)),
+      a .loop .inv .2,
+      rw (a .loop .inv .3, q) (closing-more noPartition 51 l at count (omega arith) (omega arith) i (omega arith) (omega arith)),
     )
 
 sub-t : tie.Need-sub-t Inv-loop μ-loop
@@ -73,10 +77,10 @@ returns c =
     let l = finished p in
     let at = s .args .at in
     let count = s .args .count in
-    let k = used-form p (s .pre .2) in
+    let k = used-form p (s .pre .1) in
     let e : a .loop .i ≡ length l = omega arith in
     let w = length-without noPartition 51 l at count (omega arith) (omega arith) in
-    same-parts (omega arith) (rw e at (a .loop .inv .2) ∙ closing-done noPartition 51 l at count (omega arith) (omega arith))
+    same-parts (omega arith) (rw e at (a .loop .inv .3) ∙ closing-done noPartition 51 l at count (omega arith) (omega arith))
 
 pub cut-spec : {M : Type 1} → statement M
 cut-spec =

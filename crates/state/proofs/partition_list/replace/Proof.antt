@@ -1,21 +1,32 @@
-use mathlib.Core.Path.{ap, _∙_}
+use mathlib.Core.Path.{_≡_, ap, _∙_}
 use Prim.Native.Nat.{_+_, _-_}
 use native.Mathlib.Omega.{arith}
+use lib.ListN.{length}
 use borrow.Author.Needs.{needs}
 use Rattle.state.specs.Views.{finished, partitionsOf}
+use Rattle.lists.proofs.Arrays.{unmapped}
 use Rattle.lists.proofs.Padding.{without, without-rest}
-use Rattle.state.proofs.Rows.{used-form, finished-set, form-set}
+use Rattle.state.proofs.Rows.{used-fits, used-form, finished-set, form-set}
 use Rattle.state.proofs.partition_list.replace.Statement.{statement}
 use Rattle.state.proofs.partition_list.replace.Tie as tie
 
 mul-q : tie.Need-mul-q
-mul-q c = search needs
+mul-q c =
+    let len : length (c .args .p .records) ≡ 51 = search (unmapped, needs) in
+    let fits = used-fits (c .args .p) (c .pre .2) len in
+    omega arith
 
 element-set-from-q : tie.Need-element-set-from-q
-element-set-from-q c = search needs
+element-set-from-q c =
+    let len : length (c .args .p .records) ≡ 51 = search (unmapped, needs) in
+    let fits = used-fits (c .args .p) (c .pre .2) len in
+    omega arith
 
 add-cut : tie.Need-add-cut
-add-cut c = search needs
+add-cut c =
+    let len : length (c .args .p .records) ≡ 51 = search (unmapped, needs) in
+    let fits = used-fits (c .args .p) (c .pre .2) len in
+    omega arith
 
 sub-cut : tie.Need-sub-cut
 sub-cut c = search needs
@@ -23,13 +34,13 @@ sub-cut c = search needs
 cut-requires : tie.Need-cut-requires
 cut-requires c κs =
     let s = c .args in
-    (omega arith, c .pre .2, form-set (s .p) (s .at) (s .q) (omega arith) (c .pre .3))
+    (omega arith, form-set (s .p) (s .at) (s .q) (omega arith) (c .pre .2))
 
 returns : tie.Need-returns
 returns c =
     let s = c .before .args in
-    let k = used-form (s .p) (c .before .pre .3) in
-    let now = finished-set (s .p) (s .at) (s .q) (omega arith) (c .before .pre .3) in
+    let k = used-form (s .p) (c .before .pre .2) in
+    let now = finished-set (s .p) (s .at) (s .q) (omega arith) (c .before .pre .2) in
     c .cut .ensures ∙ ap partitionsOf (ap (without (s .at + 1) (s .count - 1)) now ∙ without-rest (finished (s .p)) (s .at) (s .count) (s .q) (omega arith) (omega arith))
 
 pub replace-spec : {M : Type 1} → statement M
