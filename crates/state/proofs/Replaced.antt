@@ -1,5 +1,5 @@
 -- What a flush and a merge do to the levels: one more partition of level 0 at the end, and the inputs' place taken by the result.
-use mathlib.Core.Bool.{Bool, true, _&&_}
+use mathlib.Core.Bool.{Bool, true, _&&_, cond}
 use mathlib.Core.List.{List, [], _∷_, _++_}
 use mathlib.Core.Path.{_≡_, refl, sym, ap, ap₂, _∙_}
 use Prim.Native.Nat.{ℕ, zero, suc, _+_, _<_, _≤_}
@@ -46,6 +46,17 @@ due-limit : (u : ℕ) → dueAt u ≤ levelLimit u
 due-limit u =
     by-test (eqb u 5) (λ y. rw y (by-test (eqb u 0) (λ z. rw z (omega arith)) (λ n. rw n (omega arith))))
     (λ d. rw d (by-test (eqb u 0) (λ z. rw z (omega arith)) (λ n. rw n (omega arith))))
+
+-- a level of 0 to 5 is one of the six
+one-level : (n : ℕ) → n ≤ 5
+    → cond (eqb n 5) 1 0 + (cond (eqb n 4) 1 0 + (cond (eqb n 3) 1 0 + (cond (eqb n 2) 1 0 + (cond (eqb n 1) 1 0 + cond (eqb n 0) 1 0)))) ≡ 1
+one-level zero h = refl
+one-level (suc zero) h = refl
+one-level (suc (suc zero)) h = refl
+one-level (suc (suc (suc zero))) h = refl
+one-level (suc (suc (suc (suc zero)))) h = refl
+one-level (suc (suc (suc (suc (suc zero))))) h = refl
+one-level (suc (suc (suc (suc (suc (suc n)))))) h = absurd (omega arith)
 
 module _ {P : Type 0} (level : P → ℕ) where
   falls-drop : (n : ℕ) (ps : List P) → falls level ps ≡ true → falls level (drop n ps) ≡ true
@@ -185,3 +196,58 @@ module _ {P : Type 0} (level : P → ℕ) where
           let full = due-limit u in
           omega arith))
           (λ d. let none : ofLevel level u result ≡ 0 = count-other u (nextLevel v) result same (eqb-false u (nextLevel v) d) in omega arith)
+
+  -- nor after one more of level 0, where that has room
+  pub added-limits : (ps : List P) (q : P) → level q ≡ 0 → ofLevel level 0 ps < 16 → every (λ u. leb (ofLevel level u ps) (levelLimit u)) levels ≡ true
+      → every (λ u. leb (ofLevel level u (ps ++ (q ∷ []))) (levelLimit u)) levels ≡ true
+  added-limits ps q z room within =
+      all-levels (λ u. leb (ofLevel level u (ps ++ (q ∷ []))) (levelLimit u)) (λ u h. le-leb (ofLevel level u (ps ++ (q ∷ []))) (levelLimit u) (bound u h))
+    where
+      flat : every (λ p. eqb (level p) 0) (q ∷ []) ≡ true
+      flat = rw z
+
+      bound : (u : ℕ) → u ≤ 5 → ofLevel level u (ps ++ (q ∷ [])) ≤ levelLimit u
+      bound u h =
+          let c = count-append u ps (q ∷ []) in
+          let old : ofLevel level u ps ≤ levelLimit u = leb-true (ofLevel level u ps) (levelLimit u) (at-levels (λ w. leb (ofLevel level w ps) (levelLimit w)) within u h) in
+          by-test (eqb u 0)
+          (λ y. let e : u ≡ 0 = eqb-true u 0 y in
+          let one : ofLevel level u (q ∷ []) ≡ 1 = rw e (count-all 0 (q ∷ []) flat) in
+          let few : ofLevel level u ps < 16 = rw e room in
+          let most : levelLimit u ≡ 16 = rw y in
+          omega arith)
+          (λ n. let none : ofLevel level u (q ∷ []) ≡ 0 = count-other u 0 (q ∷ []) flat (eqb-false u 0 n) in omega arith)
+
+  -- a partition counts under its level
+  count-cons : (v : ℕ) (p : P) (ps : List P) → ofLevel level v (p ∷ ps) ≡ cond (eqb (level p) v) 1 0 + ofLevel level v ps
+  count-cons v p ps = by-test (eqb (level p) v) (λ y. rw y (omega arith)) (λ n. rw n (omega arith))
+
+  -- the partitions are those of the six levels
+  pub length-levels : (ps : List P) → every (λ q. leb (level q) 5) ps ≡ true
+      → length ps ≡ ofLevel level 5 ps + (ofLevel level 4 ps + (ofLevel level 3 ps + (ofLevel level 2 ps + (ofLevel level 1 ps + ofLevel level 0 ps))))
+  length-levels [] e = refl
+  length-levels (p ∷ ps) e =
+      let i = length-levels ps (and-right (leb (level p) 5) _ e) in
+      let one = one-level (level p) (leb-true (level p) 5 (and-left (leb (level p) 5) _ e)) in
+      let five = count-cons 5 p ps in
+      let four = count-cons 4 p ps in
+      let three = count-cons 3 p ps in
+      let two = count-cons 2 p ps in
+      let single = count-cons 1 p ps in
+      let none = count-cons 0 p ps in
+      omega arith
+
+  -- so there are at most 51, and there is room for one more where level 0 has some
+  pub levels-room : (ps : List P) → every (λ q. leb (level q) 5) ps ≡ true → every (λ u. leb (ofLevel level u ps) (levelLimit u)) levels ≡ true
+      → length ps ≤ 35 + ofLevel level 0 ps
+  levels-room ps e within =
+      let all = length-levels ps e in
+      let five : ofLevel level 5 ps ≤ 3 = most 5 (omega arith) in
+      let four : ofLevel level 4 ps ≤ 8 = most 4 (omega arith) in
+      let three : ofLevel level 3 ps ≤ 8 = most 3 (omega arith) in
+      let two : ofLevel level 2 ps ≤ 8 = most 2 (omega arith) in
+      let one : ofLevel level 1 ps ≤ 8 = most 1 (omega arith) in
+      omega arith
+    where
+      most : (u : ℕ) → u ≤ 5 → ofLevel level u ps ≤ levelLimit u
+      most u h = leb-true (ofLevel level u ps) (levelLimit u) (at-levels (λ w. leb (ofLevel level w ps) (levelLimit w)) within u h)
