@@ -26,6 +26,7 @@ Chained W b n = AllOf (InCard W) (chain W b n)
 abbrev pub nextBlock : List ℕ → ℕ → ℕ → ℕ
 nextBlock W b i = cond (eqb i 1022) (link W b) b
 
+-- the place of that word
 abbrev pub nextWord : ℕ → ℕ
 nextWord i = cond (eqb i 1022) 0 (i + 1)
 
@@ -43,6 +44,7 @@ unfoldable pub goodAt : List ℕ → ℕ → ℕ → ℕ → Type 0
 goodAt W zero b i = Unit {0}
 goodAt W (suc n) b i = (i < 1023) × InCard W b × goodAt W n (nextBlock W b i) (nextWord i)
 
+-- of a cursor: all that it has still to come can be read
 abbrev pub Good : List ℕ → Cursor → Type 0
 Good W c = goodAt W (c .left) (c .block) (c .word)
 
