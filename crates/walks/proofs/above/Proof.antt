@@ -1,0 +1,11 @@
+-- `walks::above` meets its contract: the test of the sign. Assumes nothing.
+use mir.Facts.{toZ-ofZ}
+use Rattle.walks.proofs.Steps.{above-test}
+use Rattle.walks.proofs.above.Statement.{statement}
+use Rattle.walks.proofs.above.Tie as tie
+
+returns : tie.Need-returns
+returns c = rw (toZ-ofZ (c .fits .sum)) (above-test (c .args .sum))
+
+pub above-spec : {M : Type 1} → statement M
+above-spec = tie.close (tie.spec returns)

@@ -1,0 +1,3 @@
+pub mod Items
+pub mod Judged
+pub mod Counts
