@@ -12,3 +12,4 @@ pub mod Same
 pub mod Shifts
 pub mod Places
 pub mod Sizes
+pub mod Sections

@@ -5,3 +5,8 @@ pub mod Trips
 pub mod Rules
 pub mod Kept
 pub mod Lookup
+pub mod Headers
+pub mod Listed
+pub mod Readers
+pub mod Starts
+pub mod Apart

@@ -1,0 +1,112 @@
+-- `partitions::chains_apart` meets its contract. The invariant: that all chains differ is that those from i on are apart from the marks. Assumes nothing.
+use mathlib.Core.Path.{_≡_, sym, _∙_}
+use Prim.Native.Nat.{_-_, _≤_}
+use native.Mathlib.Omega.{arith}
+use lib.ListN.{length, getD, drop}
+use borrow.Author.Tests.{not-false}
+use Rattle.lists.specs.Lists.{different}
+use Rattle.lists.proofs.Arrays.{unmapped}
+use Rattle.lists.proofs.Sections.{answered-no, used-every}
+use Rattle.words.specs.Words.{words}
+use Rattle.state.specs.Views.{noPartition, finished}
+use Rattle.card.specs.Marks.{unmarked}
+use Rattle.partitions.specs.Formed.{partitionRule, chainsOf}
+use Rattle.partitions.proofs.Starts.{rule-readable}
+use Rattle.partitions.proofs.Apart.{apart-start, apart-fails, apart-step, apart-end}
+use borrow.Author.Needs.{needs}
+use Rattle.partitions.proofs.chains_apart.Statement.{statement}
+use Rattle.partitions.proofs.chains_apart.Tie as tie
+
+abbrev Inv-loop : tie.InvT-loop
+Inv-loop card blocks all n marks₀ i₀ marks i =
+    (length (all .records) ≡ 51) × (i ≤ n)
+    × (different (chainsOf (words card) (finished all)) ≡ unmarked marks (chainsOf (words card) (drop i (finished all))))
+
+abbrev μ-loop : tie.MeasureT-loop
+μ-loop card blocks all n marks₀ i₀ marks i = n - i
+
+cast-n : tie.Need-cast-n Inv-loop μ-loop
+cast-n c = omega arith
+
+no-marks-requires : tie.Need-no-marks-requires Inv-loop μ-loop
+no-marks-requires c κs = search needs
+
+loop-holds : tie.Need-loop-holds Inv-loop μ-loop
+loop-holds c =
+    let s = c .before .before in
+    let len : length (s .args .t3 .records) ≡ 51 = search (unmapped, needs) in
+    (len, omega arith, apart-start (words (s .args .card .now)) (c .no-marks .result) (c .no-marks .ensures) (chainsOf (words (s .args .card .now)) (finished (s .args .t3))))
+
+mul-p : tie.Need-mul-p Inv-loop μ-loop
+mul-p c = omega arith
+
+element-copy-out-p : tie.Need-element-copy-out-p Inv-loop μ-loop
+element-copy-out-p c = omega arith
+
+blocks-for-requires : tie.Need-blocks-for-requires Inv-loop μ-loop
+blocks-for-requires c κs = search needs
+
+mark-chain-requires : tie.Need-mark-chain-requires Inv-loop μ-loop
+mark-chain-requires c κs =
+    let s = c .before .before .before .before .before .before in
+    let a = c .before .before .before .loop in
+    let W = words (s .args .card .now) in
+    let ps = s .args .t3 in
+    let p = getD (ps .records) (a .i) noPartition in
+    let e = used-every (partitionRule W (s .args .blocks)) (ps .records) (ps .used) (a .i) noPartition (omega (arith, a .inv .0)) (c .before .before .loop-test .taken) (s .pre .3) in
+    rw (c .blocks-for .ensures) (rule-readable W (s .args .blocks) p (s .pre .0) (s .pre .1) e .chained)
+
+returns : tie.Need-returns Inv-loop μ-loop
+returns c =
+    let s = c .before .before .before .before .before .before .before .before .before in
+    let a = c .before .before .before .before .before .before .loop in
+    let W = words (s .args .card .now) in
+    let ps = s .args .t3 in
+    let p = getD (ps .records) (a .i) noPartition in
+    let t = rw (c .before .before .before .blocks-for .ensures) at (answered-no (c .before .before .mark-chain .ensures .0) (c .if1 .taken)) in
+    sym (a .inv .2 ∙ apart-fails W (a .marks) (ps .records) (ps .used) (a .i) noPartition (omega (arith, a .inv .0)) (c .before .before .before .before .before .loop-test .taken) t)
+
+add-i : tie.Need-add-i Inv-loop μ-loop
+add-i c = omega arith
+
+loop-less : tie.Need-loop-less Inv-loop μ-loop
+loop-less c = omega arith
+
+loop-again : tie.Need-loop-again Inv-loop μ-loop
+loop-again c =
+    let s = c .before .before .before .before .before .before .before .before .before .before in
+    let a = c .before .before .before .before .before .before .before .loop in
+    let W = words (s .args .card .now) in
+    let ps = s .args .t3 in
+    let p = getD (ps .records) (a .i) noPartition in
+    let b = not-false (c .before .before .before .mark-chain .result .apart) (c .before .if1 .left) in
+    let t = rw (c .before .before .before .before .blocks-for .ensures) at (sym (c .before .before .before .mark-chain .ensures .0) ∙ b) in
+    let u = rw (c .before .before .before .before .blocks-for .ensures) at (c .before .before .before .mark-chain .ensures .1 .1 b) in
+    (a .inv .0, omega arith, a .inv .2 ∙ apart-step W (a .marks) (ps .records) (ps .used) (a .i) noPartition (omega (arith, a .inv .0)) (c .before .before .before .before .before .before .loop-test .taken) t (c .before .before .before .mark-chain .result .marks) u)
+
+returns-2 : tie.Need-returns-2 Inv-loop μ-loop
+returns-2 c =
+    let s = c .before .before .before .before in
+    let a = c .before .loop in
+    let W = words (s .args .card .now) in
+    let ps = s .args .t3 in
+    sym (a .inv .2 ∙ apart-end W (a .marks) (ps .records) (ps .used) (a .i) (c .loop-test .left))
+
+pub chains-apart-spec : {M : Type 1} → statement M
+chains-apart-spec =
+    tie.close
+    (tie.spec
+    Inv-loop
+    μ-loop
+    cast-n
+    no-marks-requires
+    loop-holds
+    mul-p
+    element-copy-out-p
+    blocks-for-requires
+    mark-chain-requires
+    returns
+    add-i
+    loop-less
+    loop-again
+    returns-2)

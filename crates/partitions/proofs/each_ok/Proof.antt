@@ -1,0 +1,105 @@
+-- `partitions::each_ok` meets its contract. The invariant: the answer for all is the answer for those from i on. Assumes nothing.
+use mathlib.Core.Bool.{Bool, _&&_}
+use mathlib.Core.Path.{_≡_, refl, sym, ap, _∙_}
+use Prim.Native.Nat.{_+_, _-_, _≤_}
+use native.Mathlib.Omega.{arith}
+use lib.ListN.{length, getD, drop}
+use Rattle.lists.specs.Lists.{every}
+use Rattle.lists.proofs.Arrays.{unmapped}
+use Rattle.lists.proofs.Sections.{answered-no, answered-yes, used-more, used-every, used-none}
+use Rattle.words.specs.Words.{words}
+use Rattle.state.specs.Views.{noPartition, finished}
+use Rattle.state.specs.Rules.{recordRule}
+use Rattle.partitions.specs.Formed.{partitionRule}
+use Rattle.partitions.proofs.Apart.{record-length}
+use borrow.Author.Needs.{needs}
+use Rattle.partitions.proofs.each_ok.Statement.{statement}
+use Rattle.partitions.proofs.each_ok.Tie as tie
+
+abbrev Inv-loop : tie.InvT-loop
+Inv-loop card blocks all n i₀ i =
+    (length (all .records) ≡ 51) × (i ≤ n)
+    × (every (partitionRule (words card) blocks) (finished all) ≡ every (partitionRule (words card) blocks) (drop i (finished all)))
+
+abbrev μ-loop : tie.MeasureT-loop
+μ-loop card blocks all n i₀ i = n - i
+
+cast-n : tie.Need-cast-n Inv-loop μ-loop
+cast-n c = omega arith
+
+loop-holds : tie.Need-loop-holds Inv-loop μ-loop
+loop-holds c =
+    let len : length (c .before .args .t3 .records) ≡ 51 = search (unmapped, needs) in
+    (len, omega arith, refl)
+
+mul-p : tie.Need-mul-p Inv-loop μ-loop
+mul-p c = omega arith
+
+element-copy-out-p : tie.Need-element-copy-out-p Inv-loop μ-loop
+element-copy-out-p c = omega arith
+
+partition-ok-requires : tie.Need-partition-ok-requires Inv-loop μ-loop
+partition-ok-requires c κs =
+    let s = c .before .before .before .before in
+    let a = c .before .before .loop in
+    let W = words (s .args .card .now) in
+    let ps = s .args .t3 in
+    let r = record-length (s .args .blocks) (getD (ps .records) (a .i) noPartition)
+    (used-every (recordRule (s .args .blocks)) (ps .records) (ps .used) (a .i) noPartition (omega (arith, a .inv .0)) (c .before .loop-test .taken) (s .pre .3)) in
+    (s .pre .0, s .pre .1, r)
+
+returns : tie.Need-returns Inv-loop μ-loop
+returns c =
+    let s = c .before .before .before .before .before .before in
+    let a = c .before .before .before .before .loop in
+    let W = words (s .args .card .now) in
+    let ps = s .args .t3 in
+    let t = answered-no (c .before .partition-ok .ensures) (c .if1 .taken) in
+    sym (a .inv .2
+    ∙ ap (every (partitionRule W (s .args .blocks))) (used-more (ps .records) (ps .used) (a .i) noPartition (omega (arith, a .inv .0)) (c .before .before .before .loop-test .taken))
+    ∙ ap (λ (b : Bool). b && every (partitionRule W (s .args .blocks)) (drop (a .i + 1) (finished ps))) t)
+
+add-i : tie.Need-add-i Inv-loop μ-loop
+add-i c = omega arith
+
+loop-less : tie.Need-loop-less Inv-loop μ-loop
+loop-less c = omega arith
+
+loop-again : tie.Need-loop-again Inv-loop μ-loop
+loop-again c =
+    let s = c .before .before .before .before .before .before in
+    let a = c .before .before .before .before .loop in
+    let W = words (s .args .card .now) in
+    let ps = s .args .t3 in
+    let t = answered-yes (c .before .partition-ok .ensures) (c .if1 .left) in (
+      a .inv .0,
+      omega arith,
+      a .inv .2
+          ∙ ap (every (partitionRule W (s .args .blocks))) (used-more (ps .records) (ps .used) (a .i) noPartition (omega (arith, a .inv .0)) (c .before .before .before .loop-test .taken))
+          ∙ ap (λ (b : Bool). b && every (partitionRule W (s .args .blocks)) (drop (a .i + 1) (finished ps))) t,
+    )
+
+returns-2 : tie.Need-returns-2 Inv-loop μ-loop
+returns-2 c =
+    let s = c .before .before .before in
+    let a = c .before .loop in
+    let W = words (s .args .card .now) in
+    let ps = s .args .t3 in
+    sym (a .inv .2 ∙ ap (every (partitionRule W (s .args .blocks))) (used-none (ps .records) (ps .used) (a .i) (c .loop-test .left)))
+
+pub each-ok-spec : {M : Type 1} → statement M
+each-ok-spec =
+    tie.close
+    (tie.spec
+    Inv-loop
+    μ-loop
+    cast-n
+    loop-holds
+    mul-p
+    element-copy-out-p
+    partition-ok-requires
+    returns
+    add-i
+    loop-less
+    loop-again
+    returns-2)

@@ -1,0 +1,72 @@
+-- `partitions::partition_ok` meets its contract: the parts of the rule in their order. Assumes nothing.
+use mathlib.Core.Path.{sym, ap, _∙_}
+use Rattle.lists.proofs.Sections.{answered-no, answered-yes}
+use Rattle.words.specs.Words.{words}
+use Rattle.card.specs.Chains.{blocksFor, chainRule}
+use Rattle.card.proofs.Seeking.{rule-chained}
+use Rattle.partitions.proofs.Starts.{rule-some, rule-chain, rule-header, rule-entries}
+use borrow.Author.Needs.{needs}
+use Rattle.partitions.proofs.partition_ok.Statement.{statement}
+use Rattle.partitions.proofs.partition_ok.Tie as tie
+
+blocks-for-requires : tie.Need-blocks-for-requires
+blocks-for-requires c κs = search needs
+
+chain-ok-requires : tie.Need-chain-ok-requires
+chain-ok-requires c κs = search needs
+
+returns : tie.Need-returns
+returns c =
+    let s = c .before .before .before .before in
+    let W = words (s .args .card .now) in
+    let p = s .args .p in
+    let n = ap (chainRule W (s .args .blocks) (p .first)) (c .before .before .blocks-for .ensures) in
+    sym (rule-chain W (s .args .blocks) p (sym n ∙ answered-no (c .before .chain-ok .ensures) (c .if1 .taken)))
+
+header-ok-requires : tie.Need-header-ok-requires
+header-ok-requires c κs =
+    let s = c .before .before .before .before in
+    let W = words (s .args .card .now) in
+    let p = s .args .p in
+    let n = ap (chainRule W (s .args .blocks) (p .first)) (c .before .before .blocks-for .ensures) in
+    let g = sym n ∙ answered-yes (c .before .chain-ok .ensures) (c .if1 .left) in
+    (rule-chained W (s .args .blocks) (p .first) (blocksFor (p .length)) (s .pre .0) (s .pre .1) g, rule-some W (s .args .blocks) (p .first) (blocksFor (p .length)) g)
+
+returns-2 : tie.Need-returns-2
+returns-2 c =
+    let s = c .before .before .before .before .before .before in
+    let W = words (s .args .card .now) in
+    let p = s .args .p in
+    let n = ap (chainRule W (s .args .blocks) (p .first)) (c .before .before .before .before .blocks-for .ensures) in
+    let g = sym n ∙ answered-yes (c .before .before .before .chain-ok .ensures) (c .before .before .if1 .left) in
+    sym (rule-header W (s .args .blocks) p g (answered-no (c .before .header-ok .ensures) (c .if2 .taken)))
+
+entries-ok-requires : tie.Need-entries-ok-requires
+entries-ok-requires c κs =
+    let s = c .before .before .before .before .before .before in
+    let W = words (s .args .card .now) in
+    let p = s .args .p in
+    let n = ap (chainRule W (s .args .blocks) (p .first)) (c .before .before .before .before .blocks-for .ensures) in
+    let g = sym n ∙ answered-yes (c .before .before .before .chain-ok .ensures) (c .before .before .if1 .left) in
+    (rule-chained W (s .args .blocks) (p .first) (blocksFor (p .length)) (s .pre .0) (s .pre .1) g, answered-yes (c .before .header-ok .ensures) (c .if2 .left))
+
+returns-3 : tie.Need-returns-3
+returns-3 c =
+    let s = c .before .before .before .before .before .before .before in
+    let W = words (s .args .card .now) in
+    let p = s .args .p in
+    let n = ap (chainRule W (s .args .blocks) (p .first)) (c .before .before .before .before .before .blocks-for .ensures) in
+    let g = sym n ∙ answered-yes (c .before .before .before .before .chain-ok .ensures) (c .before .before .before .if1 .left) in
+    c .entries-ok .ensures ∙ sym (rule-entries W (s .args .blocks) p g (answered-yes (c .before .before .header-ok .ensures) (c .before .if2 .left)))
+
+pub partition-ok-spec : {M : Type 1} → statement M
+partition-ok-spec =
+    tie.close
+    (tie.spec
+    blocks-for-requires
+    chain-ok-requires
+    returns
+    header-ok-requires
+    returns-2
+    entries-ok-requires
+    returns-3)
