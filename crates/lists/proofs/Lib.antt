@@ -13,3 +13,4 @@ pub mod Shifts
 pub mod Places
 pub mod Sizes
 pub mod Sections
+pub mod Filling

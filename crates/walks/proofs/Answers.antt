@@ -1,18 +1,18 @@
 -- What the walk tells of lists and run: how it is taken on, and that it fits.
-use mathlib.Core.Bool.{Bool, true, false, cond, not, _&&_}
+use mathlib.Core.Bool.{true}
 use mathlib.Core.List.{List, [], _∷_, map}
-use mathlib.Core.Path.{_≡_, refl, sym, ap, ap₂, _∙_}
-use Prim.Native.Nat.{ℕ, zero, suc, _+_, _-_, _≤_, _<_}
+use mathlib.Core.Path.{_≡_, refl, _∙_}
+use Prim.Native.Nat.{ℕ, zero, suc, _+_, _-_, _≤_}
 use native.Mathlib.Omega.{arith}
-use lib.Dec.{leb, ltb, eqb}
-use lib.IntN.{ℤ, pos, +ℤ-idl}
+use lib.Dec.{ltb}
+use lib.IntN.{ℤ, pos}
 use lib.ListN.{length, length-map}
 use lib.Seq.{length-slice}
 use borrow.Author.Tests.{leb-true, ne-eqb}
 use Rattle.lists.specs.Lists.{every, totalBy}
 use Rattle.lists.specs.All.{AllOf}
 use Rattle.lists.proofs.Bools.{by-test, and-left, and-right}
-use Rattle.keyed.specs.Keys.{Item, falls, allFall, sumOf, sums, overKeys}
+use Rattle.keyed.specs.Keys.{falls, allFall, sumOf, sums, overKeys}
 use Rattle.keyed.specs.Groups.{Group, allFallAll}
 use Rattle.keyed.proofs.Groups.{Zero}
 use Rattle.postings.specs.declared.Posting.{Posting}
@@ -24,12 +24,10 @@ use Rattle.card.specs.declared.Cursor.{Cursor}
 use Rattle.card.specs.Cursors.{ahead}
 use Rattle.walks.specs.declared.Lists.{Lists}
 use Rattle.walks.specs.declared.Run.{Run}
-use Rattle.walks.specs.declared.Walked.{Walked}
 use Rattle.walks.specs.declared.Walked.the-variants.{Malformed as Faulty, Windows}
-use Rattle.walks.specs.declared.Counted.{Counted}
 use Rattle.walks.specs.declared.Counted.the-variants.{Malformed, Counts}
 use Rattle.walks.specs.Items.{itemOf, items, cursorsOf, itemLists, itemBuffered, runOf, runItems, Within, groups}
-use Rattle.walks.specs.Judged.{totalZ, ranges, counts, formed, risen, size, walkedOf, countsOf}
+use Rattle.walks.specs.Judged.{totalZ, counts, formed, risen, size, walkedOf, countsOf}
 use Rattle.walks.proofs.Lengths.{length-lists}
 use Rattle.walks.proofs.Steps.{total-none}
 
@@ -78,6 +76,7 @@ unfolding overKeys
 few S z zero = rw (total-none (S 0) z) (omega arith)
 few S z (suc n) = let h = few S z n in by-test (isAbove (totalZ (S (suc n)))) (λ y. rw y (omega arith)) (λ y. rw y (omega arith))
 
+-- so F fits
 pub risen-few : (gs : List Group) → AllOf Zero (map (sums 0) gs) → risen gs ≤ 65535
 unfolding risen
 risen-few gs z = few (λ w. map (sums w) gs) z 65535
@@ -85,6 +84,7 @@ risen-few gs z = few (λ w. map (sums w) gs) z 65535
 -- ---- the answer
 
 module _ (gs : List Group) where
+  -- the walk found a fault
   pub told-faulty : walkedOf gs ≡ Faulty → Malformed ≡ countsOf gs
   unfolding walkedOf countsOf
   told-faulty e =
@@ -92,6 +92,7 @@ module _ (gs : List Group) where
       (λ y. let q : Windows (risen gs) ≡ Faulty = rw y at e in let z : _≡_ {A = ℕ} 0 1 = cc in absurd (omega arith))
       (λ n. rw n)
 
+  -- the walk found none
   pub told-formed : (n : ℕ) → walkedOf gs ≡ Windows n → (formed gs ≡ true) × (n ≡ risen gs)
   unfolding walkedOf
   told-formed n e =
@@ -99,6 +100,7 @@ module _ (gs : List Group) where
       (λ y. let q : Windows (risen gs) ≡ Windows n = rw y at e in (y, cc))
       (λ f. let q : Faulty ≡ Windows n = rw f at e in let z : _≡_ {A = ℕ} 0 1 = cc in absurd (omega arith))
 
+  -- F and the number of postings
   pub told : (n m : ℕ) → formed gs ≡ true → n ≡ risen gs → m ≡ size gs → Counts n m ≡ countsOf gs
   unfolding countsOf
   told n m f p q = rw (f, p, q)

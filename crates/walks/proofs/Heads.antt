@@ -1,16 +1,16 @@
 -- The head of a list on the card: what is there, and what is taken of it under a window.
 use mathlib.Core.Bool.{Bool, true, false, cond, _&&_}
-use mathlib.Core.List.{List, [], _∷_, map}
-use mathlib.Core.Path.{_≡_, refl, sym, ap, _∙_}
+use mathlib.Core.List.{List, [], _∷_}
+use mathlib.Core.Path.{_≡_, refl, _∙_}
 use Prim.Native.Nat.{ℕ, zero, suc, _<_}
 use native.Mathlib.Omega.{arith}
 use lib.Dec.{ltb, eqb}
-use lib.IntN.{ℤ, pos}
+use lib.IntN.{pos}
 use borrow.Author.Tests.{lt-ltb, le-ltb, eq-eqb, ne-eqb}
-use Rattle.keyed.specs.Keys.{Item, rest, headVal, headFine}
+use Rattle.keyed.specs.Keys.{rest, headVal, headFine}
 use Rattle.postings.specs.Pack.{wordCount, wordWindow, isPosting}
 use Rattle.card.specs.declared.Cursor.{Cursor}
-use Rattle.card.specs.Cursors.{aheadAt, ahead, Good, headOf, movedOf}
+use Rattle.card.specs.Cursors.{aheadAt, Good, headOf, movedOf}
 use Rattle.card.proofs.Cursors.{ahead-more, good-moved}
 use Rattle.walks.specs.Items.{itemOf, items, restOf}
 
@@ -51,13 +51,14 @@ module _ (W : List ℕ) where
       go zero e = rw (le-ltb 0 (c .left) (omega arith)) g
       go (suc n) e = let h : 0 < c .left = omega arith in rw (lt-ltb 0 (c .left) h) (pick (eqb (wordWindow (headOf W c)) k) h)
 
-  -- what is taken under a window: of a spent list, of a head with the window, of another head
   module _ (k : ℕ) (c : Cursor) where
+    -- a spent list gives nothing
     pub take-spent : c .left ≡ 0 → (c ≡ restOf W k c) × (pos 0 ≡ headVal k (items W c)) × (true ≡ headFine k (items W c))
     unfolding restOf
     take-spent e = let n = items-none c e in (rw (le-ltb 0 (c .left) (omega arith)), rw n, rw n)
 
     module _ (h : 0 < c .left) where
+      -- a head with the window is taken
       pub take-head : wordWindow (headOf W c) ≡ k
           → (movedOf W c ≡ restOf W k c) × (wordCount (headOf W c) ≡ headVal k (items W c)) × (isPosting (headOf W c) ≡ headFine k (items W c))
       unfolding restOf
@@ -66,6 +67,7 @@ module _ (W : List ℕ) where
           let n = items-more c h in
           (rw (lt-ltb 0 (c .left) h, t), rw (n, t), rw (n, t))
 
+      -- another head stays
       pub take-other : (wordWindow (headOf W c) ≡ k → ⊥) → (c ≡ restOf W k c) × (pos 0 ≡ headVal k (items W c)) × (true ≡ headFine k (items W c))
       unfolding restOf
       take-other e =

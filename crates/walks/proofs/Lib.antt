@@ -6,3 +6,4 @@ pub mod Moves
 pub mod Answers
 pub mod Ranges
 pub mod Stored
+pub mod Opened

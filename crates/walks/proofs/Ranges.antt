@@ -1,9 +1,9 @@
 -- Sums of one identifier's postings: the test of the pairs that occur is a test of every window, and so is F.
-use mathlib.Core.Bool.{Bool, true, false, cond, _&&_}
-use mathlib.Core.List.{List, [], _∷_, foldr}
+use mathlib.Core.Bool.{Bool, true, false, _&&_}
+use mathlib.Core.List.{List, [], _∷_}
 use mathlib.Core.Logic.{⊎-elim}
 use mathlib.Core.Path.{_≡_, refl, sym, ap, _∙_}
-use Prim.Native.Nat.{ℕ, zero, suc, _+_, _<_, _≤_}
+use Prim.Native.Nat.{ℕ, zero, suc, _<_, _≤_}
 use native.Mathlib.Omega.{arith}
 use lib.Dec.{ltb, eqb}
 use lib.IntN.{ℤ, pos, _+ℤ_, +ℤ-idl, +ℤ-idr}
@@ -17,12 +17,12 @@ use Rattle.keyed.proofs.Walk.{over-same, over-none, over-step}
 use Rattle.postings.specs.declared.Posting.{Posting}
 use Rattle.postings.specs.Order.{precedes, ordered}
 use Rattle.postings.specs.Merge.{pairs}
-use Rattle.postings.specs.Sums.{sum, isAbove, frequency}
+use Rattle.postings.specs.Sums.{sum, isAbove}
 use Rattle.postings.proofs.Order.{precedes-cases}
 use Rattle.postings.proofs.Sums.{sum-pairs}
 use Rattle.postings.proofs.Merge.{every-puts, pairs-ordered}
 use Rattle.partitions.specs.Formed.{inRange, sumsInRange}
-use Rattle.walks.specs.Judged.{totalZ, inRanges, ranges, counts}
+use Rattle.walks.specs.Judged.{totalZ, ranges, counts}
 
 -- the test of one sum at every window
 abbrev pub range : ℕ → ℤ → Bool → Bool

@@ -1,20 +1,21 @@
 -- The run of an identifier in the buffer: where it lies, its head, and what is taken of it under a window.
-use mathlib.Core.Bool.{Bool, true, false, cond}
+use mathlib.Core.Bool.{true}
 use mathlib.Core.List.{List, [], _∷_, map}
 use mathlib.Core.Logic.{⊎-elim}
 use mathlib.Core.Path.{_≡_, refl, sym, ap, _∙_}
-use Prim.Native.Nat.{ℕ, zero, suc, _+_, _<_, _≤_}
+use Prim.Native.Nat.{ℕ, suc, _+_, _<_, _≤_}
 use native.Mathlib.Nat.{eq-or-lt-of-le}
 use native.Mathlib.Numerals.{add-one}
 use native.Mathlib.Omega.{arith}
 use lib.Dec.{ltb, eqb}
-use lib.IntN.{ℤ, pos}
-use lib.ListN.{length, getD, take, drop, drop-of-length-le}
-use lib.Seq.{slice, take-take, slice-empty, slice-cons, length-take-le, getD-take, drop-cons}
+use lib.IntN.{pos}
+use lib.ListN.{length, getD, take, drop}
+use lib.Seq.{slice, take-take, slice-empty, slice-cons, length-take-le}
 use borrow.Author.Tests.{lt-ltb, le-ltb, eq-eqb, ne-eqb, ltb-true, ltb-false, eqb-true, eqb-false}
-use Rattle.lists.specs.Lists.{keep, every}
+use Rattle.lists.specs.Lists.{every}
+use Rattle.lists.proofs.Turns.{used-turn, used-end}
 use Rattle.lists.proofs.Bools.{by-test, and-left, and-right}
-use Rattle.keyed.specs.Keys.{Item, reach, rest, headVal, headFine}
+use Rattle.keyed.specs.Keys.{rest, headVal, headFine}
 use Rattle.postings.specs.declared.Posting.{Posting}
 use Rattle.postings.specs.Order.{precedes, ordered}
 use Rattle.postings.specs.Sums.{under}
@@ -40,24 +41,27 @@ module _ (b : Buffer) (r : Run) where
         let t : r .end ≤ length (b .postings) = omega (arith, inside .inside) in
         ap (map itemBuffered) (slice-cons (r .at) (r .end) (b .postings) noPosting h t) ∙ rw (add-one (r .at))
 
--- what is taken under a window: of a spent run, of a head with the window, of another head
+-- ---- what is taken of it under a window
+
 module _ (k : ℕ) (b : Buffer) (r : Run) where
+  -- a spent run gives nothing
   pub run-take-spent : r .at ≡ r .end → (r ≡ restRun b k r) × (pos 0 ≡ headVal k (runItems b r))
   run-take-spent e = let n = run-none b r e in (rw (n, ne-eqb 0 (suc k) (λ q. omega arith)), rw n)
 
   module _ (len : length (b .postings) ≡ 128) (inside : Within r) (h : r .at < r .end) where
+    -- a head with the window is taken
     pub run-take-head : getD (b .postings) (r .at) noPosting .window ≡ k
         → (record { at = r .at + 1; end = r .end } ≡ restRun b k r) × (getD (b .postings) (r .at) noPosting .count ≡ headVal k (runItems b r))
     run-take-head e =
         let n = run-more b r len inside h in
         (rw (n, eq-eqb _ (suc k) (ap suc e)), rw (n, eq-eqb _ k e))
 
+    -- another head stays
     pub run-take-other : (getD (b .postings) (r .at) noPosting .window ≡ k → ⊥) → (r ≡ restRun b k r) × (pos 0 ≡ headVal k (runItems b r))
     run-take-other e =
         let n = run-more b r len inside h in
         (rw (n, ne-eqb (suc (getD (b .postings) (r .at) noPosting .window)) (suc k) (λ q. e (omega arith))), rw (n, ne-eqb _ k e))
 
-  -- past the head under a window
   module _ (len : length (b .postings) ≡ 128) (inside : Within r) where
     moved-run : (r .at ≡ r .end → (runItems b (restRun b k r) ≡ rest k (runItems b r)) × Within (restRun b k r))
     moved-run e = let n = run-none b r e in let z = ne-eqb 0 (suc k) (λ q. omega arith) in (rw (n, z) n, rw (n, z) inside)
@@ -70,6 +74,7 @@ module _ (k : ℕ) (b : Buffer) (r : Run) where
         (λ y. let z = eq-eqb (suc w) (suc k) (ap suc (eqb-true w k y)) in (rw (n, z, y), rw (n, z) (record { forward = omega arith; inside = inside .inside })))
         (λ y. let z = ne-eqb (suc w) (suc k) (λ q. eqb-false w k y (omega arith)) in (rw (n, z, y) n, rw (n, z) inside))
 
+    -- past the head under a window
     pub run-rest : (runItems b (restRun b k r) ≡ rest k (runItems b r)) × Within (restRun b k r)
     run-rest = ⊎-elim moved-run moved-more (eq-or-lt-of-le {n = r .at} {m = r .end} (inside .forward))
 
@@ -92,6 +97,7 @@ module _ (i : ℕ) where
       let g : p .id ≤ q .id = ⊎-elim (λ a. omega arith) (λ a. omega arith) (precedes-cases p q (and-left _ _ e)) in
       rw (le-ltb (q .id) i (omega arith))
 
+  -- a lower bound lies in the list
   pub lower-length : (l : List Posting) → lower i l ≤ length l
   lower-length [] = omega arith
   lower-length (p ∷ l) = let h = lower-length l in by-test (ltb (p .id) i) (λ y. rw y (omega arith)) (λ n. rw n (omega arith))
@@ -124,22 +130,17 @@ module _ (i : ℕ) where
 -- ---- the turns of the search for it: the first n places of the array are used
 
 module _ (x : ℕ) (all : List Posting) (n i : ℕ) (fits : n ≤ length all) where
-  next-used : i < n → drop i (take n all) ≡ getD all i noPosting ∷ drop (i + 1) (take n all)
-  next-used h =
-      let l : length (take n all) ≡ n = length-take-le n all fits in
-      let g : getD (take n all) i noPosting ≡ getD all i noPosting = getD-take n all i noPosting h in
-      rw (add-one i, drop-cons (take n all) i noPosting (omega arith), g)
-
+  -- it ends at the first identifier that is not lower
   pub lower-here : i < n → x ≤ getD all i noPosting .id → lower x (drop i (take n all)) ≡ 0
-  lower-here h g = rw (next-used h, le-ltb _ x g)
+  lower-here h g = used-turn (lower x) all n i noPosting fits h refl ∙ rw (le-ltb _ x g)
 
+  -- it goes on past a lower one
   pub lower-on : i < n → getD all i noPosting .id < x → lower x (drop i (take n all)) ≡ suc (lower x (drop (i + 1) (take n all)))
-  lower-on h g = rw (next-used h, lt-ltb _ x g)
+  lower-on h g = used-turn (lower x) all n i noPosting fits h refl ∙ rw (lt-ltb _ x g)
 
+  -- past the last there is none
   pub lower-end : n ≤ i → lower x (drop i (take n all)) ≡ 0
-  lower-end h =
-      let l : length (take n all) ≡ n = length-take-le n all fits in
-      rw (drop-of-length-le (take n all) {i = i} (omega arith))
+  lower-end h = used-end (lower x) all n i fits h refl
 
 -- the places between two lower bounds are those of the identifier
 pub run-lies : (i n : ℕ) (all : List Posting) → n ≤ length all → ordered (take n all) ≡ true

@@ -1,30 +1,31 @@
 -- From lists and run to what is stored under the identifier.
-use mathlib.Core.Bool.{Bool, true, false, cond, not, _&&_, and-true, and-false}
+use mathlib.Core.Bool.{Bool, true, false, not, _&&_, and-true, and-false}
 use mathlib.Core.List.{List, [], _∷_, _++_, map}
 use mathlib.Core.Path.{_≡_, refl, sym, ap, ap₂, _∙_}
-use Prim.Native.Nat.{ℕ, zero, suc, _+_, _/_, _%_, _<_, _≤_}
+use Prim.Native.Nat.{ℕ, zero, suc, _+_, _/_, _%_, _<_}
 use native.Mathlib.Omega.{arith}
 use lib.Dec.{leb, ltb, eqb}
 use lib.IntN.{ℤ, pos, _+ℤ_, +ℤ-idr}
-use lib.ListN.{length, getD, length-append, length-map}
+use lib.ListN.{length, length-append, length-map}
 use borrow.Author.Tests.{leb-true, lt-ltb, le-ltb, le-leb, lt-leb, eqb-true, eqb-false, eq-eqb}
-use Rattle.lists.specs.Lists.{keep, every, joined, totalBy, down}
+use Rattle.lists.specs.Lists.{every, joined, totalBy}
 use Rattle.lists.specs.All.{AllOf}
 use Rattle.lists.proofs.Bools.{by-test, and-left, and-right, and-both}
-use Rattle.lists.proofs.Tests.{keep-append, every-from, every-keep, every-kept}
-use Rattle.keyed.specs.Keys.{Item, falls, allFall, sumOf, sums, overKeys}
+use Rattle.lists.proofs.Tests.{keep-append, every-from, every-kept}
+use Rattle.lists.proofs.Turns.{every-append}
+use Rattle.lists.proofs.Ranges.{every-map, keep-joined}
+use Rattle.keyed.specs.Keys.{falls, allFall, sumOf, sums, overKeys}
 use Rattle.keyed.specs.Groups.{Group, allFallAll}
 use Rattle.keyed.proofs.Walk.{over-same}
 use Rattle.words.specs.Words.{Below}
 use Rattle.postings.specs.declared.Posting.{Posting}
-use Rattle.postings.specs.Order.{precedes, ordered}
+use Rattle.postings.specs.Order.{ordered}
 use Rattle.postings.specs.Merge.{isZero}
-use Rattle.postings.specs.Pack.{signed, wordCount, wordWindow, isPosting, posted}
+use Rattle.postings.specs.Pack.{signed, wordWindow, isPosting, posted}
 use Rattle.postings.specs.Sums.{sum, under, isAbove, inWindows, frequency}
 use Rattle.postings.proofs.Order.{ordered-next, keep-ordered}
 use Rattle.postings.proofs.Sums.{sum-append, sum-under}
-use Rattle.postings.proofs.Trips.{posting-window, posting-count}
-use Rattle.state.specs.declared.Partition.{Partition}
+use Rattle.postings.proofs.Trips.{posting-count}
 use Rattle.state.specs.declared.State.{State}
 use Rattle.state.specs.Views.{buffered, finished}
 use Rattle.card.specs.declared.Cursor.{Cursor}
@@ -33,29 +34,12 @@ use Rattle.partitions.specs.Reading.{postingsOf, inPartitions, stored}
 use Rattle.partitions.specs.Formed.{listRule, sumsInRange, identifierFormed}
 use Rattle.walks.specs.declared.Lists.{Lists}
 use Rattle.walks.specs.declared.Run.{Run}
-use Rattle.walks.specs.declared.Counted.{Counted}
-use Rattle.walks.specs.declared.Counted.the-variants.{Malformed, Counts}
 use Rattle.walks.specs.Items.{itemOf, items, listAt, cursorsOf, itemLists, itemBuffered, runOf, runItems, groups}
-use Rattle.walks.specs.Judged.{totalZ, ranges, counts, formed, risen, size, countsOf}
+use Rattle.walks.specs.Judged.{totalZ, ranges, formed, risen, size, countsOf}
 use Rattle.walks.specs.Counts.{countedOf}
 use Rattle.walks.proofs.Answers.{formed-falls, none-at-zero}
 use Rattle.walks.proofs.Steps.{total-none}
-use Rattle.walks.proofs.Ranges.{range, own, Falls, none, more, falling, sums-range, over-two, over-down}
-
--- ---- lists of lists
-
-module _ {A : Type 0} where
-  every-append : (t : A → Bool) (l m : List A) → every t l ≡ true → every t m ≡ true → every t (l ++ m) ≡ true
-  every-append t [] m e f = f
-  every-append t (x ∷ l) m e f = and-both (t x) _ (and-left (t x) _ e) (every-append t l m (and-right (t x) _ e) f)
-
-  every-map : {B : Type 0} (t : B → Bool) (g : A → B) (l : List A) → every t (map g l) ≡ every (λ x. t (g x)) l
-  every-map t g [] = refl
-  every-map t g (x ∷ l) = rw (every-map t g l)
-
-  keep-joined : {B : Type 0} (t : A → Bool) (g : B → List A) (l : List B) → joined (map (λ x. keep t (g x)) l) ≡ keep t (joined (map g l))
-  keep-joined t g [] = refl
-  keep-joined t g (x ∷ l) = rw (keep-joined t g l) (sym (keep-append t (g x) (joined (map g l))))
+use Rattle.walks.proofs.Ranges.{range, own, Falls, more, falling, sums-range, over-two, over-down}
 
 -- ---- words
 
@@ -133,7 +117,7 @@ module _ (W : List ℕ) (small : Below 4294967296 W) where
 
   own-lists : (i : ℕ) (cs : List Cursor) → every (own i 65536) (joined (map (listAt W i) cs)) ≡ true
   own-lists i [] = refl
-  own-lists i (c ∷ cs) = every-append (own i 65536) (listAt W i c) _ (own-words i (ahead W c) (small-ahead c)) (own-lists i cs)
+  own-lists i (c ∷ cs) = every-append (own i 65536) (listAt W i c) _ ∙ and-both _ _ (own-words i (ahead W c) (small-ahead c)) (own-lists i cs)
 
 sum-lists : (W : List ℕ) (i w : ℕ) (cs : List Cursor) → sums w (map (items W) cs) ≡ sum (joined (map (listAt W i) cs)) i w
 unfolding items
@@ -162,7 +146,7 @@ falls-run i m (p ∷ l) (more e h f) = rw (lt-ltb (p .window) m h, falls-run i (
 module _ (W : List ℕ) (s : State) (i : ℕ) (ls : Lists) (r : Run) (small : Below 4294967296 W)
     (lists : map (listAt W i) (cursorsOf ls) ≡ map (λ p. under i (postingsOf W p)) (finished (s .partitions)))
     (run : runOf (s .buffer) r ≡ under i (buffered (s .buffer)))
-    (order : ordered (buffered (s .buffer)) ≡ true) (windows : every inWindows (buffered (s .buffer)) ≡ true) where
+    (order : ordered (buffered (s .buffer)) ≡ true) (windows : every inWindows (runOf (s .buffer) r) ≡ true) where
   abbrev gs : List Group
   gs = groups W ls (s .buffer) r
 
@@ -178,7 +162,7 @@ module _ (W : List ℕ) (s : State) (i : ℕ) (ls : Lists) (r : Run) (small : Be
 
   joined-lists : joined (map (listAt W i) (cursorsOf ls)) ≡ inside
   unfolding inPartitions
-  joined-lists = ap joined lists ∙ keep-joined (λ p. eqb (p .id) i) (postingsOf W) (finished (s .partitions))
+  joined-lists = ap joined lists ∙ sym (keep-joined (λ p. eqb (p .id) i) (postingsOf W) (finished (s .partitions)))
 
   whole-parts : whole ≡ inside ++ beside
   unfolding stored
@@ -199,7 +183,7 @@ module _ (W : List ℕ) (s : State) (i : ℕ) (ls : Lists) (r : Run) (small : Be
 
   own-beside : every (own i 65536) beside ≡ true
   own-beside =
-      every-from (λ p. eqb (p .id) i) inWindows (own i 65536) each beside (every-kept (λ p. eqb (p .id) i) (buffered (s .buffer))) (every-keep (λ p. eqb (p .id) i) inWindows (buffered (s .buffer)) windows)
+      every-from (λ p. eqb (p .id) i) inWindows (own i 65536) each beside (every-kept (λ p. eqb (p .id) i) (buffered (s .buffer))) (ap (every inWindows) (sym run) ∙ windows)
     where
       each : (p : Posting) → eqb (p .id) i ≡ true → inWindows p ≡ true → own i 65536 p ≡ true
       each p a b =
@@ -207,7 +191,7 @@ module _ (W : List ℕ) (s : State) (i : ℕ) (ls : Lists) (r : Run) (small : Be
           and-both (eqb (p .id) i) _ a (lt-ltb (p .window) 65536 (omega arith))
 
   own-whole : every (own i 65536) whole ≡ true
-  own-whole = ap (every (own i 65536)) whole-parts ∙ every-append (own i 65536) inside beside own-inside own-beside
+  own-whole = ap (every (own i 65536)) whole-parts ∙ every-append (own i 65536) inside beside ∙ and-both _ _ own-inside own-beside
 
   run-falls : falls 65536 (runItems (s .buffer) r) ≡ true
   unfolding runItems
@@ -244,7 +228,7 @@ module _ (W : List ℕ) (s : State) (i : ℕ) (ls : Lists) (r : Run) (small : Be
   risen-same : formed gs ≡ true → frequency (stored W s) i ≡ risen gs
   unfolding frequency risen
   risen-same f =
-      let z = none-at-zero W ls (s .buffer) r (formed-falls W ls (s .buffer) r f) (ap (every inWindows) run ∙ every-keep (λ p. eqb (p .id) i) inWindows (buffered (s .buffer)) windows) in
+      let z = none-at-zero W ls (s .buffer) r (formed-falls W ls (s .buffer) r f) windows in
       over-down (λ w. isAbove (sum (stored W s) i w)) (λ w. map (sums w) gs) (λ w. ap isAbove (total-same w)) (ap isAbove (total-same 0 ∙ total-none (map (sums 0) gs) z)) 65535
 
   size-same : length whole ≡ size gs

@@ -1,12 +1,14 @@
 // One pass over all lists of one identifier, in the finished partitions and in the buffer together, by falling window.
 use card::Cursor;
 use state::Buffer;
+use state::Partitions;
+use state::State;
 ghost use mathlib.Core.Path.{_≡_};
 ghost use mathlib.Core.Bool.{true, _&&_};
 ghost use mathlib.Core.List.{map};
-ghost use Prim.Native.Nat.{ℕ, _+_, _-_, _*_, _≤_, _<_};
-ghost use lib.IntN.{pos, _+ℤ_};
-ghost use lib.ListN.{take, drop};
+ghost use Prim.Native.Nat.{_*_, _≤_};
+ghost use lib.IntN.{_+ℤ_};
+ghost use lib.ListN.{length};
 ghost use lib.Signed.{mag};
 ghost use Rattle.lists.specs.Lists.{every, totalBy};
 ghost use Rattle.lists.specs.All.{AllOf};
@@ -15,11 +17,15 @@ ghost use Rattle.keyed.specs.Groups.{headsFineAll};
 ghost use Rattle.words.specs.Words.{words as wordsOf};
 ghost use Rattle.postings.specs.Order.{ordered};
 ghost use Rattle.postings.specs.Sums.{under, isAbove, inWindows};
-ghost use Rattle.state.specs.Views.{buffered};
+ghost use Rattle.state.specs.Views.{buffered, finished, blocks};
+ghost use Rattle.state.specs.Rules.{stateRule};
 ghost use Rattle.card.specs.Cursors.{Good};
-ghost use Rattle.partitions.specs.Formed.{inRange};
-ghost use Rattle.walks.specs.Items.{items, restOf, cursorsOf, itemLists, Ready, runOf, runItems, Within, restRun, lower as lowerOf, groups};
+ghost use Rattle.partitions.specs.Reading.{postingsOf};
+ghost use Rattle.partitions.specs.Formed.{inRange, partitionsFormed};
+ghost use Rattle.partitions.specs.Terms.{Readable};
+ghost use Rattle.walks.specs.Items.{items, listAt, restOf, cursorsOf, itemLists, Ready, runOf, runItems, Within, restRun, lower as lowerOf, groups};
 ghost use Rattle.walks.specs.Judged.{totalZ, inRanges, walkedOf, countsOf};
+ghost use Rattle.walks.specs.Counts.{countedOf};
 
 // A cursor on each list of an identifier on the card.
 pub struct Lists {
@@ -147,6 +153,7 @@ fn added(sum: i32, count: i16) -> i32
     sum + (count as i32)
 }
 
+// Whether both hold.
 fn both(a: bool, b: bool) -> bool
     ensures { λ r. ⌜ r ≡ (a && b) ⌝ }
 {
@@ -166,15 +173,15 @@ pub fn take_window(card: &[u8], ls: Lists, w: u32) -> Window
     let mut next = ls;
     let mut sum: i32 = 0;
     let mut fine = true;
-    let mut i: usize = 0;
-    while i < n {
-        let c = ls.cursors[i];
+    let mut k: usize = 0;
+    while k < n {
+        let c = ls.cursors[k];
         let t = took(card, c, w);
         let moved = t.cursor;
-        next.cursors[i] = moved;
+        next.cursors[k] = moved;
         sum = added(sum, t.count);
         fine = both(fine, t.fine);
-        i += 1;
+        k += 1;
     }
     Window {
         lists: next,
@@ -255,12 +262,14 @@ fn in_range(sum: i32) -> bool
     sum <= 32767
 }
 
+// Whether a sum counts.
 fn above(sum: i32) -> bool
     ensures { λ r. ⌜ r ≡ isAbove sum ⌝ }
 {
     0 < sum
 }
 
+// The larger of two.
 fn larger(a: u32, b: u32) -> u32
     ensures { λ r. ⌜ r ≡ largerOf a b ⌝ }
 {
@@ -356,4 +365,44 @@ pub fn count_lists(card: &[u8], ls: Lists, b: Buffer, run: Run) -> Counted
             Counted::Counts(windows as u16, listed + buffered)
         }
     }
+}
+
+// A cursor on the identifier's list in each finished partition.
+fn open_lists(card: &[u8], ps: Partitions, id: u16) -> Lists
+    requires { ⌜ (ps .used ≤ 51) × AllOf (Readable (wordsOf (now card))) (finished ps) ⌝ }
+    ensures { λ r. ⌜ Ready (wordsOf (now (card .entry))) r
+        × (map (listAt (wordsOf (now (card .entry))) id) (cursorsOf r) ≡ map (λ p. under id (postingsOf (wordsOf (now (card .entry))) p)) (finished ps)) ⌝ }
+{
+    let used = ps.used;
+    let n = used as usize;
+    let none = Cursor {
+        block: 0,
+        word: 0,
+        left: 0,
+    };
+    let mut cursors = [none; 51];
+    let mut i: usize = 0;
+    while i < n {
+        let p = ps.records[i];
+        let c = partitions::find_list(card, p, id);
+        cursors[i] = c;
+        i += 1;
+    }
+    Lists {
+        used: used,
+        cursors: cursors,
+    }
+}
+
+// F of an identifier, and how many postings of it are stored, where what is read of it is well formed.
+pub fn count_identifier(card: &[u8], s: State, id: u16) -> Counted
+    requires { ⌜ (stateRule s ≡ true) × (length (wordsOf (now card)) ≡ 1024 * blocks s)
+        × (partitionsFormed (wordsOf (now card)) (blocks s) (finished (s .partitions)) ≡ true) ⌝ }
+    ensures { λ r. ⌜ r ≡ countedOf (wordsOf (now (card .entry))) s id ⌝ }
+{
+    let ps = s.partitions;
+    let b = s.buffer;
+    let ls = open_lists(card, ps, id);
+    let run = run_of(b, id);
+    count_lists(card, ls, b, run)
 }

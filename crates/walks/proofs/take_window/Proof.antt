@@ -1,4 +1,4 @@
--- `walks::take_window` meets its contract. The invariant: the first i lists are moved, and `sum` and `fine` with the heads from i on are those of all. Assumes nothing.
+-- `walks::take_window` meets its contract. The invariant: the first k lists are moved, and `sum` and `fine` with the heads from k on are those of all. Assumes nothing.
 use mir.Facts.{toZ-ofZ}
 use mir.Syntax.{w16, w32}
 use mir.Val.{SFits, toZ}
@@ -16,10 +16,10 @@ use Rattle.walks.proofs.take_window.Statement.{statement}
 use Rattle.walks.proofs.take_window.Tie as tie
 
 abbrev Inv-loop : tie.InvT-loop
-Inv-loop card w ls n next₀ sum₀ fine₀ i₀ next sum fine i = (length (ls .cursors) ≡ 51) × (length (next .cursors) ≡ 51) × (i ≤ n) × (next .used ≡ n) × Took (items (words card)) (restOf (words card) w) w (cursorsOf ls) i (take n (next .cursors)) (toZ w32 sum) fine
+Inv-loop card w ls n next₀ sum₀ fine₀ k₀ next sum fine k = (length (ls .cursors) ≡ 51) × (length (next .cursors) ≡ 51) × (k ≤ n) × (next .used ≡ n) × Took (items (words card)) (restOf (words card) w) w (cursorsOf ls) k (take n (next .cursors)) (toZ w32 sum) fine
 
 abbrev μ-loop : tie.MeasureT-loop
-μ-loop card w ls n next₀ sum₀ fine₀ i₀ next sum fine i = n - i
+μ-loop card w ls n next₀ sum₀ fine₀ k₀ next sum fine k = n - k
 
 cast-n : tie.Need-cast-n Inv-loop μ-loop
 cast-n c = omega arith
@@ -38,7 +38,7 @@ took-requires c κs =
     let a = c .before .before in
     let s = a .before .before in
     let len = a .loop .inv .0 in
-    of-used (Good (words (s .args .card .now))) noCursor (s .args .t2 .cursors) (s .args .t2 .used) (a .loop .i) (omega (arith, s .pre .few)) (omega arith) (s .pre .good)
+    of-used (Good (words (s .args .card .now))) noCursor (s .args .t2 .cursors) (s .args .t2 .used) (a .loop .k) (omega (arith, s .pre .few)) (omega arith) (s .pre .good)
 
 mul-moved : tie.Need-mul-moved Inv-loop μ-loop
 mul-moved c = omega arith
@@ -52,8 +52,8 @@ added-requires c κs = let a = c .before .before .before .before .before in omeg
 both-requires : tie.Need-both-requires Inv-loop μ-loop
 both-requires c κs = search needs
 
-add-i : tie.Need-add-i Inv-loop μ-loop
-add-i c = omega arith
+add-k : tie.Need-add-k Inv-loop μ-loop
+add-k c = omega arith
 
 loop-less : tie.Need-loop-less Inv-loop μ-loop
 loop-less c = omega arith
@@ -68,7 +68,7 @@ loop-again c =
     let t = c .before .before .before .before .took in
     let f : SFits w16 (t .result .count) = search needs in
     let more =
-    took-more (items W) (restOf W (s .args .w)) (s .args .w) noCursor (s .args .t2 .cursors) (s .args .t2 .used) (a .loop .i) (omega (arith, s .pre .few)) (a .loop .next .cursors) _ _ (v .4) (omega arith)
+    took-more (items W) (restOf W (s .args .w)) (s .args .w) noCursor (s .args .t2 .cursors) (s .args .t2 .used) (a .loop .k) (omega (arith, s .pre .few)) (a .loop .next .cursors) _ _ (v .4) (omega arith)
     (t .result .cursor) (t .result .count) (t .result .fine) (t .ensures .0) (t .ensures .1) (t .ensures .2) (omega (arith, f .sfits)) in (
       len,
       simp length-set (v .1),
@@ -85,7 +85,7 @@ returns c =
     let len = v .0 in
     let W = words (s .args .card .now) in
     let few = s .pre .few in
-    let d = took-done (items W) (restOf W (s .args .w)) (s .args .w) noCursor (s .args .t2 .cursors) (s .args .t2 .used) (a .loop .i) (omega arith) (a .loop .next .cursors) _ _ (v .4) (omega arith) in
+    let d = took-done (items W) (restOf W (s .args .w)) (s .args .w) noCursor (s .args .t2 .cursors) (s .args .t2 .used) (a .loop .k) (omega arith) (a .loop .next .cursors) _ _ (v .4) (omega arith) in
     (v .3, rw (v .3) (d .0), d .1, d .2, omega (arith, v .4 .size))
 
 pub take-window-spec : {M : Type 1} → statement M
@@ -103,7 +103,7 @@ take-window-spec =
     element-set-from-moved
     added-requires
     both-requires
-    add-i
+    add-k
     loop-less
     loop-again
     returns)
