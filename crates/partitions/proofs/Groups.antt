@@ -30,7 +30,7 @@ abbrev pub higher : ℕ → List Posting → List Posting
 higher i ps = keep (λ p. ltb i (p .id)) ps
 
 -- the identifiers of the postings after p, without p's
-abbrev others : Posting → List Posting → List ℕ
+abbrev pub others : Posting → List Posting → List ℕ
 others p ps = keep (λ i. not (eqb i (p .id))) (identifiersOf ps)
 
 -- a test of identifiers that all postings' pass
@@ -51,12 +51,13 @@ from p q e = go (precedes-cases p q e)
     go (inr a) = le-leb (p .id) (q .id) (omega arith)
 
 -- nor above that of any later posting
-rest-from : (p : Posting) (ps : List Posting) → ordered (p ∷ ps) ≡ true → every (λ q. leb (p .id) (q .id)) ps ≡ true
+pub rest-from : (p : Posting) (ps : List Posting) → ordered (p ∷ ps) ≡ true → every (λ q. leb (p .id) (q .id)) ps ≡ true
 rest-from p ps o =
     let e = and-left (every (precedes p) ps) _ o in
     every-from (precedes p) (precedes p) (λ q. leb (p .id) (q .id)) (λ q a b. from p q a) ps e e
 
-rest-ordered : (p : Posting) (ps : List Posting) → ordered (p ∷ ps) ≡ true → ordered ps ≡ true
+-- what follows the first of ordered postings is ordered
+pub rest-ordered : (p : Posting) (ps : List Posting) → ordered (p ∷ ps) ≡ true → ordered ps ≡ true
 rest-ordered p ps o = and-right (every (precedes p) ps) _ o
 
 -- p's identifier leads those of the postings after it, or is none of theirs
@@ -87,7 +88,7 @@ after p (q ∷ qs) o =
     ))
 
 -- the identifiers after p's are above it
-others-above : (p : Posting) (ps : List Posting) → ordered (p ∷ ps) ≡ true → every (ltb (p .id)) (others p ps) ≡ true
+pub others-above : (p : Posting) (ps : List Posting) → ordered (p ∷ ps) ≡ true → every (ltb (p .id)) (others p ps) ≡ true
 others-above p ps o =
     every-from (leb (p .id)) (λ i. not (eqb i (p .id))) (ltb (p .id))
     (λ i a b. let l : p .id ≤ i = leb-true (p .id) i a in let d : i ≡ p .id → ⊥ = eqb-false i (p .id) (not-true _ b) in lt-ltb (p .id) i (omega arith))
