@@ -2,17 +2,18 @@
 use mathlib.Core.Bool.{true}
 use mathlib.Core.List.{List, [], _∷_, _++_, map}
 use mathlib.Core.Logic.{inr}
-use mathlib.Core.Path.{_≡_, refl, sym, ap, ap₂, _∙_}
+use mathlib.Core.Path.{_≡_, refl, ap, _∙_}
 use Prim.Native.Nat.{ℕ, _+_, _*_, _-_, _/_, _<_, _≤_}
 use native.Mathlib.Omega.{arith}
 use lib.IntN.{natAbs}
-use lib.ListN.{length, getD, set, take, drop, replicate, length-append, length-map, length-replicate, List·getD-map}
+use lib.ListN.{length, getD, set, take, drop, replicate, length-append, length-take, length-map, length-replicate, List·getD-map}
 use lib.Seq.{sets, take-all, getD-take, length-take-le}
 use borrow.Author.Tests.{leb-true}
 use Rattle.lists.specs.Lists.{every, joined}
 use Rattle.lists.proofs.Ranges.{length-joined}
 use Rattle.lists.proofs.Tests.{every-at}
 use Rattle.lists.proofs.Runs.{getD-sets-out}
+use Rattle.lists.proofs.Stores.{sets-append, sets-same, sets-turn}
 use Rattle.words.specs.Words.{allOnes}
 use Rattle.postings.specs.declared.Posting.{Posting}
 use Rattle.state.specs.Views.{noPosting}
@@ -21,8 +22,7 @@ use Rattle.card.specs.Writes.{putBlock, store}
 use Rattle.card.proofs.FreeBlocks.{free-word}
 use Rattle.partitions.specs.Layout.{identifiersOf, termCount, header, entryOf, wordOf, encode}
 use Rattle.partitions.specs.Formed.{inRange}
-use Rattle.partitions.proofs.Lengths.{length-encode, length-buffer}
-use Rattle.flushes.proofs.Stores.{sets-append, sets-same, sets-turn}
+use Rattle.partitions.proofs.Lengths.{length-encode, terms-most, length-buffer}
 
 module _ (W : List ℕ) (b : ℕ) (inside : 1024 * b + 1023 < length W) (free : isFree W b ≡ true) where
   -- a block put to a free one is its content, word by word, and its link
@@ -63,6 +63,10 @@ module _ (W : List ℕ) (b : ℕ) (inside : 1024 * b + 1023 < length W) (free : 
       store-free (encode level ps) (omega (arith, length-encode level ps, length-buffer ps h))
       ∙ ap (λ (l : List ℕ). set l (i + 1023) 65534)
       (sets-append W i hs (es ++ map wordOf ps) ∙ sets-append (sets W i hs) (i + 8) es (map wordOf ps) ∙ ap (λ (k : ℕ). sets (sets (sets W i hs) (i + 8) es) k (map wordOf ps)) m)
+
+-- at most 128 postings have at most 128 identifiers
+pub terms-few : (all : List Posting) (n : ℕ) → n ≤ 128 → termCount (take n all) ≤ 128
+terms-few all n h = omega (arith, terms-most (take n all), length-take n all)
 
 -- the first n postings of an array, written one by one, at place i
 module _ (all : List Posting) (n i : ℕ) (fits : n ≤ length all) (h : i < n) where

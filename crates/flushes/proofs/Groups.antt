@@ -15,6 +15,7 @@ use Rattle.lists.proofs.Bools.{by-test, and-left, and-right, and-both}
 use Rattle.lists.proofs.Tests.{every-from, every-kept, keep-all, keep-none}
 use Rattle.lists.proofs.Sets.{none-from}
 use Rattle.lists.proofs.Ranges.{map-where}
+use Rattle.lists.proofs.Stores.{sets-append}
 use Rattle.postings.specs.declared.Posting.{Posting}
 use Rattle.postings.specs.Order.{ordered}
 use Rattle.postings.specs.Sums.{under}
@@ -22,7 +23,6 @@ use Rattle.state.specs.Views.{noPosting}
 use Rattle.partitions.specs.Layout.{identifiersOf, termCount, entryOf}
 use Rattle.partitions.proofs.Groups.{lower, others, every-identifier, rest-from, rest-ordered, others-above}
 use Rattle.flushes.specs.Groups.{lead, groupSize}
-use Rattle.flushes.proofs.Stores.{sets-append}
 
 -- Those at the front -----------------------------------------------------------------------------------------------
 
@@ -184,6 +184,7 @@ entries-first (p ∷ l) n o h =
     ap₂ (λ (x y : List ℕ). x ++ y)
     (ap₂ (λ (x y : ℕ). p .id ∷ x ∷ y ∷ []) s w)
     (ap joined e ∙ ap (λ (q : List ℕ). joined (map g q)) (front-rest (p .id) l (rest-ordered p l o) (rest-from p l o)))
+
 -- one turn of a loop over the groups, from place i on
 module _ (l : List Posting) (i : ℕ) (o : ordered l ≡ true) (h : i < length l) where
   abbrev end : ℕ

@@ -1,3 +1,3 @@
-pub mod Stores
 pub mod Groups
 pub mod Blocks
+pub mod Flushed

@@ -14,3 +14,4 @@ pub mod Places
 pub mod Sizes
 pub mod Sections
 pub mod Filling
+pub mod Stores

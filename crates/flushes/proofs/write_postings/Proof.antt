@@ -1,24 +1,20 @@
 -- `flushes::write_postings` meets its contract. The invariant: storing the words of the postings that are left gives the whole. Assumes nothing.
-use mathlib.Core.List.{List, map}
-use mathlib.Core.Path.{_≡_, refl, sym, ap, _∙_}
-use Prim.Native.Nat.{ℕ, _+_, _-_, _*_, _≤_}
+use mathlib.Core.List.{map}
+use mathlib.Core.Path.{_≡_, refl, sym, _∙_}
+use Prim.Native.Nat.{_+_, _-_, _*_, _≤_}
 use native.Mathlib.Omega.{arith}
 use borrow.Author.Needs.{needs}
-use borrow.Author.Tests.{leb-true}
-use lib.IntN.{natAbs}
 use lib.ListN.{length, getD, drop, length-map}
-use lib.Seq.{sets, getD-take, length-take-le}
+use lib.Seq.{sets, length-take-le}
 use mir.Syntax.{w16}
 use mir.Val.{SFits}
 use mir.Facts.{toZ-ofZ}
 use Rattle.lists.proofs.Arrays.{unmapped}
-use Rattle.lists.proofs.Tests.{every-at}
+use Rattle.lists.proofs.Stores.{sets-end}
 use Rattle.words.specs.Words.{words}
 use Rattle.words.proofs.Views.{length-words}
 use Rattle.state.specs.Views.{buffered, noPosting}
 use Rattle.partitions.specs.Layout.{wordOf}
-use Rattle.partitions.specs.Formed.{inRange}
-use Rattle.flushes.proofs.Stores.{sets-end}
 use Rattle.flushes.proofs.Blocks.{posting-turn, posting-fits}
 use Rattle.flushes.proofs.write_postings.Statement.{statement}
 use Rattle.flushes.proofs.write_postings.Tie as tie

@@ -1,13 +1,13 @@
 -- `flushes::write_words` meets its contract. The invariant: storing the words that are left gives the whole. Assumes nothing.
-use mathlib.Core.Path.{_≡_, refl, sym, ap, _∙_}
+use mathlib.Core.Path.{_≡_, refl, sym, _∙_}
 use Prim.Native.Nat.{_+_, _-_, _*_, _≤_}
 use native.Mathlib.Omega.{arith}
 use borrow.Author.Needs.{needs}
 use lib.ListN.{length, drop}
 use lib.Seq.{sets}
+use Rattle.lists.proofs.Stores.{sets-turn, sets-end}
 use Rattle.words.specs.Words.{words}
 use Rattle.words.proofs.Views.{length-words}
-use Rattle.flushes.proofs.Stores.{sets-turn, sets-end}
 use Rattle.flushes.proofs.write_words.Statement.{statement}
 use Rattle.flushes.proofs.write_words.Tie as tie
 

@@ -1,5 +1,5 @@
--- Runs of stores: one after another, and stores of what stands there already.
-use mathlib.Core.List.{List, [], _∷_, _++_}
+-- Runs of stores in parts, place by place, and of what stands there already; and joined lists in parts.
+use mathlib.Core.List.{List, [], _∷_, _++_, map, append-assoc}
 use mathlib.Core.Path.{_≡_, refl, sym, ap, _∙_}
 use Prim.Native.Nat.{ℕ, zero, suc, _+_, _<_, _≤_}
 use native.Mathlib.Nat.{add-zero}
@@ -7,6 +7,7 @@ use native.Mathlib.Numerals.{add-one}
 use native.Mathlib.Omega.{arith}
 use lib.ListN.{length, getD, set, drop, replicate, drop-of-length-le}
 use lib.Seq.{sets, set-getD, drop-cons}
+use Rattle.lists.specs.Lists.{joined}
 
 module _ {A : Type 0} where
   -- a run of two parts is two runs
@@ -30,3 +31,8 @@ module _ {A : Type 0} where
   -- and its end
   pub sets-end : (l : List A) (i : ℕ) (vs : List A) (j : ℕ) → length vs ≤ j → sets l i (drop j vs) ≡ l
   sets-end l i vs j h = rw (drop-of-length-le vs {i = j} h)
+
+-- the lists of two parts, joined
+pub joined-append : {A B : Type 0} (f : A → List B) (l m : List A) → joined (map f (l ++ m)) ≡ joined (map f l) ++ joined (map f m)
+joined-append f [] m = refl
+joined-append f (x ∷ l) m = ap (λ r. f x ++ r) (joined-append f l m) ∙ sym (append-assoc (f x) (joined (map f l)) (joined (map f m)))
