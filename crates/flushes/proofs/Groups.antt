@@ -141,15 +141,22 @@ ordered-drop zero l o = o
 ordered-drop (suc k) [] o = o
 ordered-drop (suc k) (p ∷ l) o = ordered-drop k l (rest-ordered p l o)
 
-pub size-some : (l : List Posting) → 1 ≤ length l → 1 ≤ groupSize l
+-- a group has a posting
+size-some : (l : List Posting) → 1 ≤ length l → 1 ≤ groupSize l
 unfolding groupSize
 size-some [] h = absurd (omega arith)
 size-some (p ∷ l) h = omega arith
 
-pub size-most : (l : List Posting) → groupSize l ≤ length l
+-- and no more than there are
+size-most : (l : List Posting) → groupSize l ≤ length l
 unfolding groupSize
 size-most [] = omega arith
 size-most (p ∷ l) = omega (arith, lead-most (p .id) l)
+
+-- it has the postings of one identifier, all of them
+pub size-under : (p : Posting) (l : List Posting) → ordered (p ∷ l) ≡ true → length (under (p .id) (p ∷ l)) ≡ groupSize (p ∷ l)
+unfolding groupSize
+size-under p l o = rw (eq-eqb (p .id) (p .id) refl) (ap suc (front-under (p .id) l (rest-ordered p l o) (rest-from p l o)))
 
 -- the identifiers are that of the first group and those of the rest
 terms-first : (l : List Posting) → ordered l ≡ true → 1 ≤ length l → identifiersOf l ≡ getD l 0 noPosting .id ∷ identifiersOf (drop (groupSize l) l)
@@ -174,15 +181,13 @@ entries-first (p ∷ l) n o h =
     let b : n + length (lower i (p ∷ l)) ≡ n + suc k + length (lower i r) = omega (arith, past-lower (p .id) i m l) in
     let c : under i (p ∷ l) ≡ under i r = rw (ne-eqb (p .id) i (λ z. omega arith)) (sym (past-under (p .id) i m l)) in
     ap₂ (λ (x y : ℕ). i ∷ x ∷ y ∷ []) (ap length c) b) (others p l) (others-above p l o) in
-    let s : length (under (p .id) (p ∷ l)) ≡ suc k =
-    rw (eq-eqb (p .id) (p .id) refl) (ap suc (front-under (p .id) l (rest-ordered p l o) (rest-from p l o))) in
     let z : lower (p .id) (p ∷ l) ≡ [] =
     keep-none (λ q. ltb (q .id) (p .id)) (p ∷ l)
     (none-from (λ q. leb (p .id) (q .id)) (λ q. ltb (q .id) (p .id))
     (λ q u. le-ltb (q .id) (p .id) (leb-true (p .id) (q .id) u)) (p ∷ l) (and-both (leb (p .id) (p .id)) _ (le-leb (p .id) (p .id) (omega arith)) (rest-from p l o))) in
     let w : n + length (lower (p .id) (p ∷ l)) ≡ n = omega (arith, ap length z) in
     ap₂ (λ (x y : List ℕ). x ++ y)
-    (ap₂ (λ (x y : ℕ). p .id ∷ x ∷ y ∷ []) s w)
+    (ap₂ (λ (x y : ℕ). p .id ∷ x ∷ y ∷ []) (size-under p l o) w)
     (ap joined e ∙ ap (λ (q : List ℕ). joined (map g q)) (front-rest (p .id) l (rest-ordered p l o) (rest-from p l o)))
 
 -- one turn of a loop over the groups, from place i on
@@ -190,18 +195,22 @@ module _ (l : List Posting) (i : ℕ) (o : ordered l ≡ true) (h : i < length l
   abbrev end : ℕ
   end = i + groupSize (drop i l)
 
+  -- it goes on
   pub turn-some : i < end
   turn-some = omega (arith, size-some (drop i l) (omega (arith, length-drop i l)))
 
+  -- and not past the last posting
   pub turn-most : end ≤ length l
   turn-most = omega (arith, size-most (drop i l), length-drop i l)
 
+  -- one identifier fewer is left
   pub turn-terms : termCount (drop i l) ≡ suc (termCount (drop end l))
   turn-terms =
       ap length (terms-first (drop i l) (ordered-drop i l o) (omega (arith, length-drop i l)))
       ∙ ap (λ (r : List Posting). suc (termCount r)) (drop-drop (groupSize (drop i l)) i l)
 
-  pub turn-entries : entriesFrom i (drop i l) ≡ (getD l i noPosting .id ∷ groupSize (drop i l) ∷ i ∷ []) ++ entriesFrom end (drop end l)
+  -- and one entry fewer
+  turn-entries : entriesFrom i (drop i l) ≡ (getD l i noPosting .id ∷ groupSize (drop i l) ∷ i ∷ []) ++ entriesFrom end (drop end l)
   turn-entries =
       let g : getD (drop i l) 0 noPosting ≡ getD l i noPosting = rw (drop-cons l i noPosting h) in
       entries-first (drop i l) i (ordered-drop i l o) (omega (arith, length-drop i l))
@@ -219,9 +228,10 @@ entries-turn all n i fits h o end e W to =
     ∙ sets-append W to (getD (take n all) i noPosting .id ∷ groupSize (drop i (take n all)) ∷ i ∷ []) (entriesFrom (i + groupSize (drop i (take n all))) (drop (i + groupSize (drop i (take n all))) (take n all)))
     ∙ rw (d, e, getD-take n all i noPosting h)
 
--- and its end
+-- at the end no identifier is left
 pub ended-terms : (l : List Posting) (i : ℕ) → length l ≤ i → termCount (drop i l) ≡ 0
 ended-terms l i h = rw (drop-of-length-le l {i = i} h)
 
+-- and no entry
 pub ended-entries : (l : List Posting) (n i : ℕ) → length l ≤ i → entriesFrom n (drop i l) ≡ []
 ended-entries l n i h = rw (drop-of-length-le l {i = i} h)

@@ -1,12 +1,12 @@
 -- `flushes::flush_length` meets its contract. Assumes nothing.
 use mathlib.Core.Path.{_≡_}
 use native.Mathlib.Omega.{arith}
+use borrow.Author.Needs.{needs}
 use lib.ListN.{length}
 use lib.Seq.{length-take-le}
 use Rattle.lists.proofs.Arrays.{unmapped}
 use Rattle.state.specs.Views.{buffered}
 use Rattle.partitions.specs.Layout.{lengthOf}
-use borrow.Author.Needs.{needs}
 use Rattle.flushes.proofs.flush_length.Statement.{statement}
 use Rattle.flushes.proofs.flush_length.Tie as tie
 

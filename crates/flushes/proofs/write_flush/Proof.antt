@@ -3,6 +3,7 @@ use mathlib.Core.List.{[], _∷_}
 use mathlib.Core.Path.{_≡_, sym, ap, _∙_}
 use Prim.Native.Nat.{_%_}
 use native.Mathlib.Omega.{arith}
+use borrow.Author.Needs.{needs}
 use lib.ListN.{length}
 use lib.Seq.{length-take-le}
 use Rattle.lists.proofs.Arrays.{unmapped}
@@ -12,7 +13,6 @@ use Rattle.state.specs.Views.{buffered}
 use Rattle.card.specs.Writes.{store}
 use Rattle.partitions.specs.Layout.{encode}
 use Rattle.flushes.proofs.Blocks.{flush-parts, terms-few}
-use borrow.Author.Needs.{needs}
 use Rattle.flushes.proofs.write_flush.Statement.{statement}
 use Rattle.flushes.proofs.write_flush.Tie as tie
 

@@ -1,5 +1,5 @@
 -- `walks::take_step` meets its contract: a buffered posting is well formed, and the sum of both groups is the sum of the lists and the run's count. Assumes nothing.
-use mathlib.Core.Path.{_≡_, _∙_}
+use mathlib.Core.Path.{_≡_, ap, _∙_}
 use mir.Facts.{toZ-ofZ}
 use mir.Syntax.{w16, w32}
 use mir.Val.{SFits}
@@ -7,6 +7,8 @@ use native.Mathlib.Omega.{arith}
 use lib.IntN.{_+ℤ_}
 use Rattle.words.specs.Words.{words}
 use Rattle.keyed.specs.Keys.{headVal}
+use Rattle.postings.specs.Sums.{isAbove}
+use Rattle.partitions.specs.Formed.{inRange}
 use borrow.Author.Needs.{needs}
 use Rattle.walks.specs.Items.{itemLists, runItems}
 use Rattle.walks.proofs.Runs.{run-fine}
@@ -56,13 +58,13 @@ returns c =
     let fine = run-fine (s .args .w) (s .args .b) (s .args .run) in
     let a = fine-step g l (s .args .w) fine (t .result .sum) (d .result) (t .ensures .2) total in
     let b = counts-step g l (s .args .w) fine (t .result .sum) (d .result) (t .ensures .2) total in
-    let x = rw (toZ-ofZ fs) at (c .before .before .before .before .in-range .ensures) in
-    let y = rw (toZ-ofZ fd) at (c .before .before .before .in-range2 .ensures) in (
+    let x = c .before .before .before .before .in-range .ensures ∙ ap inRange (toZ-ofZ fs) in
+    let y = c .before .before .before .in-range2 .ensures ∙ ap inRange (toZ-ofZ fd) in (
       t .ensures .0,
       t .ensures .1,
       q .ensures .0,
       rw (c .before .both2 .ensures, c .before .before .both .ensures, x, y, t .ensures .3) a,
-      c .above .ensures ∙ rw (toZ-ofZ fd) b,
+      c .above .ensures ∙ ap isAbove (toZ-ofZ fd) ∙ b,
     )
 
 pub take-step-spec : {M : Type 1} → statement M
