@@ -3,57 +3,23 @@ use mathlib.Core.Bool.{true}
 use mathlib.Core.List.{List}
 use mathlib.Core.Logic.{inl}
 use mathlib.Core.Path.{_≡_, sym, ap, _∙_}
-use Prim.Native.Nat.{ℕ, zero, suc, _+_, _*_, _<_, _≤_}
+use Prim.Native.Nat.{ℕ, _+_, _*_, _<_, _≤_}
 use native.Mathlib.Omega.{arith}
-use lib.Dec.{eqb, leb}
+use lib.Dec.{eqb}
 use lib.ListN.{length, getD, drop, length-take}
 use lib.Seq.{getD-take, getD-drop}
-use borrow.Author.Tests.{leb-true, eqb-true, le-leb, eq-eqb}
-use Rattle.lists.proofs.Bools.{and-left, and-right}
+use borrow.Author.Tests.{le-leb, eq-eqb}
 use Rattle.state.specs.declared.Partition.{Partition}
 use Rattle.card.specs.Chains.{blocksFor, chain, content}
 use Rattle.card.specs.Cursors.{wordOf, InCard, Chained, aheadAt}
 use Rattle.card.proofs.Cursors.{length-ahead}
-use Rattle.card.proofs.Chains.{first-in}
+use Rattle.card.proofs.Chains.{chained-more}
 use Rattle.card.proofs.Seeking.{ahead-chain}
 use Rattle.partitions.specs.Layout.{totalLength}
 use Rattle.partitions.specs.Reading.{field, chainOf}
 use Rattle.partitions.specs.Formed.{headerRule}
 use Rattle.partitions.specs.Headers.{headerIn, headerWords}
-
--- the rule of a header, fact by fact
-pub record Fits (p : Partition) (c : List ℕ) : Type 0 where
-  pub terms : 1 ≤ field c 0
-  pub count : 1 ≤ field c 1
-  pub entriesAt : field c 2 ≡ 32
-  pub postingsAt : field c 3 ≡ 32 + 12 * field c 0
-  pub total : field c 4 ≡ totalLength (field c 0) (field c 1)
-  pub length : field c 4 ≡ p .length
-  pub level : field c 5 ≡ p .level
-  pub spare : field c 6 ≡ 0
-  pub last : field c 7 ≡ 0
-
--- what the rule says
-pub header-fits : (p : Partition) (c : List ℕ) → headerRule p c ≡ true → Fits p c
-header-fits p c e =
-    let e1 = and-right (leb 1 (field c 0)) _ e in
-    let e2 = and-right (leb 1 (field c 1)) _ e1 in
-    let e3 = and-right (eqb (field c 2) 32) _ e2 in
-    let e4 = and-right (eqb (field c 3) (32 + 12 * field c 0)) _ e3 in
-    let e5 = and-right (eqb (field c 4) (totalLength (field c 0) (field c 1))) _ e4 in
-    let e6 = and-right (eqb (field c 4) (p .length)) _ e5 in
-    let e7 = and-right (eqb (field c 5) (p .level)) _ e6 in
-    record {
-      terms = leb-true _ _ (and-left (leb 1 (field c 0)) _ e);
-      count = leb-true _ _ (and-left (leb 1 (field c 1)) _ e1);
-      entriesAt = eqb-true _ _ (and-left (eqb (field c 2) 32) _ e2);
-      postingsAt = eqb-true _ _ (and-left (eqb (field c 3) (32 + 12 * field c 0)) _ e3);
-      total = eqb-true _ _ (and-left (eqb (field c 4) (totalLength (field c 0) (field c 1))) _ e4);
-      length = eqb-true _ _ (and-left (eqb (field c 4) (p .length)) _ e5);
-      level = eqb-true _ _ (and-left (eqb (field c 5) (p .level)) _ e6);
-      spare = eqb-true _ _ (and-left (eqb (field c 6) 0) _ e7);
-      last = eqb-true _ _ (and-right (eqb (field c 6) 0) _ e7);
-    }
+use Rattle.partitions.proofs.Lookup.{headed}
 
 -- where the others are right, the last word decides
 pub header-last : (p : Partition) (c : List ℕ) → 1 ≤ field c 0 → 1 ≤ field c 1 → field c 2 ≡ 32 → field c 3 ≡ 32 + 12 * field c 0
@@ -74,11 +40,7 @@ header-last p c a b d e f g i j =
 module _ (W : List ℕ) (b n : ℕ) (g : Chained W b n) where
   -- its first block is on the card
   pub first-block : 0 < n → InCard W b
-  first-block h = go n h g
-    where
-      go : (m : ℕ) → 0 < m → Chained W b m → InCard W b
-      go zero l k = absurd (omega arith)
-      go (suc m) l k = first-in W b m k .0
+  first-block h = chained-more W b n h g .0
 
   -- a word of the first block
   pub first-word : (j : ℕ) → 0 < n → j < 1023 → getD (content W (chain W b n)) j 0 ≡ wordOf W b j
@@ -114,7 +76,6 @@ pub record Room (W : List ℕ) (p : Partition) : Type 0 where
 -- a header that keeps the rule has that room
 pub header-room : (W : List ℕ) (p : Partition) → Chained W (p .first) (blocksFor (p .length)) → headerRule p (content W (chainOf W p)) ≡ true → Room W p
 header-room W p g e =
-    let f = header-fits p (content W (chainOf W p)) e in
-    let t : p .length ≡ totalLength (field (content W (chainOf W p)) 0) (field (content W (chainOf W p)) 1) = sym (f .length) ∙ f .total in
+    let f = headed p (content W (chainOf W p)) e in
     let r = content-room W (p .first) (blocksFor (p .length)) g in
-    record { some = omega arith; blocks = omega arith; words = omega arith; bytes = t; terms = f .terms }
+    record { some = omega arith; blocks = omega arith; words = omega arith; bytes = f .long; terms = f .terms }

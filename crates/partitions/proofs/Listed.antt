@@ -7,7 +7,7 @@ use native.Mathlib.Numerals.{add-one}
 use native.Mathlib.Omega.{arith}
 use lib.Dec.{eqb, leb, ltb}
 use lib.ListN.{length, getD, take, drop}
-use borrow.Author.Tests.{leb-true, eqb-true, le-leb, eq-eqb, ne-eqb}
+use borrow.Author.Tests.{leb-true, eqb-true, le-leb}
 use Rattle.lists.specs.Lists.{every, totalBy, joined, rising, upTo, same}
 use Rattle.lists.proofs.Bools.{by-test, and-left, and-right}
 use Rattle.lists.proofs.Tests.{every-from, keep-append}
@@ -22,7 +22,28 @@ use Rattle.card.proofs.Cursors.{ahead-more, good-moved}
 use Rattle.partitions.specs.declared.Entry.{Entry}
 use Rattle.partitions.specs.Reading.{field, entryNumber, entryCount, entryFirst, postingWords, listOf, decode}
 use Rattle.partitions.specs.Formed.{ascending, running, entriesRule}
-use Rattle.partitions.specs.Terms.{termWords, termRule, resumed, Resumes, listsBy, pastEntry, entryAhead}
+use Rattle.partitions.proofs.Lookup.{under-own, under-other}
+use Rattle.partitions.specs.Terms.{termWords, termRule, pastEntry, entryAhead}
+
+-- the rule of the entries resumed: numbers from `next` on, `sum` postings before, and `total` in all
+unfoldable pub resumed : ℕ → ℕ → ℕ → List ℕ → Bool
+resumed total next sum [] = eqb sum total
+resumed total next sum (i ∷ []) = false
+resumed total next sum (i ∷ n ∷ []) = false
+resumed total next sum (i ∷ n ∷ f ∷ es) = termRule next sum i n f && resumed total (suc i) (sum + n) es
+
+-- entries of a partition of so many postings: the rule resumed somewhere
+pub record Resumes (total : ℕ) (es : List ℕ) : Type 0 where
+  pub next : ℕ
+  pub sum : ℕ
+  pub rule : resumed total next sum es ≡ true
+
+-- the postings that entries lead to, among the posting words xs
+unfoldable pub listsBy : List ℕ → List ℕ → List Posting
+listsBy xs [] = []
+listsBy xs (i ∷ []) = []
+listsBy xs (i ∷ n ∷ []) = []
+listsBy xs (i ∷ n ∷ f ∷ es) = map (posted i) (take n (drop f xs)) ++ listsBy xs es
 
 -- the tests of a first entry and of the others, apart
 arrange : (a b c d x y z v w : Bool) → ((a && x) && ((b && y) && ((c && z) && ((d && v) && w)))) ≡ ((a && (b && (c && d))) && (x && (y && (z && (v && w)))))
@@ -178,15 +199,6 @@ module _ (total : ℕ) where
 pub term-last : (next sum i n f : ℕ) → next ≤ i → i ≤ 1023 → 1 ≤ n → termRule next sum i n f ≡ eqb f sum
 term-last next sum i n f a b d = rw (le-leb next i a, le-leb i 1023 b, le-leb 1 n d)
 
--- the postings of one entry under an identifier: all of them, or none
-under-own : (i : ℕ) (l : List ℕ) → under i (map (posted i) l) ≡ map (posted i) l
-under-own i [] = refl
-under-own i (x ∷ l) = rw (eq-eqb i i refl, under-own i l)
-
-under-other : (id i : ℕ) (l : List ℕ) → (i ≡ id → ⊥) → under id (map (posted i) l) ≡ []
-under-other id i [] h = refl
-under-other id i (x ∷ l) h = rw (ne-eqb i id h) (under-other id i l h)
-
 module _ (xs : List ℕ) where
   -- no entries lead to no postings
   pub lists-none : (es : List ℕ) → es ≡ [] → listsBy xs es ≡ []
@@ -198,7 +210,7 @@ module _ (xs : List ℕ) where
   unfolding listsBy
   under-passed id i n f es h =
       keep-append (λ p. eqb (p .id) id) (map (posted i) (take n (drop f xs))) (listsBy xs es)
-      ∙ ap (λ (l : List Posting). l ++ under id (listsBy xs es)) (under-other id i (take n (drop f xs)) h)
+      ∙ ap (λ (l : List Posting). l ++ under id (listsBy xs es)) (under-other i id (take n (drop f xs)) h)
 
   -- entries of higher numbers have nothing
   under-higher : (id total next sum : ℕ) (es : List ℕ) → id < next → resumed total next sum es ≡ true → under id (listsBy xs es) ≡ []

@@ -54,6 +54,8 @@ pub record Headed (p : Partition) (c : List ℕ) : Type 0 where
   pub total : field c 4 ≡ totalLength (field c 0) (field c 1)
   pub long : p .length ≡ totalLength (field c 0) (field c 1)
   pub level : field c 5 ≡ p .level
+  pub spare : field c 6 ≡ 0
+  pub last : field c 7 ≡ 0
 
 -- the rule says all of it
 pub headed : (p : Partition) (c : List ℕ) → headerRule p c ≡ true → Headed p c
@@ -64,6 +66,7 @@ headed p c e =
     let e4 = and-right (eqb (field c 3) (32 + 12 * field c 0)) _ e3 in
     let e5 = and-right (eqb (field c 4) (totalLength (field c 0) (field c 1))) _ e4 in
     let e6 = and-right (eqb (field c 4) (p .length)) _ e5 in
+    let e7 = and-right (eqb (field c 5) (p .level)) _ e6 in
     let t = eqb-true (field c 4) (totalLength (field c 0) (field c 1)) (and-left _ _ e4) in
     record {
       terms = leb-true 1 (field c 0) (and-left _ _ e);
@@ -73,6 +76,8 @@ headed p c e =
       total = t;
       long = sym (eqb-true (field c 4) (p .length) (and-left _ _ e5)) ∙ t;
       level = eqb-true (field c 5) (p .level) (and-left _ _ e6);
+      spare = eqb-true (field c 6) 0 (and-left _ _ e7);
+      last = eqb-true (field c 7) 0 (and-right (eqb (field c 6) 0) _ e7);
     }
 
 -- The entries ------------------------------------------------------------------------------------------------------
@@ -146,11 +151,13 @@ entered c e =
 
 -- One identifier ---------------------------------------------------------------------------------------------------
 
-under-own : (i : ℕ) (ws : List ℕ) → under i (map (posted i) ws) ≡ map (posted i) ws
+-- the postings of one entry under a number: all under its own
+pub under-own : (i : ℕ) (ws : List ℕ) → under i (map (posted i) ws) ≡ map (posted i) ws
 under-own i [] = refl
 under-own i (w ∷ ws) = rw (eq-eqb i i refl, under-own i ws)
 
-under-other : (n i : ℕ) (ws : List ℕ) → (n ≡ i → ⊥) → under i (map (posted n) ws) ≡ []
+-- and none under another
+pub under-other : (n i : ℕ) (ws : List ℕ) → (n ≡ i → ⊥) → under i (map (posted n) ws) ≡ []
 under-other n i [] h = refl
 under-other n i (w ∷ ws) h = rw (ne-eqb n i h) (under-other n i ws h)
 

@@ -17,9 +17,9 @@ use Rattle.card.specs.declared.Cursor.{Cursor}
 use Rattle.card.specs.Cursors.{ahead, headOf, movedOf}
 use Rattle.card.proofs.Cursors.{ahead-more, good-moved, length-ahead}
 use Rattle.partitions.specs.declared.Reader.{Reader}
-use Rattle.partitions.specs.Terms.{resumed, listsBy, pastEntry}
+use Rattle.partitions.specs.Terms.{pastEntry}
 use Rattle.partitions.specs.Readers.{postedBy, postingsAhead, numbered, GoodReader, firstAhead, movedReader}
-use Rattle.partitions.proofs.Listed.{resumed-more, resumed-most, ahead-entry, ahead-none, left-entry, good-entry}
+use Rattle.partitions.proofs.Listed.{resumed, listsBy, resumed-more, resumed-most, ahead-entry, ahead-none, left-entry, good-entry}
 
 -- the words under one identifier, and then as the entries say
 group : (id : ℕ) (x : ℕ) (xs ys es : List ℕ)

@@ -6,7 +6,6 @@ use Prim.Native.Nat.{ℕ, zero, suc, _+_, _-_, _*_, _<_, _≤_}
 use native.Mathlib.Omega.{arith}
 use lib.ListN.{length, take, drop, length-drop}
 use lib.Seq.{drop-drop, length-take-le}
-use Rattle.lists.proofs.Bools.{and-left, and-right}
 use Rattle.lists.proofs.Runs.{never}
 use Rattle.postings.specs.Pack.{posted}
 use Rattle.postings.specs.Sums.{under}
@@ -20,10 +19,11 @@ use Rattle.partitions.specs.declared.Entry.{Entry}
 use Rattle.partitions.specs.declared.Reader.{Reader}
 use Rattle.partitions.specs.Reading.{field, chainOf, postingWords, postingsOf}
 use Rattle.partitions.specs.Formed.{headerRule, entriesRule, partitionRule}
-use Rattle.partitions.specs.Terms.{EntriesAt, termWords, resumed, Resumes, listsBy, Readable}
+use Rattle.partitions.specs.Terms.{EntriesAt, termWords, Readable}
 use Rattle.partitions.specs.Readers.{postedBy, postingsAhead, GoodReader}
+use Rattle.partitions.proofs.Lookup.{rule-chain, rule-header, rule-entries}
 use Rattle.partitions.proofs.Headers.{first-word, header-room}
-use Rattle.partitions.proofs.Listed.{entries-resumed, decode-lists, resumed-more, resumes-at, resumes-room, under-found, Passed}
+use Rattle.partitions.proofs.Listed.{resumed, Resumes, listsBy, entries-resumed, decode-lists, resumed-more, resumes-at, resumes-room, under-found, Passed}
 use Rattle.partitions.proofs.Readers.{reads-on, resumed-numbered}
 
 -- a chain that keeps the rule has a block
@@ -32,31 +32,28 @@ unfolding chainRule
 rule-some W limit b zero e = never e
 rule-some W limit b (suc n) e = omega arith
 
--- the rule of a partition part by part
+-- the rule of a partition, by the first part of it that fails
 module _ (W : List ℕ) (limit : ℕ) (p : Partition) where
-  pub rule-chain : chainRule W limit (p .first) (blocksFor (p .length)) ≡ false → partitionRule W limit p ≡ false
+  pub fails-chain : chainRule W limit (p .first) (blocksFor (p .length)) ≡ false → partitionRule W limit p ≡ false
   unfolding partitionRule
-  rule-chain e = rw e
+  fails-chain e = rw e
 
   module _ (g : chainRule W limit (p .first) (blocksFor (p .length)) ≡ true) where
-    pub rule-header : headerRule p (content W (chainOf W p)) ≡ false → partitionRule W limit p ≡ false
+    pub fails-header : headerRule p (content W (chainOf W p)) ≡ false → partitionRule W limit p ≡ false
     unfolding partitionRule
-    rule-header e = ap₂ (λ (a b : Bool). a && (b && entriesRule (content W (chainOf W p)))) g e
+    fails-header e = ap₂ (λ (a b : Bool). a && (b && entriesRule (content W (chainOf W p)))) g e
 
-    pub rule-entries : headerRule p (content W (chainOf W p)) ≡ true → partitionRule W limit p ≡ entriesRule (content W (chainOf W p))
+    pub leaves-entries : headerRule p (content W (chainOf W p)) ≡ true → partitionRule W limit p ≡ entriesRule (content W (chainOf W p))
     unfolding partitionRule
-    rule-entries e = ap₂ (λ (a b : Bool). a && (b && entriesRule (content W (chainOf W p)))) g e
+    leaves-entries e = ap₂ (λ (a b : Bool). a && (b && entriesRule (content W (chainOf W p)))) g e
 
   -- a partition that keeps the rule may be read
   pub rule-readable : length W ≡ 1024 * limit → limit ≤ 4096 → partitionRule W limit p ≡ true → Readable W p
-  unfolding partitionRule
   rule-readable l f e =
-      let c = content W (chainOf W p) in
-      let r = and-right (chainRule W limit (p .first) (blocksFor (p .length))) _ e in
       record {
-        chained = rule-chained W limit (p .first) (blocksFor (p .length)) l f (and-left (chainRule W limit (p .first) (blocksFor (p .length))) _ e);
-        header = and-left (headerRule p c) _ r;
-        entries = and-right (headerRule p c) _ r;
+        chained = rule-chained W limit (p .first) (blocksFor (p .length)) l f (rule-chain W limit p e);
+        header = rule-header W limit p e;
+        entries = rule-entries W limit p e;
       }
 
 module _ (W : List ℕ) (p : Partition) (g : Chained W (p .first) (blocksFor (p .length))) (h : headerRule p (content W (chainOf W p)) ≡ true) where

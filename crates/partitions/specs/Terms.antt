@@ -1,12 +1,10 @@
--- The entries of a partition as one list of words, three to an entry: its rule and its postings from any entry on.
-use mathlib.Core.Bool.{Bool, true, false, _&&_}
-use mathlib.Core.List.{List, [], _∷_, _++_, map}
+-- The entries of a partition word by word, three to an entry, and when a partition may be read.
+use mathlib.Core.Bool.{Bool, true, _&&_}
+use mathlib.Core.List.{List}
 use mathlib.Core.Path.{_≡_}
-use Prim.Native.Nat.{ℕ, suc, _+_, _*_}
+use Prim.Native.Nat.{ℕ, _*_}
 use lib.Dec.{eqb, leb}
 use lib.ListN.{take, drop}
-use Rattle.postings.specs.declared.Posting.{Posting}
-use Rattle.postings.specs.Pack.{posted}
 use Rattle.state.specs.declared.Partition.{Partition}
 use Rattle.card.specs.declared.Cursor.{Cursor}
 use Rattle.card.specs.Chains.{blocksFor, content}
@@ -22,26 +20,6 @@ termWords c = take (3 * field c 0) (drop 8 c)
 -- one entry's rule: its number is at least `next` and at most 1,023, it has a posting, and its first index is the sum of the counts before
 abbrev pub termRule : ℕ → ℕ → ℕ → ℕ → ℕ → Bool
 termRule next sum i n f = leb next i && (leb i 1023 && (leb 1 n && eqb f sum))
-
--- the rule of the entries resumed: numbers from `next` on, `sum` postings before, and `total` in all
-unfoldable pub resumed : ℕ → ℕ → ℕ → List ℕ → Bool
-resumed total next sum [] = eqb sum total
-resumed total next sum (i ∷ []) = false
-resumed total next sum (i ∷ n ∷ []) = false
-resumed total next sum (i ∷ n ∷ f ∷ es) = termRule next sum i n f && resumed total (suc i) (sum + n) es
-
--- entries of a partition of so many postings: the rule resumed somewhere
-pub record Resumes (total : ℕ) (es : List ℕ) : Type 0 where
-  pub next : ℕ
-  pub sum : ℕ
-  pub rule : resumed total next sum es ≡ true
-
--- the postings that entries lead to, among the posting words xs
-unfoldable pub listsBy : List ℕ → List ℕ → List Posting
-listsBy xs [] = []
-listsBy xs (i ∷ []) = []
-listsBy xs (i ∷ n ∷ []) = []
-listsBy xs (i ∷ n ∷ f ∷ es) = map (posted i) (take n (drop f xs)) ++ listsBy xs es
 
 -- the cursor past an entry
 abbrev pub pastEntry : List ℕ → Cursor → Cursor

@@ -6,13 +6,15 @@ use lib.ListN.{length, getD, drop}
 use borrow.Author.Tests.{not-false}
 use Rattle.lists.specs.Lists.{different}
 use Rattle.lists.proofs.Arrays.{unmapped}
-use Rattle.lists.proofs.Sections.{answered-no, used-every}
+use Rattle.lists.proofs.Turns.{failed}
+use Rattle.lists.proofs.Sections.{used-every}
 use Rattle.words.specs.Words.{words}
 use Rattle.state.specs.Views.{noPartition, finished}
 use Rattle.card.specs.Marks.{unmarked}
+use Rattle.card.proofs.Marking.{unmarked-first}
 use Rattle.partitions.specs.Formed.{partitionRule, chainsOf}
 use Rattle.partitions.proofs.Starts.{rule-readable}
-use Rattle.partitions.proofs.Apart.{apart-start, apart-fails, apart-step, apart-end}
+use Rattle.partitions.proofs.Apart.{apart-fails, apart-step, apart-end}
 use borrow.Author.Needs.{needs}
 use Rattle.partitions.proofs.chains_apart.Statement.{statement}
 use Rattle.partitions.proofs.chains_apart.Tie as tie
@@ -35,7 +37,7 @@ loop-holds : tie.Need-loop-holds Inv-loop μ-loop
 loop-holds c =
     let s = c .before .before in
     let len : length (s .args .t3 .records) ≡ 51 = search (unmapped, needs) in
-    (len, omega arith, apart-start (words (s .args .card .now)) (c .no-marks .result) (c .no-marks .ensures) (chainsOf (words (s .args .card .now)) (finished (s .args .t3))))
+    (len, omega arith, sym (unmarked-first (c .no-marks .result) (chainsOf (words (s .args .card .now)) (finished (s .args .t3))) (c .no-marks .ensures)))
 
 mul-p : tie.Need-mul-p Inv-loop μ-loop
 mul-p c = omega arith
@@ -62,8 +64,7 @@ returns c =
     let a = c .before .before .before .before .before .before .loop in
     let W = words (s .args .card .now) in
     let ps = s .args .t3 in
-    let p = getD (ps .records) (a .i) noPartition in
-    let t = rw (c .before .before .before .blocks-for .ensures) at (answered-no (c .before .before .mark-chain .ensures .0) (c .if1 .taken)) in
+    let t = rw (c .before .before .before .blocks-for .ensures) at (failed (c .before .before .mark-chain .ensures .0) (c .if1 .taken)) in
     sym (a .inv .2 ∙ apart-fails W (a .marks) (ps .records) (ps .used) (a .i) noPartition (omega (arith, a .inv .0)) (c .before .before .before .before .before .loop-test .taken) t)
 
 add-i : tie.Need-add-i Inv-loop μ-loop
@@ -78,7 +79,6 @@ loop-again c =
     let a = c .before .before .before .before .before .before .before .loop in
     let W = words (s .args .card .now) in
     let ps = s .args .t3 in
-    let p = getD (ps .records) (a .i) noPartition in
     let b = not-false (c .before .before .before .mark-chain .result .apart) (c .before .if1 .left) in
     let t = rw (c .before .before .before .before .blocks-for .ensures) at (sym (c .before .before .before .mark-chain .ensures .0) ∙ b) in
     let u = rw (c .before .before .before .before .blocks-for .ensures) at (c .before .before .before .mark-chain .ensures .1 .1 b) in
@@ -90,7 +90,7 @@ returns-2 c =
     let a = c .before .loop in
     let W = words (s .args .card .now) in
     let ps = s .args .t3 in
-    sym (a .inv .2 ∙ apart-end W (a .marks) (ps .records) (ps .used) (a .i) (c .loop-test .left))
+    sym (a .inv .2 ∙ apart-end W (a .marks) (ps .records) (ps .used) (a .i) (omega (arith, a .inv .0)) (c .loop-test .left))
 
 pub chains-apart-spec : {M : Type 1} → statement M
 chains-apart-spec =

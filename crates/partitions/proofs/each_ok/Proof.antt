@@ -1,17 +1,17 @@
 -- `partitions::each_ok` meets its contract. The invariant: the answer for all is the answer for those from i on. Assumes nothing.
-use mathlib.Core.Bool.{Bool, _&&_}
-use mathlib.Core.Path.{_≡_, refl, sym, ap, _∙_}
+use mathlib.Core.Path.{_≡_, refl, sym, _∙_}
 use Prim.Native.Nat.{_+_, _-_, _≤_}
 use native.Mathlib.Omega.{arith}
 use lib.ListN.{length, getD, drop}
 use Rattle.lists.specs.Lists.{every}
 use Rattle.lists.proofs.Arrays.{unmapped}
-use Rattle.lists.proofs.Sections.{answered-no, answered-yes, used-more, used-every, used-none}
+use Rattle.lists.proofs.Turns.{passed, failed, and-stop, and-go, used-turn, used-end}
+use Rattle.lists.proofs.Sections.{used-every}
 use Rattle.words.specs.Words.{words}
 use Rattle.state.specs.Views.{noPartition, finished}
 use Rattle.state.specs.Rules.{recordRule}
+use Rattle.state.proofs.Kept.{record-kept}
 use Rattle.partitions.specs.Formed.{partitionRule}
-use Rattle.partitions.proofs.Apart.{record-length}
 use borrow.Author.Needs.{needs}
 use Rattle.partitions.proofs.each_ok.Statement.{statement}
 use Rattle.partitions.proofs.each_ok.Tie as tie
@@ -44,9 +44,9 @@ partition-ok-requires c κs =
     let a = c .before .before .loop in
     let W = words (s .args .card .now) in
     let ps = s .args .t3 in
-    let r = record-length (s .args .blocks) (getD (ps .records) (a .i) noPartition)
+    let r = record-kept (s .args .blocks) (getD (ps .records) (a .i) noPartition)
     (used-every (recordRule (s .args .blocks)) (ps .records) (ps .used) (a .i) noPartition (omega (arith, a .inv .0)) (c .before .loop-test .taken) (s .pre .3)) in
-    (s .pre .0, s .pre .1, r)
+    (s .pre .0, s .pre .1, r .length)
 
 returns : tie.Need-returns Inv-loop μ-loop
 returns c =
@@ -54,10 +54,9 @@ returns c =
     let a = c .before .before .before .before .loop in
     let W = words (s .args .card .now) in
     let ps = s .args .t3 in
-    let t = answered-no (c .before .partition-ok .ensures) (c .if1 .taken) in
-    sym (a .inv .2
-    ∙ ap (every (partitionRule W (s .args .blocks))) (used-more (ps .records) (ps .used) (a .i) noPartition (omega (arith, a .inv .0)) (c .before .before .before .loop-test .taken))
-    ∙ ap (λ (b : Bool). b && every (partitionRule W (s .args .blocks)) (drop (a .i + 1) (finished ps))) t)
+    let t = failed (c .before .partition-ok .ensures) (c .if1 .taken) in
+    sym (used-turn (every (partitionRule W (s .args .blocks))) (ps .records) (ps .used) (a .i) noPartition (omega (arith, a .inv .0)) (c .before .before .before .loop-test .taken) (a .inv .2)
+    ∙ and-stop (partitionRule W (s .args .blocks) (getD (ps .records) (a .i) noPartition)) (every (partitionRule W (s .args .blocks)) (drop (a .i + 1) (finished ps))) t)
 
 add-i : tie.Need-add-i Inv-loop μ-loop
 add-i c = omega arith
@@ -71,12 +70,11 @@ loop-again c =
     let a = c .before .before .before .before .loop in
     let W = words (s .args .card .now) in
     let ps = s .args .t3 in
-    let t = answered-yes (c .before .partition-ok .ensures) (c .if1 .left) in (
+    let t = passed (c .before .partition-ok .ensures) (c .if1 .left) in (
       a .inv .0,
       omega arith,
-      a .inv .2
-          ∙ ap (every (partitionRule W (s .args .blocks))) (used-more (ps .records) (ps .used) (a .i) noPartition (omega (arith, a .inv .0)) (c .before .before .before .loop-test .taken))
-          ∙ ap (λ (b : Bool). b && every (partitionRule W (s .args .blocks)) (drop (a .i + 1) (finished ps))) t,
+      used-turn (every (partitionRule W (s .args .blocks))) (ps .records) (ps .used) (a .i) noPartition (omega (arith, a .inv .0)) (c .before .before .before .loop-test .taken) (a .inv .2)
+          ∙ and-go (partitionRule W (s .args .blocks) (getD (ps .records) (a .i) noPartition)) (every (partitionRule W (s .args .blocks)) (drop (a .i + 1) (finished ps))) t,
     )
 
 returns-2 : tie.Need-returns-2 Inv-loop μ-loop
@@ -85,7 +83,7 @@ returns-2 c =
     let a = c .before .loop in
     let W = words (s .args .card .now) in
     let ps = s .args .t3 in
-    sym (a .inv .2 ∙ ap (every (partitionRule W (s .args .blocks))) (used-none (ps .records) (ps .used) (a .i) (c .loop-test .left)))
+    sym (used-end (every (partitionRule W (s .args .blocks))) (ps .records) (ps .used) (a .i) (omega (arith, a .inv .0)) (c .loop-test .left) (a .inv .2))
 
 pub each-ok-spec : {M : Type 1} → statement M
 each-ok-spec =

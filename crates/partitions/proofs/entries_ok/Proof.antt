@@ -3,13 +3,12 @@
 use mathlib.Core.Path.{_≡_, refl, sym, ap, _∙_}
 use Prim.Native.Nat.{_%_, _≤_}
 use native.Mathlib.Omega.{arith}
-use Rattle.lists.proofs.Sections.{answered-no, answered-yes}
+use Rattle.lists.proofs.Turns.{passed, failed}
 use Rattle.words.specs.Words.{words}
 use Rattle.card.specs.Chains.{blocksFor}
 use Rattle.card.specs.Cursors.{ahead, Good}
-use Rattle.partitions.specs.Terms.{resumed}
 use Rattle.partitions.proofs.Headers.{first-block, header-room}
-use Rattle.partitions.proofs.Listed.{term-facts, resumed-fails, resumed-step, resumed-done, ahead-none, entry-passed}
+use Rattle.partitions.proofs.Listed.{resumed, term-facts, resumed-fails, resumed-step, resumed-done, ahead-none, entry-passed}
 use Rattle.partitions.proofs.Starts.{entries-start}
 use borrow.Author.Needs.{needs}
 use Rattle.partitions.proofs.entries_ok.Statement.{statement}
@@ -51,7 +50,7 @@ returns c =
     let x = c .before .before .entry-at .result in
     let q = entry-passed W (a .loop .e) (omega arith) (a .loop .inv .3) x (c .before .before .entry-at .ensures) in
     let b = c .before .entry-ok .ensures in
-    let f = answered-no b (c .if2 .taken) in
+    let f = failed b (c .if2 .taken) in
     sym (entries-start W (s .args .p) (s .pre .0) (s .pre .1) (c .before .before .before .before .before .before .first-entry .result) (c .before .before .before .before .before .before .first-entry .ensures) (c .before .before .before .before .before .before .before .block-word .result) (c .before .before .before .before .before .before .before .block-word .ensures)
     ∙ a .loop .inv .4
     ∙ ap (resumed (c .before .before .before .before .before .before .before .block-word .result) (a .loop .next) (a .loop .sum)) (q .words)
@@ -64,7 +63,7 @@ add-next c =
     let W = words (s .args .card .now) in
     let x = c .before .before .before .entry-at .result in
     let q = entry-passed W (a .loop .e) (omega arith) (a .loop .inv .3) x (c .before .before .before .entry-at .ensures) in
-    let t = term-facts (a .loop .next) (a .loop .sum) (x .number) (x .count) (x .first) (answered-yes (c .before .before .entry-ok .ensures) (c .before .if2 .left)) in
+    let t = term-facts (a .loop .next) (a .loop .sum) (x .number) (x .count) (x .first) (passed (c .before .before .entry-ok .ensures) (c .before .if2 .left)) in
     omega (arith, t .small)
 
 cast-sum : tie.Need-cast-sum Inv-loop μ-loop
@@ -95,14 +94,14 @@ loop-again c =
     let W = words (s .args .card .now) in
     let x = c .before .before .before .before .before .entry-at .result in
     let q = entry-passed W (a .loop .e) (omega arith) (a .loop .inv .3) x (c .before .before .before .before .before .entry-at .ensures) in
-    let t = term-facts (a .loop .next) (a .loop .sum) (x .number) (x .count) (x .first) (answered-yes (c .before .before .before .before .entry-ok .ensures) (c .before .before .before .if2 .left)) in (
+    let t = term-facts (a .loop .next) (a .loop .sum) (x .number) (x .count) (x .first) (passed (c .before .before .before .before .entry-ok .ensures) (c .before .before .before .if2 .left)) in (
       omega (arith, q .left),
       omega (arith, t .small),
       omega (arith, t .starts),
       q .good,
       a .loop .inv .4
           ∙ ap (resumed (c .before .before .before .before .before .before .before .before .before .before .block-word .result) (a .loop .next) (a .loop .sum)) (q .words)
-          ∙ resumed-step (c .before .before .before .before .before .before .before .before .before .before .block-word .result) (a .loop .next) (a .loop .sum) (x .number) (x .count) (x .first) (ahead W (x .rest)) (answered-yes (c .before .before .before .before .entry-ok .ensures) (c .before .before .before .if2 .left)),
+          ∙ resumed-step (c .before .before .before .before .before .before .before .before .before .before .block-word .result) (a .loop .next) (a .loop .sum) (x .number) (x .count) (x .first) (ahead W (x .rest)) (passed (c .before .before .before .before .entry-ok .ensures) (c .before .before .before .if2 .left)),
     )
 
 cast-result : tie.Need-cast-result Inv-loop μ-loop

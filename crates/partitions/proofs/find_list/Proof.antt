@@ -9,9 +9,8 @@ use Rattle.postings.specs.Sums.{under}
 use Rattle.card.specs.Chains.{blocksFor, content}
 use Rattle.card.specs.Cursors.{ahead, Good}
 use Rattle.partitions.specs.Reading.{field, chainOf, postingWords, postingsOf}
-use Rattle.partitions.specs.Terms.{Resumes, listsBy}
 use Rattle.partitions.proofs.Headers.{first-block, header-room}
-use Rattle.partitions.proofs.Listed.{under-passed, resumes-more, resumes-at, lists-none, ahead-none, entry-passed}
+use Rattle.partitions.proofs.Listed.{Resumes, listsBy, under-passed, resumes-more, resumes-at, lists-none, ahead-none, entry-passed}
 use Rattle.partitions.proofs.Starts.{header-word, resumes-start, under-start, list-room, list-found}
 use borrow.Author.Needs.{needs}
 use Rattle.partitions.proofs.find_list.Statement.{statement}

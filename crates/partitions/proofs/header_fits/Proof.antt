@@ -3,7 +3,8 @@ use mathlib.Core.Path.{sym}
 use native.Mathlib.Omega.{arith}
 use Rattle.lists.proofs.Sections.{untrue}
 use Rattle.partitions.specs.Headers.{headerWords}
-use Rattle.partitions.proofs.Headers.{header-fits, header-last}
+use Rattle.partitions.proofs.Lookup.{headed}
+use Rattle.partitions.proofs.Headers.{header-last}
 use borrow.Author.Needs.{needs}
 use Rattle.partitions.proofs.header_fits.Statement.{statement}
 use Rattle.partitions.proofs.header_fits.Tie as tie
@@ -29,17 +30,17 @@ add-total c = search needs
 returns : tie.Need-returns
 returns c =
     let s = c .before .before .before .before in
-    sym (untrue _ (λ e. let f = header-fits (s .args .p) (headerWords (s .args .h)) e in omega (arith, c .if1 .taken)))
+    sym (untrue _ (λ e. let f = headed (s .args .p) (headerWords (s .args .h)) e in omega (arith, c .if1 .taken)))
 
 returns-2 : tie.Need-returns-2
 returns-2 c =
     let s = c .before .before .before .before .before .before in
-    sym (untrue _ (λ e. let f = header-fits (s .args .p) (headerWords (s .args .h)) e in omega (arith, c .if2 .taken)))
+    sym (untrue _ (λ e. let f = headed (s .args .p) (headerWords (s .args .h)) e in omega (arith, c .if2 .taken)))
 
 returns-3 : tie.Need-returns-3
 returns-3 c =
     let s = c .before .before .before .before .before .before .before .before in
-    sym (untrue _ (λ e. let f = header-fits (s .args .p) (headerWords (s .args .h)) e in omega (arith, c .if3 .taken)))
+    sym (untrue _ (λ e. let f = headed (s .args .p) (headerWords (s .args .h)) e in omega (arith, c .if3 .taken)))
 
 cast-if4 : tie.Need-cast-if4
 cast-if4 c = search needs
@@ -47,7 +48,7 @@ cast-if4 c = search needs
 returns-4 : tie.Need-returns-4
 returns-4 c =
     let s = c .before .before .before .before .before .before .before .before .before .before in
-    sym (untrue _ (λ e. let f = header-fits (s .args .p) (headerWords (s .args .h)) e in omega (arith, c .if4 .taken)))
+    sym (untrue _ (λ e. let f = headed (s .args .p) (headerWords (s .args .h)) e in omega (arith, c .if4 .taken)))
 
 cast-if5 : tie.Need-cast-if5
 cast-if5 c = search needs
@@ -55,12 +56,12 @@ cast-if5 c = search needs
 returns-5 : tie.Need-returns-5
 returns-5 c =
     let s = c .before .before .before .before .before .before .before .before .before .before .before .before in
-    sym (untrue _ (λ e. let f = header-fits (s .args .p) (headerWords (s .args .h)) e in omega (arith, c .if5 .taken)))
+    sym (untrue _ (λ e. let f = headed (s .args .p) (headerWords (s .args .h)) e in omega (arith, c .if5 .taken)))
 
 returns-6 : tie.Need-returns-6
 returns-6 c =
     let s = c .before .before .before .before .before .before .before .before .before .before .before .before .before .before .before in
-    sym (untrue _ (λ e. let f = header-fits (s .args .p) (headerWords (s .args .h)) e in omega (arith, c .if6 .taken)))
+    sym (untrue _ (λ e. let f = headed (s .args .p) (headerWords (s .args .h)) e in omega (arith, c .if6 .taken)))
 
 cast-if7 : tie.Need-cast-if7
 cast-if7 c = search needs
@@ -68,12 +69,12 @@ cast-if7 c = search needs
 returns-7 : tie.Need-returns-7
 returns-7 c =
     let s = c .before .before .before .before .before .before .before .before .before .before .before .before .before .before .before .before .before .before in
-    sym (untrue _ (λ e. let f = header-fits (s .args .p) (headerWords (s .args .h)) e in omega (arith, c .if7 .taken)))
+    sym (untrue _ (λ e. let f = headed (s .args .p) (headerWords (s .args .h)) e in omega (arith, c .if7 .taken)))
 
 returns-8 : tie.Need-returns-8
 returns-8 c =
     let s = c .before .before .before .before .before .before .before .before .before .before .before .before .before .before .before .before .before .before .before .before in
-    sym (untrue _ (λ e. let f = header-fits (s .args .p) (headerWords (s .args .h)) e in omega (arith, c .if8 .taken)))
+    sym (untrue _ (λ e. let f = headed (s .args .p) (headerWords (s .args .h)) e in omega (arith, c .if8 .taken)))
 
 returns-9 : tie.Need-returns-9
 returns-9 c =

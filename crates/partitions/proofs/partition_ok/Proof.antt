@@ -1,10 +1,10 @@
 -- `partitions::partition_ok` meets its contract: the parts of the rule in their order. Assumes nothing.
 use mathlib.Core.Path.{sym, ap, _∙_}
-use Rattle.lists.proofs.Sections.{answered-no, answered-yes}
+use Rattle.lists.proofs.Turns.{passed, failed}
 use Rattle.words.specs.Words.{words}
 use Rattle.card.specs.Chains.{blocksFor, chainRule}
 use Rattle.card.proofs.Seeking.{rule-chained}
-use Rattle.partitions.proofs.Starts.{rule-some, rule-chain, rule-header, rule-entries}
+use Rattle.partitions.proofs.Starts.{rule-some, fails-chain, fails-header, leaves-entries}
 use borrow.Author.Needs.{needs}
 use Rattle.partitions.proofs.partition_ok.Statement.{statement}
 use Rattle.partitions.proofs.partition_ok.Tie as tie
@@ -21,7 +21,7 @@ returns c =
     let W = words (s .args .card .now) in
     let p = s .args .p in
     let n = ap (chainRule W (s .args .blocks) (p .first)) (c .before .before .blocks-for .ensures) in
-    sym (rule-chain W (s .args .blocks) p (sym n ∙ answered-no (c .before .chain-ok .ensures) (c .if1 .taken)))
+    sym (fails-chain W (s .args .blocks) p (sym n ∙ failed (c .before .chain-ok .ensures) (c .if1 .taken)))
 
 header-ok-requires : tie.Need-header-ok-requires
 header-ok-requires c κs =
@@ -29,7 +29,7 @@ header-ok-requires c κs =
     let W = words (s .args .card .now) in
     let p = s .args .p in
     let n = ap (chainRule W (s .args .blocks) (p .first)) (c .before .before .blocks-for .ensures) in
-    let g = sym n ∙ answered-yes (c .before .chain-ok .ensures) (c .if1 .left) in
+    let g = sym n ∙ passed (c .before .chain-ok .ensures) (c .if1 .left) in
     (rule-chained W (s .args .blocks) (p .first) (blocksFor (p .length)) (s .pre .0) (s .pre .1) g, rule-some W (s .args .blocks) (p .first) (blocksFor (p .length)) g)
 
 returns-2 : tie.Need-returns-2
@@ -38,8 +38,8 @@ returns-2 c =
     let W = words (s .args .card .now) in
     let p = s .args .p in
     let n = ap (chainRule W (s .args .blocks) (p .first)) (c .before .before .before .before .blocks-for .ensures) in
-    let g = sym n ∙ answered-yes (c .before .before .before .chain-ok .ensures) (c .before .before .if1 .left) in
-    sym (rule-header W (s .args .blocks) p g (answered-no (c .before .header-ok .ensures) (c .if2 .taken)))
+    let g = sym n ∙ passed (c .before .before .before .chain-ok .ensures) (c .before .before .if1 .left) in
+    sym (fails-header W (s .args .blocks) p g (failed (c .before .header-ok .ensures) (c .if2 .taken)))
 
 entries-ok-requires : tie.Need-entries-ok-requires
 entries-ok-requires c κs =
@@ -47,8 +47,8 @@ entries-ok-requires c κs =
     let W = words (s .args .card .now) in
     let p = s .args .p in
     let n = ap (chainRule W (s .args .blocks) (p .first)) (c .before .before .before .before .blocks-for .ensures) in
-    let g = sym n ∙ answered-yes (c .before .before .before .chain-ok .ensures) (c .before .before .if1 .left) in
-    (rule-chained W (s .args .blocks) (p .first) (blocksFor (p .length)) (s .pre .0) (s .pre .1) g, answered-yes (c .before .header-ok .ensures) (c .if2 .left))
+    let g = sym n ∙ passed (c .before .before .before .chain-ok .ensures) (c .before .before .if1 .left) in
+    (rule-chained W (s .args .blocks) (p .first) (blocksFor (p .length)) (s .pre .0) (s .pre .1) g, passed (c .before .header-ok .ensures) (c .if2 .left))
 
 returns-3 : tie.Need-returns-3
 returns-3 c =
@@ -56,8 +56,8 @@ returns-3 c =
     let W = words (s .args .card .now) in
     let p = s .args .p in
     let n = ap (chainRule W (s .args .blocks) (p .first)) (c .before .before .before .before .before .blocks-for .ensures) in
-    let g = sym n ∙ answered-yes (c .before .before .before .before .chain-ok .ensures) (c .before .before .before .if1 .left) in
-    c .entries-ok .ensures ∙ sym (rule-entries W (s .args .blocks) p g (answered-yes (c .before .before .header-ok .ensures) (c .before .if2 .left)))
+    let g = sym n ∙ passed (c .before .before .before .before .chain-ok .ensures) (c .before .before .before .if1 .left) in
+    c .entries-ok .ensures ∙ sym (leaves-entries W (s .args .blocks) p g (passed (c .before .before .header-ok .ensures) (c .before .if2 .left)))
 
 pub partition-ok-spec : {M : Type 1} → statement M
 partition-ok-spec =
