@@ -12,7 +12,8 @@ use Rattle.lists.specs.Lists.{keep, every, elem, different, upTo}
 use Rattle.lists.proofs.Bools.{by-test, and-left, and-right}
 use Rattle.lists.proofs.Tests.{every-at, every-from, every-keep, every-kept}
 use Rattle.lists.proofs.Ranges.{every-rising, elem-rising, different-rising}
-use Rattle.lists.proofs.Sets.{every-replicate, every-elem, elem-keep, different-keep, every-turned, any-turned, length-keep-turned, different-turned}
+use Rattle.lists.proofs.Tests.{every-replicate}
+use Rattle.lists.proofs.Sets.{every-elem, elem-keep, different-keep, every-turned, any-turned, length-keep-turned, different-turned}
 use Rattle.words.specs.Words.{allOnes}
 use Rattle.card.specs.Blocks.{noBlock, block, link, isFree, afterTaken, freeBlocks}
 use Rattle.card.specs.Chains.{chain, chainRule}

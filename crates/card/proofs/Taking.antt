@@ -10,7 +10,8 @@ use lib.ListN.{length, getD, take, drop, length-append, length-drop, List·getD-
 use lib.Seq.{drop-cons, getD-take, getD-drop, getD-append-add, length-take-le}
 use borrow.Author.Tests.{ne-eqb}
 use Rattle.lists.specs.Lists.{keep, every, upTo}
-use Rattle.lists.proofs.Runs.{length-rising, getD-rising, keep-here, keep-past}
+use Rattle.lists.proofs.Ranges.{length-rising}
+use Rattle.lists.proofs.Runs.{getD-rising, keep-here, keep-past}
 use Rattle.words.specs.Words.{allOnes}
 use Rattle.card.specs.Blocks.{block, isFree, afterTaken}
 use Rattle.card.specs.Cursors.{wordOf}

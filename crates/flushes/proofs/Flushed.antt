@@ -11,7 +11,8 @@ use borrow.Author.Tests.{lt-ltb, le-leb, eq-eqb}
 use Rattle.lists.specs.Lists.{every, elem, different, joined}
 use Rattle.lists.proofs.Bools.{by-test, and-left, and-right, and-both}
 use Rattle.lists.proofs.Tests.{every-from}
-use Rattle.lists.proofs.Sets.{every-append, every-elem, different-insert}
+use Rattle.lists.proofs.Tests.{every-append}
+use Rattle.lists.proofs.Sets.{every-elem, different-insert}
 use Rattle.lists.proofs.Stores.{joined-append}
 use Rattle.words.specs.Words.{allOnes}
 use Rattle.postings.specs.declared.Posting.{Posting}

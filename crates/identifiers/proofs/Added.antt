@@ -11,7 +11,8 @@ use lib.Seq.{sets, length-sets, sets-eq, take-at, drop-at, drop-drop}
 use Rattle.lists.specs.Lists.{keep, every}
 use Rattle.lists.proofs.Bools.{by-test, and-left, and-right, and-both}
 use Rattle.lists.proofs.Tests.{every-at}
-use Rattle.lists.proofs.Same.{every-drop, every-take, every-set, every-replicate, take-sets-le, drop-sets-add, getD-sets-other, take-over, drop-over}
+use Rattle.lists.proofs.Tests.{every-drop, every-take, every-replicate}
+use Rattle.lists.proofs.Same.{every-set, take-sets-le, drop-sets-add, getD-sets-other, take-over, drop-over}
 use Rattle.identifiers.specs.Names.{Name, badLength, among, distinct}
 use Rattle.identifiers.specs.Register.{entriesOf, entries, size, used, nameOf, entryRule, usedFirst, names, registerRule, added}
 use Rattle.identifiers.specs.Formed.{formedFrom, formed}

@@ -9,7 +9,8 @@ use lib.ListN.{length, getD, take, drop, take-append-drop}
 use lib.Seq.{drop-cons, take-suc}
 use Rattle.lists.specs.Lists.{same}
 use Rattle.lists.proofs.Bools.{by-test, and-left, and-right, or-none}
-use Rattle.lists.proofs.Same.{same-refl, same-true, same-swap, any-append, any-at}
+use Rattle.lists.proofs.Same.{same-refl, same-true, same-swap, any-at}
+use Rattle.lists.proofs.Tests.{any-append}
 use Rattle.identifiers.specs.Names.{Name, among, distinct, numberOf}
 
 -- The number of an identifier ---------------------------------------------------------------------------------------

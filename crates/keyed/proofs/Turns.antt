@@ -14,7 +14,7 @@ use borrow.Author.Tests.{lt-ltb, le-ltb}
 use Rattle.keyed.specs.Keys.{Item, reach, larger, topFrom, rest, headVal, headFine, headVals, headsFine}
 use Rattle.lists.specs.All.{AllOf}
 use Rattle.lists.proofs.Arrays.{firstBy, first-set, first-all}
-use Rattle.keyed.proofs.Signs.{mag-sum}
+use Rattle.lists.proofs.Sizes.{mag-sum}
 
 pub views-map : {C : Type 0} (view : C → List Item) (k : ℕ) (next : C → C) (P : C → Type 0) → ((c : C) → P c → view (next c) ≡ rest k (view c)) → (l : List C) → AllOf P l → map view (map next l) ≡ map (rest k) (map view l)
 unfolding AllOf

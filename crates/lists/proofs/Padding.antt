@@ -42,11 +42,6 @@ module _ {A : Type 0} (d : A) where
   all-same t is [] e = refl
   all-same t is (x ∷ l) e = rw (is x (and-left (t x) _ e), ← all-same t is l (and-right (t x) _ e))
 
-  -- a test that the value passes
-  pub every-replicate : (t : A → Bool) → t d ≡ true → (n : ℕ) → every t (replicate n d) ≡ true
-  every-replicate t e zero = refl
-  every-replicate t e (suc n) = and-both (t d) _ e (every-replicate t e n)
-
   -- an array whose places from n on have that value is its first n places, padded
   pub padded-form : (t : A → Bool) → ((x : A) → t x ≡ true → x ≡ d) → (k n : ℕ) (all : List A) → length all ≡ k → n ≤ k → every t (drop n all) ≡ true
       → all ≡ take n all ++ replicate (k - length (take n all)) d

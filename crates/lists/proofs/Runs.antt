@@ -104,12 +104,6 @@ apart-none p l h = ap (λ (t : Bool). different l && t) (none l) ∙ and-true (d
     none [] = refl
     none (x ∷ m) = rw (h x, none m)
 
--- numbers upward: how many
-pub length-rising : (n count : ℕ) → length (rising n count) ≡ count
-unfolding rising
-length-rising n zero = refl
-length-rising n (suc count) = ap suc (length-rising (suc n) count)
-
 -- and the one at a place
 pub getD-rising : (n count i : ℕ) → i < count → getD (rising n count) i 0 ≡ n + i
 unfolding rising

@@ -61,11 +61,6 @@ same-step a b i p q = rw (drop-cons a i 0 p, drop-cons b i 0 q)
 -- Tests of parts ----------------------------------------------------------------------------------------------------
 
 module _ {A : Type 0} (t : A → Bool) where
-  -- a test of two lists in a row
-  pub any-append : (l m : List A) → any t (l ++ m) ≡ (any t l || any t m)
-  any-append [] m = refl
-  any-append (x ∷ l) m = by-test (t x) (λ e. rw e) (λ e. rw e (any-append l m))
-
   -- where none passes, the one at a place does not
   pub any-at : (l : List A) (i : ℕ) (d : A) → any t l ≡ false → i < length l → t (getD l i d) ≡ false
   any-at [] i d e h = absurd (omega arith)
@@ -75,23 +70,6 @@ module _ {A : Type 0} (t : A → Bool) where
   -- the elements from place i on
   pub every-step : (l : List A) (i : ℕ) (d : A) → i < length l → every t (drop i l) ≡ (t (getD l i d) && every t (drop (suc i) l))
   every-step l i d h = rw (drop-cons l i d h)
-
-  -- what all pass, all past the first n pass
-  pub every-drop : (n : ℕ) (l : List A) → every t l ≡ true → every t (drop n l) ≡ true
-  every-drop zero l e = e
-  every-drop (suc n) [] e = refl
-  every-drop (suc n) (x ∷ l) e = every-drop n l (and-right (t x) _ e)
-
-  -- and the first n
-  pub every-take : (n : ℕ) (l : List A) → every t l ≡ true → every t (take n l) ≡ true
-  every-take zero l e = refl
-  every-take (suc n) [] e = refl
-  every-take (suc n) (x ∷ l) e = and-both (t x) _ (and-left (t x) _ e) (every-take n l (and-right (t x) _ e))
-
-  -- one element over and over
-  pub every-replicate : (n : ℕ) (x : A) → t x ≡ true → every t (replicate n x) ≡ true
-  every-replicate zero x e = refl
-  every-replicate (suc n) x e = rw e (every-replicate n x e)
 
   -- one element put in for another
   pub every-set : (l : List A) (i : ℕ) (x : A) → every t l ≡ true → t x ≡ true → every t (set l i x) ≡ true

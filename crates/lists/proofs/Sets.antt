@@ -11,7 +11,7 @@ use lib.Seq.{sets, sets-eq, take-set-le, drop-set-lt, length-take-le, take-at, d
 use borrow.Author.Tests.{eqb-true, eqb-false, eq-eqb, ne-eqb, not-true}
 use Rattle.lists.specs.Lists.{keep, any, every, elem, different, same}
 use Rattle.lists.proofs.Bools.{by-test, and-left, and-right, and-both, or-right, or-none}
-use Rattle.lists.proofs.Tests.{keep-append}
+use Rattle.lists.proofs.Tests.{keep-append, every-append, any-append}
 
 -- Stores ------------------------------------------------------------------------------------------------------------
 
@@ -49,11 +49,6 @@ module _ {A : Type 0} where
 
   -- Tests of some ----------------------------------------------------------------------------------------------------
 
-  -- in one list or in the other
-  pub any-append : (t : A → Bool) (l m : List A) → any t (l ++ m) ≡ (any t l || any t m)
-  any-append t [] m = refl
-  any-append t (x ∷ l) m = by-test (t x) (λ y. rw y) (λ n. rw n (any-append t l m))
-
   -- what none passes, none that is kept passes
   pub any-keep : (t u : A → Bool) (l : List A) → any t l ≡ false → any t (keep u l) ≡ false
   any-keep t u [] e = refl
@@ -65,22 +60,6 @@ module _ {A : Type 0} where
   pub none-from : (t u : A → Bool) → ((x : A) → t x ≡ true → u x ≡ false) → (l : List A) → every t l ≡ true → any u l ≡ false
   none-from t u h [] e = refl
   none-from t u h (x ∷ l) e = rw (h x (and-left (t x) _ e)) (none-from t u h l (and-right (t x) _ e))
-
-  -- a test of all goes over two lists one by one
-  pub every-append : (t : A → Bool) (l m : List A) → every t (l ++ m) ≡ (every t l && every t m)
-  every-append t [] m = refl
-  every-append t (x ∷ l) m = by-test (t x) (λ y. rw y (every-append t l m)) (λ n. rw n)
-
-  -- one element over and over
-  pub every-replicate : (t : A → Bool) (n : ℕ) (a : A) → t a ≡ true → every t (replicate n a) ≡ true
-  every-replicate t zero a e = refl
-  every-replicate t (suc n) a e = and-both (t a) _ e (every-replicate t n a e)
-
-  -- the first of those that all pass
-  pub every-take : (t : A → Bool) (k : ℕ) (l : List A) → every t l ≡ true → every t (take k l) ≡ true
-  every-take t zero l e = refl
-  every-take t (suc k) [] e = refl
-  every-take t (suc k) (x ∷ l) e = and-both (t x) _ (and-left (t x) _ e) (every-take t k l (and-right (t x) _ e))
 
   -- the first of those that none passes
   pub any-take : (t : A → Bool) (k : ℕ) (l : List A) → any t l ≡ false → any t (take k l) ≡ false

@@ -5,7 +5,7 @@ use mathlib.Core.Logic.{⊎-elim}
 use mathlib.Core.Path.{_≡_, refl, ap, ap₂, sym, _∙_}
 use Prim.Native.Nat.{ℕ, zero, suc, _+_, _<_, _≤_}
 use native.Mathlib.Omega.{arith}
-use lib.ListN.{length, getD}
+use lib.ListN.{length, getD, take, drop, replicate}
 use Rattle.lists.specs.Lists.{keep, any, every, down}
 use Rattle.lists.proofs.Bools.{by-test, and-left, and-right, and-both, or-none}
 
@@ -65,6 +65,31 @@ module _ {A : Type 0} where
   pub keep-none : (t : A → Bool) (l : List A) → any t l ≡ false → keep t l ≡ []
   keep-none t [] e = refl
   keep-none t (x ∷ l) e = let n = or-none (t x) (any t l) e in rw (n .0, keep-none t l (n .1))
+
+  -- a test over two lists, one after the other
+  pub every-append : (t : A → Bool) (l m : List A) → every t (l ++ m) ≡ (every t l && every t m)
+  every-append t [] m = refl
+  every-append t (x ∷ l) m = by-test (t x) (λ y. rw y (every-append t l m)) (λ n. rw n)
+
+  pub any-append : (t : A → Bool) (l m : List A) → any t (l ++ m) ≡ (any t l || any t m)
+  any-append t [] m = refl
+  any-append t (x ∷ l) m = by-test (t x) (λ y. rw y) (λ n. rw n (any-append t l m))
+
+  -- what all pass, all of a part pass
+  pub every-take : (t : A → Bool) (n : ℕ) (l : List A) → every t l ≡ true → every t (take n l) ≡ true
+  every-take t zero l e = refl
+  every-take t (suc n) [] e = refl
+  every-take t (suc n) (x ∷ l) e = and-both (t x) _ (and-left (t x) _ e) (every-take t n l (and-right (t x) _ e))
+
+  pub every-drop : (t : A → Bool) (n : ℕ) (l : List A) → every t l ≡ true → every t (drop n l) ≡ true
+  every-drop t zero l e = e
+  every-drop t (suc n) [] e = e
+  every-drop t (suc n) (x ∷ l) e = every-drop t n l (and-right (t x) _ e)
+
+  -- one element over and over
+  pub every-replicate : (t : A → Bool) (n : ℕ) (a : A) → t a ≡ true → every t (replicate n a) ≡ true
+  every-replicate t zero a e = refl
+  every-replicate t (suc n) a e = and-both (t a) _ e (every-replicate t n a e)
 
 -- two tests that agree on 1 to n keep the same of them
 pub keep-down : (t u : ℕ → Bool) (n : ℕ) → ((w : ℕ) → w ≤ n → t w ≡ u w) → keep t (down n) ≡ keep u (down n)

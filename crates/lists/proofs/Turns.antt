@@ -1,4 +1,4 @@
--- Tests over a list part by part, and loops over the places of an array: where the answer for the whole is the answer for what is left, what a
+-- Loops over the places of an array: where the answer for the whole is the answer for what is left, what a
 -- turn does to that, and the end.
 use mathlib.Core.Bool.{Bool, true, false, not, _&&_, and-assoc, and-false}
 use mathlib.Core.List.{List, [], _∷_, _++_}
@@ -12,23 +12,6 @@ use borrow.Author.Tests.{not-true, not-false}
 use Rattle.lists.specs.Lists.{every}
 use Rattle.lists.proofs.Bools.{and-left, and-right, and-both}
 use Rattle.lists.proofs.Tests.{every-from}
-
-module _ {A : Type 0} (t : A → Bool) where
-  -- a test of two lists one after another
-  pub every-append : (l m : List A) → every t (l ++ m) ≡ (every t l && every t m)
-  every-append [] m = refl
-  every-append (x ∷ l) m = rw (every-append l m) (sym (and-assoc (t x) (every t l) (every t m)))
-
-  -- what all pass, all of a part pass
-  pub every-take : (n : ℕ) (l : List A) → every t l ≡ true → every t (take n l) ≡ true
-  every-take zero l e = refl
-  every-take (suc n) [] e = refl
-  every-take (suc n) (x ∷ l) e = and-both (t x) _ (and-left (t x) _ e) (every-take n l (and-right (t x) _ e))
-
-  pub every-drop : (n : ℕ) (l : List A) → every t l ≡ true → every t (drop n l) ≡ true
-  every-drop zero l e = e
-  every-drop (suc n) [] e = e
-  every-drop (suc n) (x ∷ l) e = every-drop n l (and-right (t x) _ e)
 
 -- what a test that was made by a call says, where it passed and where it failed
 pub passed : {r t : Bool} → r ≡ t → not r ≡ false → t ≡ true

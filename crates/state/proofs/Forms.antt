@@ -11,7 +11,8 @@ use lib.Seq.{length-take-le, take-append-seam, drop-append-seam}
 use borrow.Author.Tests.{eqb-true, le-leb}
 use Rattle.lists.specs.Lists.{every, different}
 use Rattle.lists.proofs.Bools.{by-test, and-left, and-right}
-use Rattle.lists.proofs.Padding.{padded-form, every-replicate}
+use Rattle.lists.proofs.Padding.{padded-form}
+use Rattle.lists.proofs.Tests.{every-replicate}
 use Rattle.postings.specs.declared.Posting.{Posting}
 use Rattle.postings.specs.Merge.{isZero}
 use Rattle.postings.specs.Order.{ordered}
@@ -76,7 +77,7 @@ held n d l = take-append-seam l _
 
 -- nothing but the filling comes after
 pub after : {A : Type 0} (t : A → Bool) (n : ℕ) (d : A) (l : List A) → t d ≡ true → every t (drop (length l) (padded n d l)) ≡ true
-after t n d l e = rw (drop-append-seam l (replicate (n - length l) d)) (every-replicate d t e (n - length l))
+after t n d l e = rw (drop-append-seam l (replicate (n - length l) d)) (every-replicate t (n - length l) d e)
 
 pub listed-rule : (w : Windows) (l : List ℕ) → length l ≤ 64 → every (λ i. leb i 1023) l ≡ true → different l ≡ true → (w .current ≡ 0 → length l ≡ 0) → listedRule w (listedOf l) ≡ true
 unfolding listedRule

@@ -10,7 +10,7 @@ use borrow.Author.Tests.{ltb-true, leb-true, eqb-true, eqb-false, le-leb, ne-eqb
 use Rattle.lists.specs.Lists.{keep, every, below}
 use Rattle.lists.proofs.Bools.{by-test, and-left, and-right, and-both}
 use Rattle.lists.proofs.Tests.{every-from, keep-append, keep-all}
-use Rattle.lists.proofs.Turns.{every-append, every-take, every-drop}
+use Rattle.lists.proofs.Tests.{every-append, every-take, every-drop}
 use Rattle.state.specs.Levels.{dueAt, nextLevel, levelLimit, levels, ofLevel, dueLevels, placeOf, oldest, replaced}
 use Rattle.state.proofs.Runs.{falls, due-first, before-run, oldest-length, oldest-level}
 

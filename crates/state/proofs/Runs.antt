@@ -11,7 +11,7 @@ use borrow.Author.Tests.{ltb-true, leb-true, leb-false, eqb-true, eqb-false, lt-
 use Rattle.lists.specs.Lists.{keep, any, every, below}
 use Rattle.lists.proofs.Bools.{by-test, and-left, and-right, and-both}
 use Rattle.lists.proofs.Tests.{every-from, every-kept, keep-none, length-keep}
-use Rattle.lists.proofs.Turns.{every-take}
+use Rattle.lists.proofs.Tests.{every-take}
 use Rattle.state.specs.declared.Partition.{Partition}
 use Rattle.state.specs.Levels.{dueAt, ofLevel, dueLevels, placeOf, oldest}
 use Rattle.state.specs.Rules.{neverRise}

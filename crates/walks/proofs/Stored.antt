@@ -12,7 +12,7 @@ use Rattle.lists.specs.Lists.{every, joined, totalBy}
 use Rattle.lists.specs.All.{AllOf}
 use Rattle.lists.proofs.Bools.{by-test, and-left, and-right, and-both}
 use Rattle.lists.proofs.Tests.{keep-append, every-from, every-kept}
-use Rattle.lists.proofs.Turns.{every-append}
+use Rattle.lists.proofs.Tests.{every-append}
 use Rattle.lists.proofs.Ranges.{every-map, keep-joined}
 use Rattle.keyed.specs.Keys.{falls, allFall, sumOf, sums, overKeys}
 use Rattle.keyed.specs.Groups.{Group, allFallAll}

@@ -1,5 +1,5 @@
 -- `walks::added` meets its contract: a sum of a few counts has room for one more. Assumes nothing.
-use Rattle.keyed.proofs.Signs.{mag-sum}
+use Rattle.lists.proofs.Sizes.{mag-sum}
 use mir.Facts.{toZ-ofZ, sfits-widen}
 use mir.Val.{SFits, toZ, ofZ}
 use mir.Syntax.{w16, w32}
