@@ -1,2 +1,3 @@
 pub mod Flush
 pub mod Calls
+pub mod Promises

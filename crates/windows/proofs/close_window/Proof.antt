@@ -1,0 +1,66 @@
+use mathlib.Core.Bool.{not, cond}
+use mathlib.Core.Logic.{⊎-elim}
+use mathlib.Core.Path.{_≡_, refl, sym, ap, _∙_}
+use Prim.Native.Nat.{_-_, _≤_}
+use native.Mathlib.Omega.{arith}
+use lib.Dec.{eqb}
+use borrow.Author.Needs.{needs}
+use borrow.Author.Tests.{eq-eqb, ne-eqb, not-false}
+use Rattle.state.proofs.Kept.{state-kept, Shut, Opened}
+use Rattle.windows.specs.Calls.{closeOf, closed}
+use Rattle.windows.proofs.Outcomes.{stopped, passed, given}
+use Rattle.windows.proofs.close_window.Statement.{statement}
+use Rattle.windows.proofs.close_window.Tie as tie
+
+state-ok-requires : tie.Need-state-ok-requires
+state-ok-requires c κs = search needs
+
+refuse-requires : tie.Need-refuse-requires
+refuse-requires c κs = search needs
+
+returns : tie.Need-returns
+unfolding closeOf
+returns c = rw (c .refuse .ensures) (stopped _ 1 _ (ap not (sym (c .before .before .state-ok .ensures)) ∙ c .before .if1 .taken))
+
+refuse-requires-2 : tie.Need-refuse-requires-2
+refuse-requires-2 c κs = search needs
+
+returns-2 : tie.Need-returns-2
+unfolding closeOf
+returns-2 c =
+    let b = c .before in
+    let a = b .before .before in
+    rw (c .refuse2 .ensures)
+    (passed _ 1 _ (ap not (sym (a .before .state-ok .ensures)) ∙ a .if1 .left)
+    (stopped _ 5 _ (ap (λ t. not (not t)) (eq-eqb _ _ (b .if2 .taken)))))
+
+sub-last : tie.Need-sub-last
+sub-last c =
+    let b = c .before .before in
+    let a = b .before .before in
+    let k = state-kept _ (sym (a .before .state-ok .ensures) ∙ not-false _ (a .if1 .left)) in
+    ⊎-elim (λ (h : Shut _). absurd (b .if2 .left (h .number))) (λ (o : Opened _). omega (arith, o .some, o .number)) (k .windows .window)
+
+returns-3 : tie.Need-returns-3
+unfolding closeOf closed
+returns-3 c =
+    let b = c .before .before in
+    let a = b .before .before in
+    let s = a .before .before .args .s in
+    let last : c .if3 .last ≡ cond (eqb (s .windows .events) 0) (s .windows .last - 1) (s .windows .last) =
+        ⊎-elim (λ w. rw (eq-eqb (s .windows .events) 0 (w .0 .taken)) (w .1)) (λ w. rw (ne-eqb (s .windows .events) 0 (w .0 .left)) (w .1)) (c .if3 .came) in
+    rw last
+    (passed _ 1 _ (ap not (sym (a .before .state-ok .ensures)) ∙ a .if1 .left)
+    (passed _ 5 _ (ap (λ t. not (not t)) (ne-eqb _ _ (b .if2 .left))) (given _ refl)))
+
+pub close-window-spec : {M : Type 1} → statement M
+close-window-spec =
+    tie.close
+    (tie.spec
+    state-ok-requires
+    refuse-requires
+    returns
+    refuse-requires-2
+    returns-2
+    sub-last
+    returns-3)

@@ -1,0 +1,51 @@
+use mathlib.Core.Bool.{not}
+use mathlib.Core.Path.{refl, sym, ap, _∙_}
+use native.Mathlib.Numerals.{add-one}
+use native.Mathlib.Omega.{arith}
+use borrow.Author.Needs.{needs}
+use borrow.Author.Tests.{eq-eqb, ne-eqb, le-leb, lt-leb}
+use Rattle.windows.specs.Calls.{openOf, opened}
+use Rattle.windows.proofs.Outcomes.{stopped, passed, given}
+use Rattle.windows.proofs.open_window.Statement.{statement}
+use Rattle.windows.proofs.open_window.Tie as tie
+
+state-ok-requires : tie.Need-state-ok-requires
+state-ok-requires c κs = search needs
+
+returns : tie.Need-returns
+unfolding openOf
+returns c = stopped _ 1 _ (ap not (sym (c .before .state-ok .ensures)) ∙ c .if1 .taken)
+
+returns-2 : tie.Need-returns-2
+unfolding openOf
+returns-2 c =
+    let b = c .before .before in
+    passed _ 1 _ (ap not (sym (b .before .state-ok .ensures)) ∙ b .if1 .left) (stopped _ 5 _ (ap not (ne-eqb _ _ (c .if2 .taken))))
+
+returns-3 : tie.Need-returns-3
+unfolding openOf
+returns-3 c =
+    let b = c .before .before in
+    let a = b .before .before in
+    let s = a .before .before .args .s in
+    let full = c .if3 .taken in
+    passed _ 1 _ (ap not (sym (a .before .state-ok .ensures)) ∙ a .if1 .left)
+    (passed _ 5 _ (ap not (eq-eqb _ _ (b .if2 .left))) (stopped _ 6 _ (le-leb 65535 (s .windows .last) (omega arith))))
+
+add-number : tie.Need-add-number
+add-number c = search needs
+
+returns-4 : tie.Need-returns-4
+unfolding openOf opened
+returns-4 c =
+    let d = c .before in
+    let b = d .before .before in
+    let a = b .before .before in
+    let s = a .before .before .args .s in
+    rw (add-one (s .windows .last))
+    (passed _ 1 _ (ap not (sym (a .before .state-ok .ensures)) ∙ a .if1 .left)
+    (passed _ 5 _ (ap not (eq-eqb _ _ (b .if2 .left))) (passed _ 6 _ (lt-leb 65535 (s .windows .last) (search needs)) (given _ refl))))
+
+pub open-window-spec : {M : Type 1} → statement M
+open-window-spec =
+    tie.close (tie.spec state-ok-requires returns returns-2 returns-3 add-number returns-4)
