@@ -48,7 +48,7 @@ returns-3 c =
     let a = b .before .before in
     let s = a .before .before .args .s in
     let last : c .if3 .last ≡ cond (eqb (s .windows .events) 0) (s .windows .last - 1) (s .windows .last) =
-        ⊎-elim (λ w. rw (eq-eqb (s .windows .events) 0 (w .0 .taken)) (w .1)) (λ w. rw (ne-eqb (s .windows .events) 0 (w .0 .left)) (w .1)) (c .if3 .came) in
+    ⊎-elim (λ w. rw (eq-eqb (s .windows .events) 0 (w .0 .taken)) (w .1)) (λ w. rw (ne-eqb (s .windows .events) 0 (w .0 .left)) (w .1)) (c .if3 .came) in
     rw last
     (passed _ 1 _ (ap not (sym (a .before .state-ok .ensures)) ∙ a .if1 .left)
     (passed _ 5 _ (ap (λ t. not (not t)) (ne-eqb _ _ (b .if2 .left))) (given _ refl)))
