@@ -1,2 +1,4 @@
 pub mod Refused
 pub mod Outcomes
+pub mod Lengths
+pub mod Targets

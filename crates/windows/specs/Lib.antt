@@ -1,3 +1,4 @@
 pub mod Flush
 pub mod Calls
 pub mod Promises
+pub mod Targets

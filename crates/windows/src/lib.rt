@@ -2,13 +2,26 @@
 use answers::Opened;
 use answers::Refusal;
 use answers::Reply;
+use postings::Posting;
+use state::Buffer;
+use state::Lengths;
 use state::Listed;
+use state::MergeJob;
+use state::Partition;
+use state::Partitions;
 use state::State;
 use state::Windows;
+ghost use mathlib.Core.Bool.{_&&_};
+ghost use mathlib.Core.List.{[]};
 ghost use mathlib.Core.Path.{_≡_};
+ghost use lib.ListN.{length, replicate};
 ghost use Rattle.answers.specs.Numbers.{replied, openedAs};
-ghost use Rattle.windows.specs.Calls.{openOf, closeOf};
-ghost use Rattle.windows.specs.Promises.{Gives};
+ghost use Rattle.state.specs.Views.{bufferOf, emptyState};
+ghost use Rattle.state.specs.Rules.{cardLength, registerLength};
+ghost use Rattle.windows.specs.Calls.{startOf, unstarted, openOf, closeOf};
+ghost use Rattle.windows.specs.Promises.{Gives, probeOf};
+
+pub mod flushing; // judging and writing a flush
 
 // What a call that gives no value answers, and the state after it.
 pub struct Replied {
@@ -22,6 +35,23 @@ pub struct Opening {
     pub state: State,
 }
 
+// A call that is done leaves the state.
+fn done(s: State) -> Replied
+    ensures { λ r. ⌜ r ≡ record { reply = Reply.Done; state = s } ⌝ }
+{
+    Replied {
+        reply: Reply::Done,
+        state: s,
+    }
+}
+
+// What a flush comes to: nothing to write, a block to write to, or a refusal.
+pub enum Target {
+    Nothing,
+    Block(u16),
+    Refused(Refusal),
+}
+
 // A refusal: the state stays.
 fn refuse(s: State, why: Refusal) -> Replied
     ensures { λ r. ⌜ r ≡ record { reply = Reply.Refused why; state = s } ⌝ }
@@ -30,6 +60,109 @@ fn refuse(s: State, why: Refusal) -> Replied
         reply: Reply::Refused(why),
         state: s,
     }
+}
+
+// Every byte goes to the value.
+fn fill(bytes: &mut [u8], value: u8)
+    ensures { λ r. ⌜ now (bytes .exit) ≡ replicate (length (now (bytes .entry))) value ⌝ }
+{
+    let mut i: usize = 0;
+    while i < bytes.len() {
+        bytes[i] = value;
+        i += 1;
+    }
+}
+
+// Are both lengths within the limits?
+fn lengths_ok(card: usize, register: usize) -> bool
+    ensures { λ r. ⌜ r ≡ (cardLength card && registerLength register) ⌝ }
+{
+    if card % 4096 != 0 {
+        return false;
+    }
+    if card / 4096 < 4 {
+        return false;
+    }
+    if card / 4096 > 4096 {
+        return false;
+    }
+    if register % 65 != 0 {
+        return false;
+    }
+    if register / 65 < 1 {
+        return false;
+    }
+    register / 65 <= 1024
+}
+
+// A buffer without postings.
+fn empty_buffer() -> Buffer
+    ensures { λ r. ⌜ r ≡ bufferOf [] ⌝ }
+{
+    let none = Posting {
+        id: 0,
+        window: 0,
+        count: 0,
+    };
+    Buffer {
+        used: 0,
+        postings: [none; 128],
+    }
+}
+
+// A state without windows.
+fn empty_state(card: u32, register: u32, taken: u16) -> State
+    ensures { λ r. ⌜ r ≡ emptyState card register taken ⌝ }
+{
+    let none = Partition {
+        first: 0,
+        level: 0,
+        length: 0,
+    };
+    let buffer = empty_buffer();
+    State {
+        lengths: Lengths {
+            card: card,
+            register: register,
+        },
+        windows: Windows {
+            last: 0,
+            live: 0,
+            current: 0,
+            events: 0,
+        },
+        listed: Listed {
+            used: 0,
+            ids: [0; 64],
+        },
+        buffer: buffer,
+        partitions: Partitions {
+            used: 0,
+            records: [none; 51],
+        },
+        taken: taken,
+        merge: MergeJob {
+            first: 0,
+            length: 0,
+            steps: 0,
+        },
+    }
+}
+
+// A fresh card, register and state.
+pub fn start(card: &mut [u8], register: &mut [u8]) -> Replied
+    ensures { λ r. ⌜ Gives (unstarted (now (card .entry)) (now (register .entry))) (startOf (now (card .entry)) (now (register .entry)))
+        (replied (r .reply)) (probeOf (r .state) (now (card .exit)) (now (register .exit))) ⌝ }
+{
+    let bytes = card.len();
+    let entries = register.len();
+    if !lengths_ok(bytes, entries) {
+        return refuse(empty_state(0, 0, 0), Refusal::WrongLength);
+    }
+    let s = empty_state(bytes as u32, entries as u32, (bytes / 4096 - 1) as u16);
+    fill(card, 255);
+    fill(register, 0);
+    done(s)
 }
 
 // The next number is given to a window, which has no events yet.
@@ -96,8 +229,5 @@ pub fn close_window(s: State) -> Replied
     let mut t = s;
     t.windows = w;
     t.listed = l;
-    Replied {
-        reply: Reply::Done,
-        state: t,
-    }
+    done(t)
 }

@@ -41,15 +41,19 @@ sub-last c =
     let k = state-kept _ (sym (a .before .state-ok .ensures) ∙ not-false _ (a .if1 .left)) in
     ⊎-elim (λ (h : Shut _). absurd (b .if2 .left (h .number))) (λ (o : Opened _). omega (arith, o .some, o .number)) (k .windows .window)
 
+done-requires : tie.Need-done-requires
+done-requires c κs = search needs
+
 returns-3 : tie.Need-returns-3
 unfolding closeOf closed
 returns-3 c =
-    let b = c .before .before in
+    let j = c .before in
+    let b = j .before .before in
     let a = b .before .before in
     let s = a .before .before .args .s in
-    let last : c .if3 .last ≡ cond (eqb (s .windows .events) 0) (s .windows .last - 1) (s .windows .last) =
-    ⊎-elim (λ w. rw (eq-eqb (s .windows .events) 0 (w .0 .taken)) (w .1)) (λ w. rw (ne-eqb (s .windows .events) 0 (w .0 .left)) (w .1)) (c .if3 .came) in
-    rw last
+    let last : j .if3 .last ≡ cond (eqb (s .windows .events) 0) (s .windows .last - 1) (s .windows .last) =
+    ⊎-elim (λ w. rw (eq-eqb (s .windows .events) 0 (w .0 .taken)) (w .1)) (λ w. rw (ne-eqb (s .windows .events) 0 (w .0 .left)) (w .1)) (j .if3 .came) in
+    rw (c .done .ensures, last)
     (passed _ 1 _ (ap not (sym (a .before .state-ok .ensures)) ∙ a .if1 .left)
     (passed _ 5 _ (ap (λ t. not (not t)) (ne-eqb _ _ (b .if2 .left))) (given _ refl)))
 
@@ -63,4 +67,5 @@ close-window-spec =
     refuse-requires-2
     returns-2
     sub-last
+    done-requires
     returns-3)

@@ -1,0 +1,11 @@
+-- What the limits of the buffers' lengths say.
+use mathlib.Core.Bool.{true, _&&_}
+use mathlib.Core.Path.{_≡_}
+use Prim.Native.Nat.{ℕ}
+use Rattle.state.specs.Rules.{cardLength, registerLength, lengthsRule}
+use Rattle.state.proofs.Kept.{LengthsKept, lengths-kept}
+
+-- lengths that a start accepts
+pub lengths-started : (card register : ℕ) → (cardLength card && registerLength register) ≡ true → LengthsKept (record { card = card; register = register })
+unfolding lengthsRule
+lengths-started card register e = lengths-kept (record { card = card; register = register }) e

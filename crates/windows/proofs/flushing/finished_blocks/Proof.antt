@@ -1,0 +1,77 @@
+-- `flushing::finished_blocks` meets its contract. The invariant: the total so far and the blocks of the records not passed make the whole. Assumes nothing.
+use mathlib.Core.List.{List}
+use mathlib.Core.Path.{_≡_}
+use Prim.Native.Nat.{_+_, _*_, _-_, _≤_}
+use native.Mathlib.Omega.{arith}
+use lib.ListN.{length, drop}
+use borrow.Author.Needs.{needs}
+use Rattle.lists.specs.Lists.{totalBy}
+use Rattle.lists.proofs.Arrays.{unmapped}
+use Rattle.lists.proofs.Turns.{used-turn, used-end}
+use Rattle.state.specs.declared.Partition.{Partition}
+use Rattle.state.specs.Views.{finished, noPartition}
+use Rattle.card.specs.Chains.{blocksFor}
+use Rattle.windows.proofs.flushing.finished_blocks.Statement.{statement}
+use Rattle.windows.proofs.flushing.finished_blocks.Tie as tie
+
+abbrev Inv-loop : tie.InvT-loop
+Inv-loop p n i₀ total₀ i total = (length (p .records) ≡ 51) × (total ≤ 1049603 * i) × (totalBy (λ q. blocksFor (q .length)) (finished p) ≡ total + totalBy (λ q. blocksFor (q .length)) (drop i (finished p))) × (i ≤ n)
+
+abbrev μ-loop : tie.MeasureT-loop
+μ-loop p n i₀ total₀ i total = n - i
+
+cast-n : tie.Need-cast-n Inv-loop μ-loop
+cast-n c = search needs
+
+loop-holds : tie.Need-loop-holds Inv-loop μ-loop
+loop-holds c = (search (unmapped, needs), omega arith, omega arith, omega arith)
+
+mul-q : tie.Need-mul-q Inv-loop μ-loop
+mul-q c = search needs
+
+element-copy-out-q : tie.Need-element-copy-out-q Inv-loop μ-loop
+element-copy-out-q c = search needs
+
+blocks-for-requires : tie.Need-blocks-for-requires Inv-loop μ-loop
+blocks-for-requires c κs = search needs
+
+add-total : tie.Need-add-total Inv-loop μ-loop
+add-total c = omega (arith, c .blocks-for .ensures .0, c .before .before .before .loop .inv .1, c .before .before .before .before .pre)
+
+add-i : tie.Need-add-i Inv-loop μ-loop
+add-i c = search needs
+
+loop-less : tie.Need-loop-less Inv-loop μ-loop
+loop-less c = search needs
+
+loop-again : tie.Need-loop-again Inv-loop μ-loop
+loop-again c =
+    let a = c .before .before .before in
+    let p = a .before .args .t1 in
+    let len = a .loop .inv .0 in
+    let whole = used-turn (λ (l : List Partition). a .loop .total + totalBy (λ q. blocksFor (q .length)) l) (p .records) (p .used) (a .loop .i) noPartition (omega arith) (omega arith) (a .loop .inv .2) in
+    (len, omega (arith, c .blocks-for .ensures .0, a .loop .inv .1), omega (arith, c .blocks-for .ensures .1, whole), omega arith)
+
+returns : tie.Need-returns Inv-loop μ-loop
+returns c =
+    let s = c .before .before .args in
+    let len = c .before .loop .inv .0 in
+    let e = used-end (λ (l : List Partition). c .before .loop .total + totalBy (λ q. blocksFor (q .length)) l) (s .t1 .records) (s .t1 .used) (c .before .loop .i) (omega arith) (omega arith) (c .before .loop .inv .2) in
+    (omega arith, omega arith)
+
+pub finished-blocks-spec : {M : Type 1} → statement M
+finished-blocks-spec =
+    tie.close
+    (tie.spec
+    Inv-loop
+    μ-loop
+    cast-n
+    loop-holds
+    mul-q
+    element-copy-out-q
+    blocks-for-requires
+    add-total
+    add-i
+    loop-less
+    loop-again
+    returns)

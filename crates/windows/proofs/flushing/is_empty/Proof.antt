@@ -1,0 +1,22 @@
+use mathlib.Core.Path.{_≡_, sym, ap, _∙_}
+use Prim.Native.Nat.{ℕ}
+use native.Mathlib.Omega.{arith}
+use lib.Dec.{eqb}
+use lib.ListN.{length}
+use lib.Seq.{length-take-le}
+use borrow.Author.Needs.{needs}
+use Rattle.lists.proofs.Arrays.{unmapped}
+use Rattle.state.specs.Views.{buffered}
+use Rattle.windows.proofs.Targets.{empty-length}
+use Rattle.windows.proofs.flushing.is_empty.Statement.{statement}
+use Rattle.windows.proofs.flushing.is_empty.Tie as tie
+
+returns : tie.Need-returns
+returns c =
+    let b = c .before .args .b in
+    let long : length (b .postings) ≡ 128 = search (unmapped, needs) in
+    let used : length (buffered b) ≡ b .used = length-take-le (b .used) (b .postings) (omega (arith, c .before .pre)) in
+    ap (λ (n : ℕ). eqb n 0) (sym used) ∙ empty-length (buffered b)
+
+pub is-empty-spec : {M : Type 1} → statement M
+is-empty-spec = tie.close (tie.spec returns)

@@ -1,0 +1,73 @@
+// A flush: judged first, and then written.
+use super::Target;
+use answers::Refusal;
+use card::Free;
+use state::Buffer;
+use state::Partitions;
+use state::State;
+ghost use mathlib.Core.Bool.{true};
+ghost use mathlib.Core.Path.{_≡_};
+ghost use Prim.Native.Nat.{_≤_};
+ghost use lib.ListN.{length};
+ghost use Rattle.lists.specs.Lists.{empty, totalBy};
+ghost use Rattle.words.specs.Words.{words as wordsOf};
+ghost use Rattle.state.specs.Views.{buffered, finished};
+ghost use Rattle.state.specs.Rules.{stateRule};
+ghost use Rattle.card.specs.Chains.{blocksFor};
+ghost use Rattle.windows.specs.Targets.{targetOf};
+
+// How many blocks hold so many bytes.
+fn blocks_for(length: u32) -> u32
+    ensures { λ r. ⌜ (r ≤ 1049603) × (r ≡ blocksFor length) ⌝ }
+{
+    ((length as u64 + 4091) / 4092) as u32
+}
+
+// The blocks of finished partitions.
+fn finished_blocks(p: Partitions) -> u32
+    requires { ⌜ p .used ≤ 51 ⌝ }
+    ensures { λ r. ⌜ (r ≤ 60000000) × (r ≡ totalBy (λ q. blocksFor (q .length)) (finished p)) ⌝ }
+{
+    let n = p.used as usize;
+    let mut i: usize = 0;
+    let mut total: u32 = 0;
+    while i < n {
+        let q = p.records[i];
+        total += blocks_for(q.length);
+        i += 1;
+    }
+    total
+}
+
+// Is nothing buffered?
+fn is_empty(b: Buffer) -> bool
+    requires { ⌜ b .used ≤ 128 ⌝ }
+    ensures { λ r. ⌜ r ≡ empty (buffered b) ⌝ }
+{
+    b.used == 0
+}
+
+// Judges a flush, and finds the block that it takes.
+pub fn target_of(s: State, card: &[u8], wanted: bool) -> Target
+    requires { ⌜ (stateRule s ≡ true) × (length (now card) ≡ s .lengths .card) ⌝ }
+    ensures { λ r. ⌜ r ≡ targetOf wanted s (wordsOf (now (card .entry))) ⌝ }
+{
+    if !wanted {
+        return Target::Nothing;
+    }
+    if is_empty(s.buffer) {
+        return Target::Nothing;
+    }
+    if state::levels::of_level(s.partitions, 0) >= 16 {
+        return Target::Refused(Refusal::LevelFull);
+    }
+    let blocks = s.lengths.card / 4096;
+    if 2 * finished_blocks(s.partitions) + 2 > blocks {
+        return Target::Refused(Refusal::HalfFull);
+    }
+    let free = card::next_free(card, blocks, s.taken);
+    match free {
+        Free::Block(b) => Target::Block(b),
+        Free::Nothing => Target::Refused(Refusal::TooFewFree),
+    }
+}
