@@ -2,3 +2,8 @@ pub mod Refused
 pub mod Outcomes
 pub mod Lengths
 pub mod Targets
+pub mod Rooms
+pub mod Flushes
+pub mod Verdicts
+pub mod Counts
+pub mod Pairs

@@ -24,7 +24,7 @@ use Rattle.card.specs.Blocks.{freeBlocks}
 use Rattle.card.proofs.FreeBlocks.{free-at}
 use Rattle.windows.specs.declared.Target.{Target}
 use Rattle.windows.specs.Flush.{finishedBlocks, flushing, flushingIf, flushedTo, flushedCard}
-use Rattle.windows.specs.Targets.{barIf, firstFree, targetOf, following}
+use Rattle.windows.specs.Targets.{barIf, firstFree, targetOf, following, Chosen}
 
 -- an empty list, by its length
 pub empty-length : {A : Type 0} (l : List A) → eqb (length l) 0 ≡ empty l
@@ -94,14 +94,6 @@ unfolding flushingIf choose
 flushing-wanted s card k = refl
 
 -- ---- what a target says
-
--- a block to write to: it is free and one of the card's, something is buffered, and level 0 has room
-pub record Chosen (s : State) (W : List ℕ) (b : ℕ) : Type 0 where
-  pub some : 1 ≤ length (buffered (s .buffer))
-  pub room : ofLevel (λ (p : Partition). p .level) 0 (finished (s .partitions)) < 16
-  pub half : 2 * suc (finishedBlocks s) ≤ blocks s
-  pub there : 1 ≤ length (freeBlocks W (blocks s) (s .taken))
-  pub block : b ≡ getD (freeBlocks W (blocks s) (s .taken)) 0 0
 
 open-bar : (t : Bool) (why : Refusal) (g : Target) (b : ℕ) → barIf t why g ≡ Target.Block b → (t ≡ false) × (g ≡ Target.Block b)
 unfolding barIf

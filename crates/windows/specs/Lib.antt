@@ -2,3 +2,4 @@ pub mod Flush
 pub mod Calls
 pub mod Promises
 pub mod Targets
+pub mod Verdicts

@@ -1,8 +1,10 @@
 -- Where a flush writes, judged before anything is written.
 use mathlib.Core.Bool.{Bool, true, false, _||_, not, cond}
 use mathlib.Core.List.{List, [], _∷_}
-use Prim.Native.Nat.{ℕ, suc, _*_}
+use mathlib.Core.Path.{_≡_}
+use Prim.Native.Nat.{ℕ, suc, _*_, _<_, _≤_}
 use lib.Dec.{ltb, leb}
+use lib.ListN.{length, getD}
 use Rattle.lists.specs.Lists.{empty}
 use Rattle.words.specs.Words.{words, bytes}
 use Rattle.answers.specs.declared.Refusal.{Refusal}
@@ -40,3 +42,11 @@ abbrev pub following : {S : Type 0} → State → List ℕ → (State → List �
 following s card k (Target.Refused why) = refuse (refusalNumber why)
 following s card k Target.Nothing = k s card
 following s card k (Target.Block b) = k (flushedTo s b) (bytes (flushedCard s (words card) b))
+
+-- a block to write to, where the flush is judged: something is buffered, level 0 and the card have room, and the block is the first free one
+pub record Chosen (s : State) (W : List ℕ) (b : ℕ) : Type 0 where
+  pub some : 1 ≤ length (buffered (s .buffer))
+  pub room : ofLevel (λ (p : Partition). p .level) 0 (finished (s .partitions)) < 16
+  pub half : 2 * suc (finishedBlocks s) ≤ blocks s
+  pub there : 1 ≤ length (freeBlocks W (blocks s) (s .taken))
+  pub block : b ≡ getD (freeBlocks W (blocks s) (s .taken)) 0 0

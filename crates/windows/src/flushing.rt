@@ -3,18 +3,21 @@ use super::Target;
 use answers::Refusal;
 use card::Free;
 use state::Buffer;
+use state::Partition;
 use state::Partitions;
 use state::State;
 ghost use mathlib.Core.Bool.{true};
+ghost use mathlib.Core.List.{[], _∷_, _++_};
 ghost use mathlib.Core.Path.{_≡_};
-ghost use Prim.Native.Nat.{_≤_};
+ghost use Prim.Native.Nat.{_≤_, _<_};
 ghost use lib.ListN.{length};
 ghost use Rattle.lists.specs.Lists.{empty, totalBy};
-ghost use Rattle.words.specs.Words.{words as wordsOf};
-ghost use Rattle.state.specs.Views.{buffered, finished};
+ghost use Rattle.words.specs.Words.{words as wordsOf, bytes};
+ghost use Rattle.state.specs.Views.{buffered, finished, partitionsOf};
 ghost use Rattle.state.specs.Rules.{stateRule};
 ghost use Rattle.card.specs.Chains.{blocksFor};
-ghost use Rattle.windows.specs.Targets.{targetOf};
+ghost use Rattle.windows.specs.Flush.{flushedTo, flushedCard};
+ghost use Rattle.windows.specs.Targets.{targetOf, Chosen};
 
 // How many blocks hold so many bytes.
 fn blocks_for(length: u32) -> u32
@@ -70,4 +73,33 @@ pub fn target_of(s: State, card: &[u8], wanted: bool) -> Target
         Free::Block(b) => Target::Block(b),
         Free::Nothing => Target::Refused(Refusal::TooFewFree),
     }
+}
+
+// The finished partitions with one of level 0 as the youngest.
+fn list_flush(p: Partitions, block: u16, size: u32) -> Partitions
+    requires { ⌜ (p .used ≤ 51) × (length (finished p) < 51) × (length (p .records) ≡ 51 → p ≡ partitionsOf (finished p)) ⌝ }
+    ensures { λ r. ⌜ r ≡ partitionsOf (finished p ++ (record { first = block; level = 0; length = size } ∷ [])) ⌝ }
+{
+    let q = Partition {
+        first: block,
+        level: 0,
+        length: size,
+    };
+    state::partition_list::append(p, q)
+}
+
+// Writes the buffer to the block that a flush takes. The buffer is empty then, and the partition the youngest.
+pub fn flush_to(s: State, card: &mut [u8], block: u16) -> State
+    requires { ⌜ (stateRule s ≡ true) × (length (now card) ≡ s .lengths .card) × Chosen s (wordsOf (now card)) block ⌝ }
+    ensures { λ r. ⌜ (r ≡ flushedTo s block) × (now (card .exit) ≡ bytes (flushedCard s (wordsOf (now (card .entry))) block)) ⌝ }
+{
+    let size = flushes::flush_length(s.buffer);
+    flushes::write_flush(card, block, s.buffer);
+    let list = list_flush(s.partitions, block, size);
+    let empty = super::empty_buffer();
+    let mut t = s;
+    t.buffer = empty;
+    t.partitions = list;
+    t.taken = block;
+    t
 }

@@ -18,9 +18,11 @@ ghost use lib.ListN.{length, replicate};
 ghost use Rattle.answers.specs.Numbers.{replied, openedAs};
 ghost use Rattle.state.specs.Views.{bufferOf, emptyState};
 ghost use Rattle.state.specs.Rules.{cardLength, registerLength};
-ghost use Rattle.windows.specs.Calls.{startOf, unstarted, openOf, closeOf};
-ghost use Rattle.windows.specs.Promises.{Gives, probeOf};
+ghost use Rattle.windows.specs.Calls.{startOf, unstarted, openOf, closeOf, eventOf, flushOf};
+ghost use Rattle.windows.specs.Verdicts.{verdictOf};
+ghost use Rattle.windows.specs.Promises.{Gives, storeOf, probeOf};
 
+pub mod counting; // judging and counting an event
 pub mod flushing; // judging and writing a flush
 
 // What a call that gives no value answers, and the state after it.
@@ -49,6 +51,12 @@ fn done(s: State) -> Replied
 pub enum Target {
     Nothing,
     Block(u16),
+    Refused(Refusal),
+}
+
+// What an event comes to before anything is written: its identifier's number, or a refusal.
+pub enum Verdict {
+    Number(u16),
     Refused(Refusal),
 }
 
@@ -149,6 +157,28 @@ fn empty_state(card: u32, register: u32, taken: u16) -> State
     }
 }
 
+// Counts an event that is not refused by its verdict, with a flush first where its pair is new to a full buffer.
+fn count(s: State, card: &mut [u8], register: &mut [u8], id: &[u8], i: u16) -> Replied
+    requires { ⌜ Verdict.Number i ≡ verdictOf s (length (now card)) (now register) (now id) ⌝ }
+    ensures { λ r. ⌜ Gives (probeOf s (now (card .entry)) (now (register .entry))) (eventOf (probeOf s (now (card .entry)) (now (register .entry))) (now (id .entry)))
+        (replied (r .reply)) (probeOf (r .state) (now (card .exit)) (now (register .exit))) ⌝ }
+{
+    let wanted = counting::must_flush(s.buffer, i, s.windows.current);
+    let target = flushing::target_of(s, card, wanted);
+    match target {
+        Target::Refused(why) => refuse(s, why),
+        Target::Block(b) => {
+            let t = flushing::flush_to(s, card, b);
+            counting::note(register, id, i);
+            done(counting::count_event(t, i))
+        }
+        Target::Nothing => {
+            counting::note(register, id, i);
+            done(counting::count_event(s, i))
+        }
+    }
+}
+
 // A fresh card, register and state.
 pub fn start(card: &mut [u8], register: &mut [u8]) -> Replied
     ensures { λ r. ⌜ Gives (unstarted (now (card .entry)) (now (register .entry))) (startOf (now (card .entry)) (now (register .entry)))
@@ -230,4 +260,34 @@ pub fn close_window(s: State) -> Replied
     t.windows = w;
     t.listed = l;
     done(t)
+}
+
+// One event of an identifier in the open window. The register gets a new identifier only where the event is counted.
+pub fn event(s: State, card: &mut [u8], register: &mut [u8], id: &[u8]) -> Replied
+    ensures { λ r. ⌜ Gives (probeOf s (now (card .entry)) (now (register .entry))) (eventOf (probeOf s (now (card .entry)) (now (register .entry))) (now (id .entry)))
+        (replied (r .reply)) (probeOf (r .state) (now (card .exit)) (now (register .exit))) ⌝ }
+{
+    let verdict = counting::judge_event(s, card.len(), register, id);
+    match verdict {
+        Verdict::Refused(why) => refuse(s, why),
+        Verdict::Number(i) => count(s, card, register, id, i),
+    }
+}
+
+// The buffer is written as one partition; an empty one writes nothing.
+pub fn flush(s: State, card: &mut [u8]) -> Replied
+    ensures { λ r. ⌜ Gives (storeOf s (now (card .entry))) (flushOf (storeOf s (now (card .entry)))) (replied (r .reply)) (storeOf (r .state) (now (card .exit))) ⌝ }
+{
+    if !state::state_ok(s) {
+        return refuse(s, Refusal::BrokenState);
+    }
+    if card.len() != s.lengths.card as usize {
+        return refuse(s, Refusal::WrongLength);
+    }
+    let target = flushing::target_of(s, card, true);
+    match target {
+        Target::Refused(why) => refuse(s, why),
+        Target::Block(b) => done(flushing::flush_to(s, card, b)),
+        Target::Nothing => done(s),
+    }
 }

@@ -1,0 +1,30 @@
+use mathlib.Core.Path.{_≡_}
+use native.Mathlib.Omega.{arith}
+use lib.ListN.{length}
+use lib.Seq.{length-take-le}
+use borrow.Author.Needs.{needs}
+use borrow.Author.Tests.{eq-eqb, ne-eqb}
+use Rattle.lists.proofs.Arrays.{unmapped}
+use Rattle.windows.proofs.counting.must_flush.Statement.{statement}
+use Rattle.windows.proofs.counting.must_flush.Tie as tie
+
+returns : tie.Need-returns
+returns c =
+    let a = c .before .before in
+    let b = a .args .b in
+    let long : length (b .postings) ≡ 128 = search (unmapped, needs) in
+    rw (length-take-le (b .used) (b .postings) (omega (arith, a .pre)), ne-eqb (b .used) 128 (c .if1 .taken))
+
+holds-pair-requires : tie.Need-holds-pair-requires
+holds-pair-requires c κs = search needs
+
+returns-2 : tie.Need-returns-2
+returns-2 c =
+    let d = c .before in
+    let a = d .before .before in
+    let b = a .args .b in
+    let long : length (b .postings) ≡ 128 = search (unmapped, needs) in
+    rw (length-take-le (b .used) (b .postings) (omega (arith, a .pre)), eq-eqb (b .used) 128 (d .if1 .left), c .holds-pair .ensures)
+
+pub must-flush-spec : {M : Type 1} → statement M
+must-flush-spec = tie.close (tie.spec returns holds-pair-requires returns-2)

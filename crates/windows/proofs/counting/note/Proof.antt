@@ -1,0 +1,46 @@
+use mathlib.Core.Path.{_≡_, refl}
+use Prim.Native.Nat.{_≤_, _<_}
+use native.Mathlib.Omega.{arith}
+use lib.ListN.{length}
+use borrow.Author.Needs.{needs}
+use borrow.Author.Tests.{le-leb, lt-leb}
+use Rattle.identifiers.specs.Names.{numberOf}
+use Rattle.identifiers.specs.Register.{names}
+use Rattle.windows.specs.Verdicts.{noted}
+use Rattle.windows.proofs.counting.note.Statement.{statement}
+use Rattle.windows.proofs.counting.note.Tie as tie
+
+used-entries-requires : tie.Need-used-entries-requires
+used-entries-requires c κs = search needs
+
+add-requires : tie.Need-add-requires
+add-requires c κs = search needs
+
+same-length : tie.Need-same-length
+same-length c = search needs
+
+returns : tie.Need-returns
+unfolding noted
+returns c =
+    let d = c .before .before in
+    let b = d .before .before in
+    let a = b .before .before .before .before .before in
+    let m = names (a .args .register .now) in
+    let h : length m ≤ numberOf m (a .args .id .now) = omega (arith, b .if1 .taken, b .before .used-entries .ensures, a .pre .2) in
+    rw (le-leb (length m) (numberOf m (a .args .id .now)) h) (d .add .ensures)
+
+same-length-2 : tie.Need-same-length-2
+same-length-2 c = search needs
+
+returns-2 : tie.Need-returns-2
+unfolding noted
+returns-2 c =
+    let a = c .before .before .before .before .before in
+    let m = names (a .args .register .now) in
+    let h : numberOf m (a .args .id .now) < length m = omega (arith, c .if1 .left, c .before .used-entries .ensures, a .pre .2) in
+    rw (lt-leb (length m) (numberOf m (a .args .id .now)) h)
+
+pub note-spec : {M : Type 1} → statement M
+note-spec =
+    tie.close
+    (tie.spec used-entries-requires add-requires same-length returns same-length-2 returns-2)

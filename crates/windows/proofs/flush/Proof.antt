@@ -1,0 +1,149 @@
+use mathlib.Core.Bool.{not}
+use mathlib.Core.Path.{_≡_, refl, sym, ap, _∙_}
+use denote.Enum.Declared.{tagOf}
+use borrow.Author.Needs.{needs}
+use borrow.Author.Tests.{eq-eqb, ne-eqb, not-false}
+use Rattle.words.specs.Words.{words}
+use Rattle.windows.specs.Calls.{flushOf}
+use Rattle.windows.proofs.Target.{the-type}
+use Rattle.windows.proofs.Outcomes.{stopped, passed}
+use Rattle.windows.proofs.Targets.{chosen}
+use Rattle.windows.proofs.Flushes.{flush-refused, flush-nothing, flush-written, nothing-told}
+use Rattle.windows.proofs.flush.Statement.{statement}
+use Rattle.windows.proofs.flush.Tie as tie
+
+state-ok-requires : tie.Need-state-ok-requires
+state-ok-requires c κs = search needs
+
+refuse-requires : tie.Need-refuse-requires
+refuse-requires c κs = search needs
+
+returns : tie.Need-returns
+unfolding flushOf
+returns c =
+    let a = c .before in
+    rw (c .refuse .ensures) (stopped _ 1 _ (ap not (sym (a .before .state-ok .ensures)) ∙ a .if1 .taken))
+
+cast-if2 : tie.Need-cast-if2
+cast-if2 c = search needs
+
+refuse-requires-2 : tie.Need-refuse-requires-2
+refuse-requires-2 c κs = search needs
+
+returns-2 : tie.Need-returns-2
+unfolding flushOf
+returns-2 c =
+    let b = c .before in
+    let a = b .before .before in
+    rw (c .refuse2 .ensures)
+    (passed _ 1 _ (ap not (sym (a .before .state-ok .ensures)) ∙ a .if1 .left) (stopped _ 2 _ (ap not (ne-eqb _ _ (b .if2 .taken)))))
+
+target-of-requires : tie.Need-target-of-requires
+target-of-requires c κs =
+    let b = c .before in
+    let a = b .before .before in
+    (sym (a .before .state-ok .ensures) ∙ not-false _ (a .if1 .left), b .if2 .left)
+
+enum-known-target : tie.Need-enum-known-target
+enum-known-target c = search needs
+
+refuse-requires-3 : tie.Need-refuse-requires-3
+refuse-requires-3 c κs = search needs
+
+enum-known-target-2 : tie.Need-enum-known-target-2
+enum-known-target-2 c = search needs
+
+flush-to-requires : tie.Need-flush-to-requires
+flush-to-requires c κs =
+    let t = c .before .before in
+    let m = t .before .before in
+    let b = m .before .before in
+    let a = b .before .before in
+    let s = a .before .before .before .args in (
+      sym (a .before .state-ok .ensures) ∙ not-false _ (a .if1 .left),
+      b .if2 .left,
+      chosen _ (s .s) (words (s .card .now)) (t .target2 .given .0 .0) (sym (m .target-of .ensures) ∙ t .target2 .given .1),
+    )
+
+done-requires : tie.Need-done-requires
+done-requires c κs = search needs
+
+enum-told : tie.Need-enum-told
+enum-told c = search needs
+
+done-requires-2 : tie.Need-done-requires-2
+done-requires-2 c κs = search needs
+
+same-length : tie.Need-same-length
+same-length c = search needs
+
+returns-3 : tie.Need-returns-3
+unfolding flushOf
+returns-3 c =
+    let t = c .before .before in
+    let m = t .before .before in
+    let b = m .before .before in
+    let a = b .before .before in
+    let s = a .before .before .before .args in
+    rw (c .refuse3 .ensures)
+    (passed _ 1 _ (ap not (sym (a .before .state-ok .ensures)) ∙ a .if1 .left)
+    (passed _ 2 _ (ap not (eq-eqb _ _ (b .if2 .left)))
+    (flush-refused (s .s) (s .card .now) (t .target .given .0 .0) (sym (t .target .given .1) ∙ m .target-of .ensures))))
+
+same-length-2 : tie.Need-same-length-2
+same-length-2 c = search needs
+
+returns-4 : tie.Need-returns-4
+unfolding flushOf
+returns-4 c =
+    let f = c .before .before .before in
+    let t = f .before .before .before in
+    let m = t .before .before in
+    let b = m .before .before in
+    let a = b .before .before in
+    let s = a .before .before .before .args in
+    rw (c .done .ensures, f .flush-to .ensures .0, f .flush-to .ensures .1)
+    (passed _ 1 _ (ap not (sym (a .before .state-ok .ensures)) ∙ a .if1 .left)
+    (passed _ 2 _ (ap not (eq-eqb _ _ (b .if2 .left)))
+    (flush-written (s .s) (s .card .now) (t .target2 .given .0 .0) (sym (t .target2 .given .1) ∙ m .target-of .ensures))))
+
+same-length-3 : tie.Need-same-length-3
+same-length-3 c = search needs
+
+returns-5 : tie.Need-returns-5
+unfolding flushOf
+returns-5 c =
+    let k = c .before .before in
+    let m = k .before in
+    let b = m .before .before in
+    let a = b .before .before in
+    let s = a .before .before .before .args in
+    rw (c .done2 .ensures)
+    (passed _ 1 _ (ap not (sym (a .before .state-ok .ensures)) ∙ a .if1 .left)
+    (passed _ 2 _ (ap not (eq-eqb _ _ (b .if2 .left)))
+    (flush-nothing (s .s) (s .card .now) (sym (nothing-told (tagOf the-type) (λ x. refl) (λ x. refl) (m .target-of .result) (k .match .keys3)) ∙ m .target-of .ensures))))
+
+pub flush-spec : {M : Type 1} → statement M
+flush-spec =
+    tie.close
+    (tie.spec
+    state-ok-requires
+    refuse-requires
+    returns
+    cast-if2
+    refuse-requires-2
+    returns-2
+    target-of-requires
+    enum-known-target
+    refuse-requires-3
+    enum-known-target-2
+    flush-to-requires
+    done-requires
+    enum-told
+    done-requires-2
+    same-length
+    returns-3
+    same-length-2
+    returns-4
+    same-length-3
+    returns-5)

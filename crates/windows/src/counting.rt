@@ -1,0 +1,157 @@
+// An event: judged first, and then counted.
+use super::Verdict;
+use answers::Refusal;
+use postings::Posting;
+use state::Buffer;
+use state::Listed;
+use state::State;
+use state::Windows;
+ghost use mathlib.Core.Bool.{true, false, _&&_, not, cond};
+ghost use mathlib.Core.List.{[], _∷_, _++_};
+ghost use mathlib.Core.Path.{_≡_};
+ghost use Prim.Native.Nat.{suc, _+_, _*_, _≤_, _<_};
+ghost use lib.Dec.{eqb, leb};
+ghost use lib.ListN.{length};
+ghost use Rattle.lists.specs.Lists.{any, elem};
+ghost use Rattle.postings.specs.Order.{samePair};
+ghost use Rattle.postings.specs.Merge.{put};
+ghost use Rattle.state.specs.Views.{entries, listed, listedOf, buffered, bufferOf};
+ghost use Rattle.state.specs.Rules.{windowsRule, bufferRule, stateRule};
+ghost use Rattle.buffer.specs.Places.{pair};
+ghost use Rattle.identifiers.specs.Names.{badLength, numberOf};
+ghost use Rattle.identifiers.specs.Register.{names, registerRule};
+ghost use Rattle.windows.specs.Calls.{counted};
+ghost use Rattle.windows.specs.Verdicts.{turnOf, verdictOf, noted, Countable};
+
+// Would the identifier be a 65th?
+fn is_full(l: Listed, i: u16) -> bool
+    requires { ⌜ l .used ≤ 64 ⌝ }
+    ensures { λ r. ⌜ r ≡ (not (elem i (listed l)) && leb 64 (length (listed l))) ⌝ }
+{
+    if state::ids::is_listed(l, i) {
+        return false;
+    }
+    l.used >= 64
+}
+
+// Judges an event by its turn: the open window, its events, and the room for its identifier. A new identifier gets the number of those
+// that there are, which is one of the register's places unless that is full.
+fn judge_turn(s: State, register: &[u8], id: &[u8]) -> Verdict
+    requires { ⌜ (stateRule s ≡ true) × (length (now register) ≡ s .lengths .register) × (registerRule (now register) ≡ true) ⌝ }
+    ensures { λ r. ⌜ r ≡ turnOf s (now (register .entry)) (now (id .entry)) ⌝ }
+{
+    if s.windows.current == 0 {
+        return Verdict::Refused(Refusal::OutOfTurn);
+    }
+    if s.windows.events >= 32767 {
+        return Verdict::Refused(Refusal::Exhausted);
+    }
+    let i = identifiers::find(register, id);
+    if i >= register.len() / 65 {
+        return Verdict::Refused(Refusal::RegisterFull);
+    }
+    if is_full(s.listed, i as u16) {
+        return Verdict::Refused(Refusal::WindowFull);
+    }
+    Verdict::Number(i as u16)
+}
+
+// Judges an event, for a card of so many bytes.
+pub fn judge_event(s: State, bytes: usize, register: &[u8], id: &[u8]) -> Verdict
+    ensures { λ r. ⌜ r ≡ verdictOf s bytes (now (register .entry)) (now (id .entry)) ⌝ }
+{
+    if !state::state_ok(s) {
+        return Verdict::Refused(Refusal::BrokenState);
+    }
+    if bytes != s.lengths.card as usize {
+        return Verdict::Refused(Refusal::WrongLength);
+    }
+    if register.len() != s.lengths.register as usize {
+        return Verdict::Refused(Refusal::WrongLength);
+    }
+    if !identifiers::register_ok(register) {
+        return Verdict::Refused(Refusal::Malformed);
+    }
+    if identifiers::bad_length(id) {
+        return Verdict::Refused(Refusal::BadIdentifier);
+    }
+    judge_turn(s, register, id)
+}
+
+// Is the pair new to a full buffer?
+pub fn must_flush(b: Buffer, i: u16, window: u16) -> bool
+    requires { ⌜ b .used ≤ 128 ⌝ }
+    ensures { λ r. ⌜ r ≡ (eqb (length (buffered b)) 128 && not (any (samePair (pair i window)) (buffered b))) ⌝ }
+{
+    if b.used != 128 {
+        return false;
+    }
+    !buffer::holds_pair(b, i, window)
+}
+
+// One event more in the open window, which exists from its first.
+fn count_window(w: Windows) -> Windows
+    requires { ⌜ (windowsRule w ≡ true) × (1 ≤ w .current) × (w .events < 32767) ⌝ }
+    ensures { λ r. ⌜ r ≡ record { last = w .last; live = cond (eqb (w .events) 0) (suc (w .live)) (w .live); current = w .current; events = suc (w .events) } ⌝ }
+{
+    let mut live = w.live;
+    if w.events == 0 {
+        live += 1;
+    }
+    Windows {
+        last: w.last,
+        live: live,
+        current: w.current,
+        events: w.events + 1,
+    }
+}
+
+// The identifier listed at its first event in the window.
+fn count_listed(l: Listed, i: u16) -> Listed
+    requires { ⌜ (l .used ≤ 64) × (length (l .ids) ≡ 64 → l ≡ listedOf (listed l)) × (elem i (listed l) ≡ false → length (listed l) < 64) ⌝ }
+    ensures { λ r. ⌜ r ≡ listedOf (cond (elem i (listed l)) (listed l) (listed l ++ (i ∷ []))) ⌝ }
+{
+    if state::ids::is_listed(l, i) {
+        return l;
+    }
+    state::ids::list_id(l, i)
+}
+
+// One count more of the identifier in the open window.
+fn count_pair(b: Buffer, w: Windows, i: u16) -> Buffer
+    requires { ⌜ (bufferRule w b ≡ true) × (w .events < 32767) × (any (samePair (pair i (w .current))) (buffered b) ≡ false → length (buffered b) < 128) ⌝ }
+    ensures { λ r. ⌜ r ≡ bufferOf (put (pair i (w .current)) (buffered b)) ⌝ }
+{
+    let p = Posting {
+        id: i,
+        window: w.current,
+        count: 1,
+    };
+    buffer::add(b, p)
+}
+
+// The event counted.
+pub fn count_event(s: State, i: u16) -> State
+    requires { ⌜ Countable s i ⌝ }
+    ensures { λ r. ⌜ r ≡ counted s i ⌝ }
+{
+    let w = count_window(s.windows);
+    let l = count_listed(s.listed, i);
+    let b = count_pair(s.buffer, s.windows, i);
+    let mut t = s;
+    t.windows = w;
+    t.listed = l;
+    t.buffer = b;
+    t
+}
+
+// The register gets an identifier that it has not.
+pub fn note(register: &mut [u8], id: &[u8], i: u16)
+    requires { ⌜ (registerRule (now register) ≡ true) × (badLength (now id) ≡ false) × (i ≡ numberOf (names (now register)) (now id)) × (65 * i + 65 ≤ length (now register)) ⌝ }
+    ensures { λ r. ⌜ now (register .exit) ≡ noted (now (register .entry)) (now (id .entry)) ⌝ }
+{
+    let used = identifiers::used_entries(register);
+    if i as usize >= used {
+        identifiers::add(register, id, used);
+    }
+}
