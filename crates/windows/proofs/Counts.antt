@@ -6,15 +6,14 @@ use Prim.Native.Nat.{ℕ, zero, suc, _+_, _*_, _/_, _<_, _≤_}
 use native.Mathlib.Omega.{arith}
 use lib.Dec.{eqb, leb}
 use lib.ListN.{length, length-take}
-use borrow.Author.Tests.{leb-true, leb-false, eqb-true, eqb-false, le-leb, lt-leb, eq-eqb, ne-eqb, not-true, not-false}
-use Rattle.lists.specs.Lists.{any, elem, empty}
-use Rattle.lists.proofs.Bools.{by-test, and-left, and-right}
+use borrow.Author.Tests.{leb-true, leb-false, eqb-true, eqb-false, le-leb, lt-leb, not-false}
+use Rattle.lists.specs.Lists.{any, empty}
+use Rattle.lists.proofs.Bools.{by-test}
 use Rattle.postings.specs.Order.{samePair}
 use Rattle.answers.specs.declared.Refusal.{Refusal}
 use Rattle.answers.specs.declared.Refusal.the-variants.{LevelFull, HalfFull}
 use Rattle.state.specs.declared.State.{State}
 use Rattle.state.specs.Views.{blocks, entries, listed, buffered}
-use Rattle.state.specs.Rules.{stateRule}
 use Rattle.state.proofs.Kept.{rules-of, state-kept}
 use Rattle.state.proofs.Forms.{buffer-rule}
 use Rattle.card.specs.Blocks.{freeBlocks}
@@ -24,7 +23,7 @@ use Rattle.identifiers.proofs.Names.{number-within}
 use Rattle.identifiers.proofs.Entries.{names-within, length-entries, rule-formed}
 use Rattle.windows.specs.declared.Target.{Target}
 use Rattle.windows.specs.Flush.{flushedTo}
-use Rattle.windows.specs.Calls.{isOpen, isNew, once, eventFlushes}
+use Rattle.windows.specs.Calls.{isNew, once, eventFlushes}
 use Rattle.windows.specs.Targets.{barIf, firstFree, targetOf}
 use Rattle.windows.specs.Verdicts.{Countable}
 use Rattle.windows.proofs.Targets.{empty-length}

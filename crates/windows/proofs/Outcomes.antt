@@ -2,7 +2,7 @@
 use mathlib.Core.Bool.{Bool, true, false}
 use mathlib.Core.Path.{_≡_, refl}
 use Prim.Native.Nat.{ℕ}
-use Rattle.answers.specs.Answers.{Answer, Outcome, refuse, leave, refuseIf, choose, refused}
+use Rattle.answers.specs.Answers.{Answer, Outcome, leave, refuseIf, choose, refused}
 use Rattle.windows.specs.Promises.{Gives}
 
 module _ {S : Type 0} {s : S} where

@@ -1,16 +1,13 @@
 -- One count more of an identifier in the open window: its buffered count lies between 1 and the window's events, so the sum fits and is not 0.
-use mathlib.Core.Bool.{Bool, true, false}
-use mathlib.Core.List.{List, [], _∷_}
-use mathlib.Core.Path.{_≡_, refl, sym, ap, _∙_}
+use mathlib.Core.Bool.{true, false}
+use mathlib.Core.Path.{_≡_, refl, sym, _∙_}
 use Prim.Native.Nat.{ℕ, zero, suc, _+_, _<_, _≤_}
 use native.Mathlib.Omega.{arith}
-use lib.IntN.{ℤ, pos, negsuc, natAbs, _+ℤ_}
-use lib.ListN.{length}
-use Rattle.lists.specs.Lists.{any, every}
+use lib.IntN.{ℤ, pos, negsuc}
+use Rattle.lists.specs.Lists.{any}
 use Rattle.lists.proofs.Bools.{by-test}
 use Rattle.lists.proofs.Tests.{every-at}
-use Rattle.postings.specs.declared.Posting.{Posting}
-use Rattle.postings.specs.Order.{samePair, ordered}
+use Rattle.postings.specs.Order.{samePair}
 use Rattle.postings.specs.Merge.{isZero, put, nonzero}
 use Rattle.postings.specs.Sums.{sum, above}
 use Rattle.postings.proofs.Order.{same-pair}
@@ -21,7 +18,7 @@ use Rattle.state.specs.Views.{buffered, noPosting}
 use Rattle.state.specs.Rules.{postingRule, bufferRule}
 use Rattle.state.proofs.Kept.{posting-kept, buffer-kept}
 use Rattle.buffer.specs.Places.{pair, rank, postingAt}
-use Rattle.buffer.specs.Canonical.{Canonical, Addable}
+use Rattle.buffer.specs.Canonical.{Addable}
 use Rattle.buffer.proofs.Canonical.{rule-counts}
 use Rattle.buffer.proofs.Ranks.{rank-there}
 use Rattle.buffer.proofs.Puts.{sum-there, added-kept}

@@ -1,11 +1,11 @@
 -- What a judged flush finds: a free block on the card, room in the list of partitions, and counts that fit.
-use mathlib.Core.Bool.{Bool, true, false, cond}
+use mathlib.Core.Bool.{true, cond}
 use mathlib.Core.List.{List, [], _∷_}
-use mathlib.Core.Path.{_≡_, refl, sym}
-use Prim.Native.Nat.{ℕ, zero, suc, _+_, _*_, _<_, _≤_}
+use mathlib.Core.Path.{_≡_, refl}
+use Prim.Native.Nat.{ℕ, zero, suc, _+_, _<_, _≤_}
 use native.Mathlib.Omega.{arith}
 use lib.Dec.{eqb, leb}
-use lib.ListN.{length, getD}
+use lib.ListN.{length}
 use borrow.Author.Tests.{leb-true, le-leb}
 use Rattle.lists.specs.Lists.{every}
 use Rattle.lists.proofs.Bools.{by-test, and-left, and-right}
@@ -16,11 +16,11 @@ use Rattle.state.specs.declared.Partition.{Partition}
 use Rattle.state.specs.declared.Partitions.{Partitions}
 use Rattle.state.specs.declared.State.{State}
 use Rattle.state.specs.Views.{blocks, finished}
-use Rattle.state.specs.Levels.{levels, levelLimit, ofLevel}
+use Rattle.state.specs.Levels.{levelLimit, ofLevel}
 use Rattle.state.specs.Rules.{postingRule, recordRule}
 use Rattle.state.proofs.Kept.{PartitionsKept, record-kept, posting-kept}
 use Rattle.state.proofs.Replaced.{at-levels}
-use Rattle.card.specs.Blocks.{isFree, freeBlocks}
+use Rattle.card.specs.Blocks.{isFree}
 use Rattle.card.proofs.FreeBlocks.{free-at}
 use Rattle.partitions.specs.Formed.{inRange}
 use Rattle.windows.specs.Targets.{Chosen}

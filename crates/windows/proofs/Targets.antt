@@ -1,10 +1,10 @@
 -- What each target says, and that what follows a flush is told by its target.
 use mathlib.Core.Bool.{Bool, true, false, not, _||_}
 use mathlib.Core.List.{List, [], _∷_}
-use mathlib.Core.Path.{_≡_, refl, sym, ap, _∙_}
-use Prim.Native.Nat.{ℕ, zero, suc, _+_, _*_, _<_, _≤_}
+use mathlib.Core.Path.{_≡_, refl, sym, _∙_}
+use Prim.Native.Nat.{ℕ, suc, _*_, _<_, _≤_}
 use native.Mathlib.Omega.{arith}
-use lib.Dec.{eqb, leb, ltb}
+use lib.Dec.{eqb}
 use lib.ListN.{length, getD}
 use borrow.Author.Tests.{ne-eqb, leb-false, ltb-false, le-leb, lt-leb, lt-ltb, le-ltb}
 use Rattle.lists.specs.Lists.{empty}
@@ -12,7 +12,7 @@ use Rattle.lists.proofs.Bools.{by-test}
 use Rattle.words.specs.Words.{words, bytes}
 use Rattle.answers.specs.declared.Refusal.{Refusal}
 use Rattle.answers.specs.declared.Refusal.the-variants.{LevelFull, HalfFull, TooFewFree}
-use Rattle.answers.specs.Answers.{Outcome, refuse, refuseIf, choose}
+use Rattle.answers.specs.Answers.{Outcome, refuseIf, choose}
 use Rattle.answers.specs.Numbers.{refusalNumber}
 use Rattle.state.specs.declared.Partition.{Partition}
 use Rattle.state.specs.declared.State.{State}
@@ -21,7 +21,6 @@ use Rattle.state.specs.Levels.{ofLevel}
 use Rattle.card.specs.declared.Free.{Free}
 use Rattle.card.specs.Free.{firstOf}
 use Rattle.card.specs.Blocks.{freeBlocks}
-use Rattle.card.proofs.FreeBlocks.{free-at}
 use Rattle.windows.specs.declared.Target.{Target}
 use Rattle.windows.specs.Flush.{finishedBlocks, flushing, flushingIf, flushedTo, flushedCard}
 use Rattle.windows.specs.Targets.{barIf, firstFree, targetOf, following, Chosen}

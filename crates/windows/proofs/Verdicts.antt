@@ -1,36 +1,31 @@
 -- What each verdict on an event says, and that what the event comes to is told by its verdict and its flush's target.
-use mathlib.Core.Bool.{Bool, true, false, _&&_, _||_, not, cond}
-use mathlib.Core.List.{List, [], _∷_}
+use mathlib.Core.Bool.{Bool, true, false, _&&_, not}
+use mathlib.Core.List.{List}
 use mathlib.Core.Path.{_≡_, refl, sym, ap, _∙_}
-use Prim.Native.Nat.{ℕ, zero, suc, _+_, _*_, _/_, _<_, _≤_}
+use Prim.Native.Nat.{ℕ, _<_}
 use native.Mathlib.Omega.{arith}
 use lib.Dec.{eqb, leb}
 use lib.ListN.{length}
-use borrow.Author.Tests.{leb-true, leb-false, eqb-true, eqb-false, le-leb, eq-eqb, not-true, not-false}
-use Rattle.lists.specs.Lists.{any, elem, empty}
-use Rattle.lists.proofs.Bools.{by-test, and-left, and-right}
-use Rattle.postings.specs.Order.{samePair}
+use borrow.Author.Tests.{leb-false, eqb-true, not-false}
+use Rattle.lists.specs.Lists.{elem}
+use Rattle.lists.proofs.Bools.{and-left, and-right}
 use Rattle.words.specs.Words.{words, bytes}
 use Rattle.answers.specs.declared.Refusal.{Refusal}
-use Rattle.answers.specs.declared.Refusal.the-variants.{BrokenState, WrongLength, Malformed, BadIdentifier, OutOfTurn, Exhausted, RegisterFull, WindowFull, LevelFull, HalfFull}
-use Rattle.answers.specs.Answers.{Answer, Outcome, refuse, leave, refuseIf, done, refused}
+use Rattle.answers.specs.declared.Refusal.the-variants.{BrokenState, WrongLength, Malformed, BadIdentifier, OutOfTurn, Exhausted, RegisterFull, WindowFull}
+use Rattle.answers.specs.Answers.{Outcome, leave, refuseIf, done, refused}
 use Rattle.answers.specs.Numbers.{refusalNumber}
 use Rattle.state.specs.declared.State.{State}
-use Rattle.state.specs.Views.{entries, listed, buffered}
+use Rattle.state.specs.Views.{entries, listed}
 use Rattle.state.specs.Rules.{stateRule}
 use Rattle.state.specs.Probe.{Probe, sameLength}
-use Rattle.state.proofs.Kept.{Rules, rules-of, Kept, state-kept}
-use Rattle.state.proofs.Forms.{buffer-rule}
 use Rattle.identifiers.specs.Names.{Name, badLength, numberOf}
 use Rattle.identifiers.specs.Register.{names, registerRule}
-use Rattle.identifiers.proofs.Names.{number-within}
-use Rattle.identifiers.proofs.Entries.{names-within, length-entries, rule-formed}
 use Rattle.windows.specs.declared.Target.{Target}
 use Rattle.windows.specs.declared.Verdict.{Verdict}
-use Rattle.windows.specs.Flush.{flushingIf, flushedTo, flushedCard}
-use Rattle.windows.specs.Calls.{isOpen, isNew, once, eventFlushes, counted, eventOf}
-use Rattle.windows.specs.Targets.{barIf, firstFree, targetOf, following}
-use Rattle.windows.specs.Verdicts.{denyIf, turnOf, verdictOf, noted, settled, Countable}
+use Rattle.windows.specs.Flush.{flushedTo, flushedCard}
+use Rattle.windows.specs.Calls.{isOpen, isNew, eventFlushes, counted, eventOf}
+use Rattle.windows.specs.Targets.{targetOf, following}
+use Rattle.windows.specs.Verdicts.{denyIf, turnOf, verdictOf, noted, settled}
 use Rattle.windows.specs.Promises.{Gives, probeOf}
 use Rattle.windows.proofs.Targets.{follows}
 use Rattle.windows.proofs.Flushes.{gives-by, refuses, leaves}

@@ -15,7 +15,7 @@ ghost use lib.ListN.{length};
 ghost use Rattle.lists.specs.Lists.{any, elem};
 ghost use Rattle.postings.specs.Order.{samePair};
 ghost use Rattle.postings.specs.Merge.{put};
-ghost use Rattle.state.specs.Views.{entries, listed, listedOf, buffered, bufferOf};
+ghost use Rattle.state.specs.Views.{listed, listedOf, buffered, bufferOf};
 ghost use Rattle.state.specs.Rules.{windowsRule, bufferRule, stateRule};
 ghost use Rattle.buffer.specs.Places.{pair};
 ghost use Rattle.identifiers.specs.Names.{badLength, numberOf};

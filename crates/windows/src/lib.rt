@@ -242,13 +242,14 @@ pub fn close_window(s: State) -> Replied
     if s.windows.current == 0 {
         return refuse(s, Refusal::OutOfTurn);
     }
+    let live = s.windows.live;
     let mut last = s.windows.last;
     if s.windows.events == 0 {
         last -= 1;
     }
     let w = Windows {
         last: last,
-        live: s.windows.live,
+        live: live,
         current: 0,
         events: 0,
     };

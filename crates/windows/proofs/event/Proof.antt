@@ -1,4 +1,4 @@
-use mathlib.Core.Path.{_≡_, refl, sym, _∙_}
+use mathlib.Core.Path.{sym, _∙_}
 use borrow.Author.Needs.{needs}
 use Rattle.windows.specs.Promises.{probeOf}
 use Rattle.windows.proofs.Verdicts.{event-refused}

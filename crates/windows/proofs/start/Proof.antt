@@ -1,10 +1,9 @@
-use mathlib.Core.Bool.{true, not, _&&_}
-use mathlib.Core.Path.{_≡_, refl, sym, ap, _∙_}
+use mathlib.Core.Bool.{not}
+use mathlib.Core.Path.{refl, sym, ap, _∙_}
 use native.Mathlib.Omega.{arith}
 use lib.ListN.{length}
 use borrow.Author.Needs.{needs}
 use borrow.Author.Tests.{not-false}
-use Rattle.state.specs.Rules.{cardLength, registerLength}
 use Rattle.windows.specs.Calls.{startOf, unstarted, fresh}
 use Rattle.windows.proofs.Outcomes.{stopped, passed, given}
 use Rattle.windows.proofs.Lengths.{lengths-started}
