@@ -26,7 +26,7 @@ use Rattle.walks.specs.declared.Lists.{Lists}
 use Rattle.walks.specs.declared.Run.{Run}
 use Rattle.walks.specs.declared.Walked.the-variants.{Malformed as Faulty, Windows}
 use Rattle.walks.specs.declared.Counted.the-variants.{Malformed, Counts}
-use Rattle.walks.specs.Items.{itemOf, items, cursorsOf, itemLists, itemBuffered, runOf, runItems, Within, groups}
+use Rattle.walks.specs.Items.{itemOf, items, headsOf, cursorsOf, itemLists, itemBuffered, runOf, runItems, Within, groups}
 use Rattle.walks.specs.Judged.{totalZ, counts, formed, risen, size, walkedOf, countsOf}
 use Rattle.walks.proofs.Lengths.{length-lists}
 use Rattle.walks.proofs.Steps.{total-none}
@@ -63,11 +63,11 @@ module _ (W : List ℕ) (ls : Lists) (b : Buffer) (r : Run) where
   none-at-zero e w = (zero-lists W 65536 (cursorsOf ls) e, (rw (zero-run (runOf b r) w), tt))
 
   -- the lists have as many postings as their cursors say, and the run as many as its places
-  pub size-groups : length (b .postings) ≡ 128 → Within r → totalBy (λ c. c .left) (cursorsOf ls) + (r .end - r .at) ≡ size (groups W ls b r)
+  pub size-groups : length (b .postings) ≡ 128 → Within r → totalBy (λ h. h .cursor .left) (headsOf ls) + (r .end - r .at) ≡ size (groups W ls b r)
   unfolding runItems
   size-groups len h =
       let n : length (map itemBuffered (runOf b r)) ≡ r .end - r .at = length-map (runOf b r) itemBuffered ∙ length-slice (r .at) (r .end) (b .postings) (omega (arith, h .inside)) in
-      omega (arith, length-lists W (cursorsOf ls))
+      omega (arith, length-lists W (headsOf ls))
 
 -- ---- at most 65,535 windows count
 

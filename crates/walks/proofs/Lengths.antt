@@ -15,18 +15,19 @@ use Rattle.keyed.specs.Keys.{Item, falls, allFall}
 use Rattle.card.specs.declared.Cursor.{Cursor}
 use Rattle.card.specs.Cursors.{ahead}
 use Rattle.card.proofs.Cursors.{length-ahead}
-use Rattle.walks.specs.Items.{itemOf, items, noCursor}
+use Rattle.walks.specs.declared.Head.{Head}
+use Rattle.walks.specs.Items.{itemOf, items, noHead}
 
--- what cursors have still to come, added up
-abbrev left : List Cursor → ℕ
-left l = totalBy (λ c. c .left) l
+-- what heads have still to come, added up
+abbrev left : List Head → ℕ
+left l = totalBy (λ h. h .cursor .left) l
 
--- ---- the turns of the sum over an array of cursors, of which the first n are used
+-- ---- the turns of the sum over an array of heads, of which the first n are used
 
-module _ (all : List Cursor) (n i : ℕ) (fits : n ≤ length all) where
+module _ (all : List Head) (n i : ℕ) (fits : n ≤ length all) where
   -- one turn
-  pub left-on : i < n → left (drop i (take n all)) ≡ getD all i noCursor .left + left (drop (i + 1) (take n all))
-  left-on h = used-turn left all n i noCursor fits h refl
+  pub left-on : i < n → left (drop i (take n all)) ≡ getD all i noHead .cursor .left + left (drop (i + 1) (take n all))
+  left-on h = used-turn left all n i noHead fits h refl
 
   -- the end
   pub left-end : n ≤ i → left (drop i (take n all)) ≡ 0
@@ -49,14 +50,14 @@ module _ (W : List ℕ) where
   length-items c = length-map (ahead W c) itemOf ∙ length-ahead W c
 
   -- cursors on lists that fall have few to come
-  pub lefts-short : (m : ℕ) (cs : List Cursor) → allFall m (map (items W) cs) ≡ true → AllOf (λ c. c .left ≤ m) cs
+  pub lefts-short : (m : ℕ) (hs : List Head) → allFall m (map (items W) (map (λ h. h .cursor) hs)) ≡ true → AllOf (λ h. h .cursor .left ≤ m) hs
   unfolding AllOf
   lefts-short m [] e = tt
-  lefts-short m (c ∷ cs) e =
-      let h = falls-short m (items W c) (and-left _ _ e) in
-      (omega (arith, length-items c), lefts-short m cs (and-right (falls m (items W c)) _ e))
+  lefts-short m (h ∷ hs) e =
+      let n = falls-short m (items W (h .cursor)) (and-left _ _ e) in
+      (omega (arith, length-items (h .cursor)), lefts-short m hs (and-right (falls m (items W (h .cursor))) _ e))
 
   -- all lists have as many as their cursors say
-  pub length-lists : (cs : List Cursor) → totalBy length (map (items W) cs) ≡ left cs
+  pub length-lists : (hs : List Head) → totalBy length (map (items W) (map (λ h. h .cursor) hs)) ≡ left hs
   length-lists [] = refl
-  length-lists (c ∷ cs) = ap₂ _+_ (length-items c) (length-lists cs)
+  length-lists (h ∷ hs) = ap₂ _+_ (length-items (h .cursor)) (length-lists hs)

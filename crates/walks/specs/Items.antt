@@ -1,6 +1,7 @@
 -- The lists of one identifier as lists of items by window: what cursors on the card and a run of the buffer have still to come.
 use mathlib.Core.Bool.{true, cond, _&&_}
 use mathlib.Core.List.{List, [], _∷_, map}
+use mathlib.Core.Path.{_≡_}
 use Prim.Native.Nat.{ℕ, suc, _+_, _≤_}
 use lib.Dec.{ltb, eqb}
 use lib.ListN.{take}
@@ -13,6 +14,7 @@ use Rattle.postings.specs.Pack.{wordCount, wordWindow, isPosting, posted}
 use Rattle.state.specs.declared.Buffer.{Buffer}
 use Rattle.card.specs.declared.Cursor.{Cursor}
 use Rattle.card.specs.Cursors.{ahead, Good, headOf, movedOf}
+use Rattle.walks.specs.declared.Head.{Head}
 use Rattle.walks.specs.declared.Lists.{Lists}
 use Rattle.walks.specs.declared.Run.{Run}
 
@@ -34,22 +36,46 @@ listAt W i c = map (posted i) (ahead W c)
 unfoldable pub restOf : List ℕ → ℕ → Cursor → Cursor
 restOf W k c = cond (ltb 0 (c .left) && eqb (wordWindow (headOf W c)) k) (movedOf W c) c
 
--- the cursors in use
+-- the head at a cursor: its first word is kept, 0 where there is none
+abbrev pub headAt : List ℕ → Cursor → Head
+headAt W c = record { cursor = c; word = cond (ltb 0 (c .left)) (headOf W c) 0 }
+
+-- what a head has still to come, itself the first
+abbrev pub itemsAt : List ℕ → Head → List Item
+itemsAt W h = items W (h .cursor)
+
+-- one more than its window, 0 where the list is spent
+abbrev pub reachAt : Head → ℕ
+reachAt h = cond (ltb 0 (h .cursor .left)) (wordWindow (h .word) + 1) 0
+
+-- the head past it, if it has the window k
+abbrev pub restHead : List ℕ → ℕ → Head → Head
+restHead W k h = headAt W (restOf W k (h .cursor))
+
+-- a cursor on blocks of the card, and the word that is there
+pub record Kept (W : List ℕ) (h : Head) : Type 0 where
+  pub good : Good W (h .cursor)
+  pub same : h ≡ headAt W (h .cursor)
+
+-- the heads in use, and their cursors
+abbrev pub headsOf : Lists → List Head
+headsOf ls = take (ls .used) (ls .heads)
+
 abbrev pub cursorsOf : Lists → List Cursor
-cursorsOf ls = take (ls .used) (ls .cursors)
+cursorsOf ls = map (λ h. h .cursor) (headsOf ls)
 
 -- what they have still to come
 abbrev pub itemLists : List ℕ → Lists → List (List Item)
 itemLists W ls = map (items W) (cursorsOf ls)
 
--- at most 51 are in use, and each is a cursor on blocks of the card
+-- at most 51 are in use, and each is kept
 pub record Ready (W : List ℕ) (ls : Lists) : Type 0 where
   pub few : ls .used ≤ 51
-  pub good : AllOf (Good W) (cursorsOf ls)
+  pub heads : AllOf (Kept W) (headsOf ls)
 
 -- a place that is not used
-abbrev pub noCursor : Cursor
-noCursor = record { block = 0; word = 0; left = 0 }
+abbrev pub noHead : Head
+noHead = record { cursor = record { block = 0; word = 0; left = 0 }; word = 0 }
 
 -- ---- the buffer's run
 

@@ -23,14 +23,20 @@ ghost use Rattle.card.specs.Cursors.{Good};
 ghost use Rattle.partitions.specs.Reading.{postingsOf};
 ghost use Rattle.partitions.specs.Formed.{inRange, partitionsFormed};
 ghost use Rattle.partitions.specs.Terms.{Readable};
-ghost use Rattle.walks.specs.Items.{items, listAt, restOf, cursorsOf, itemLists, Ready, runOf, runItems, Within, restRun, lower as lowerOf, groups};
+ghost use Rattle.walks.specs.Items.{listAt, itemsAt, headAt, reachAt, restHead, Kept, headsOf, cursorsOf, itemLists, Ready, runOf, runItems, Within, restRun, lower as lowerOf, groups};
 ghost use Rattle.walks.specs.Judged.{totalZ, inRanges, walkedOf, countsOf};
 ghost use Rattle.walks.specs.Counts.{countedOf};
 
-// A cursor on each list of an identifier on the card.
+// A cursor on a list, and the word at its head, so that no word is read twice; 0 where the list is spent.
+pub struct Head {
+    pub cursor: Cursor,
+    pub word: u32,
+}
+
+// The head of each list of an identifier on the card.
 pub struct Lists {
     pub used: u16,
-    pub cursors: [Cursor; 51],
+    pub heads: [Head; 51],
 }
 
 // The buffer's postings of an identifier: the places from `at` to before `end`.
@@ -39,9 +45,9 @@ pub struct Run {
     pub end: u16,
 }
 
-// What is taken of one list under a window: the cursor past it, the count, and whether the posting is well formed.
+// What is taken of one list under a window: the head past it, the count, and whether the posting is well formed.
 struct Taken {
-    pub cursor: Cursor,
+    pub head: Head,
     pub count: i16,
     pub fine: bool,
 }
@@ -79,54 +85,68 @@ pub enum Counted {
     Counts(u16, u32),
 }
 
-// One more than the window at a list's head, 0 where the list is spent.
-fn reach(card: &[u8], c: Cursor) -> u32
+// The head at a cursor.
+fn head_of(card: &[u8], c: Cursor) -> Head
     requires { ⌜ Good (wordsOf (now card)) c ⌝ }
-    ensures { λ r. ⌜ r ≡ reachOf (items (wordsOf (now (card .entry))) c) ⌝ }
+    ensures { λ r. ⌜ r ≡ headAt (wordsOf (now (card .entry))) c ⌝ }
 {
     let left = c.left;
     if left == 0 {
-        return 0;
+        return Head { cursor: c, word: 0 };
     }
     let word = card::head(card, c);
-    word / 65536 + 1
+    Head {
+        cursor: c,
+        word: word,
+    }
+}
+
+// One more than the window at a list's head, 0 where the list is spent.
+fn reach(h: Head) -> u32
+    ensures { λ r. ⌜ r ≡ reachAt h ⌝ }
+{
+    let c = h.cursor;
+    if c.left == 0 {
+        return 0;
+    }
+    h.word / 65536 + 1
 }
 
 // The head of a list, if it has the window w.
-fn took(card: &[u8], c: Cursor, w: u32) -> Taken
-    requires { ⌜ Good (wordsOf (now card)) c ⌝ }
-    ensures { λ r. ⌜ (r .cursor ≡ restOf (wordsOf (now (card .entry))) w c)
-        × (r .count ≡ headVal w (items (wordsOf (now (card .entry))) c))
-        × (r .fine ≡ headFine w (items (wordsOf (now (card .entry))) c)) ⌝ }
+fn took(card: &[u8], h: Head, w: u32) -> Taken
+    requires { ⌜ Kept (wordsOf (now card)) h ⌝ }
+    ensures { λ r. ⌜ (r .head ≡ restHead (wordsOf (now (card .entry))) w h)
+        × (r .count ≡ headVal w (itemsAt (wordsOf (now (card .entry))) h))
+        × (r .fine ≡ headFine w (itemsAt (wordsOf (now (card .entry))) h)) ⌝ }
 {
-    let left = c.left;
-    if left == 0 {
+    let c = h.cursor;
+    if c.left == 0 {
         return Taken {
-            cursor: c,
+            head: h,
             count: 0,
             fine: true,
         };
     }
-    let word = card::head(card, c);
+    let word = h.word;
     if word / 65536 == w {
-        let next = card::moved(card, c);
+        let next = head_of(card, card::moved(card, c));
         let p = postings::unpack(0, word);
         let fine = postings::is_posting(word);
         Taken {
-            cursor: next,
+            head: next,
             count: p.count,
             fine: fine,
         }
     } else {
         Taken {
-            cursor: c,
+            head: h,
             count: 0,
             fine: true,
         }
     }
 }
 
-// One more than the highest window at any head, 0 where all lists are spent.
+// One more than the highest window at any head, 0 where all lists are spent. The promise is over the card, which is not read: the heads keep their words.
 pub fn top_window(card: &[u8], ls: Lists) -> u32
     requires { ⌜ Ready (wordsOf (now card)) ls ⌝ }
     ensures { λ r. ⌜ r ≡ topFrom 0 (itemLists (wordsOf (now (card .entry))) ls) ⌝ }
@@ -135,8 +155,8 @@ pub fn top_window(card: &[u8], ls: Lists) -> u32
     let mut top: u32 = 0;
     let mut i: usize = 0;
     while i < n {
-        let c = ls.cursors[i];
-        let r = reach(card, c);
+        let h = ls.heads[i];
+        let r = reach(h);
         if top < r {
             top = r;
         }
@@ -164,7 +184,7 @@ fn both(a: bool, b: bool) -> bool
 pub fn take_window(card: &[u8], ls: Lists, w: u32) -> Window
     requires { ⌜ Ready (wordsOf (now card)) ls ⌝ }
     ensures { λ r. ⌜ (r .lists .used ≡ ls .used)
-        × (cursorsOf (r .lists) ≡ map (restOf (wordsOf (now (card .entry))) w) (cursorsOf ls))
+        × (headsOf (r .lists) ≡ map (restHead (wordsOf (now (card .entry))) w) (headsOf ls))
         × (r .sum ≡ headVals w (itemLists (wordsOf (now (card .entry))) ls))
         × (r .fine ≡ headsFine w (itemLists (wordsOf (now (card .entry))) ls))
         × (mag (r .sum) ≤ 1671168) ⌝ }
@@ -175,10 +195,10 @@ pub fn take_window(card: &[u8], ls: Lists, w: u32) -> Window
     let mut fine = true;
     let mut k: usize = 0;
     while k < n {
-        let c = ls.cursors[k];
-        let t = took(card, c, w);
-        let moved = t.cursor;
-        next.cursors[k] = moved;
+        let h = ls.heads[k];
+        let t = took(card, h, w);
+        let moved = t.head;
+        next.heads[k] = moved;
         sum = added(sum, t.count);
         fine = both(fine, t.fine);
         k += 1;
@@ -280,7 +300,7 @@ fn larger(a: u32, b: u32) -> u32
 fn take_step(card: &[u8], ls: Lists, b: Buffer, run: Run, w: u32) -> Step
     requires { ⌜ Ready (wordsOf (now card)) ls × Within run ⌝ }
     ensures { λ r. ⌜ (r .lists .used ≡ ls .used)
-        × (cursorsOf (r .lists) ≡ map (restOf (wordsOf (now (card .entry))) w) (cursorsOf ls))
+        × (headsOf (r .lists) ≡ map (restHead (wordsOf (now (card .entry))) w) (headsOf ls))
         × (r .run ≡ restRun b w run)
         × (r .fine ≡ (headsFineAll w (groups (wordsOf (now (card .entry))) ls b run) && inRanges (map (headVals w) (groups (wordsOf (now (card .entry))) ls b run))))
         × (r .counts ≡ isAbove (totalZ (map (headVals w) (groups (wordsOf (now (card .entry))) ls b run)))) ⌝ }
@@ -337,14 +357,15 @@ fn walk(card: &[u8], ls: Lists, b: Buffer, run: Run) -> Walked
 
 // How many postings the lists have to come.
 fn total_left(ls: Lists) -> u32
-    requires { ⌜ (ls .used ≤ 51) × AllOf (λ c. c .left ≤ 65536) (cursorsOf ls) ⌝ }
-    ensures { λ r. ⌜ (r ≡ totalBy (λ c. c .left) (cursorsOf ls)) × (r ≤ 3342336) ⌝ }
+    requires { ⌜ (ls .used ≤ 51) × AllOf (λ h. h .cursor .left ≤ 65536) (headsOf ls) ⌝ }
+    ensures { λ r. ⌜ (r ≡ totalBy (λ h. h .cursor .left) (headsOf ls)) × (r ≤ 3342336) ⌝ }
 {
     let n = ls.used as usize;
     let mut total: u32 = 0;
     let mut i: usize = 0;
     while i < n {
-        let c = ls.cursors[i];
+        let h = ls.heads[i];
+        let c = h.cursor;
         total += c.left;
         i += 1;
     }
@@ -367,7 +388,7 @@ pub fn count_lists(card: &[u8], ls: Lists, b: Buffer, run: Run) -> Counted
     }
 }
 
-// A cursor on the identifier's list in each finished partition.
+// The head of the identifier's list in each finished partition.
 fn open_lists(card: &[u8], ps: Partitions, id: u16) -> Lists
     requires { ⌜ (ps .used ≤ 51) × AllOf (Readable (wordsOf (now card))) (finished ps) ⌝ }
     ensures { λ r. ⌜ Ready (wordsOf (now (card .entry))) r
@@ -375,22 +396,27 @@ fn open_lists(card: &[u8], ps: Partitions, id: u16) -> Lists
 {
     let used = ps.used;
     let n = used as usize;
-    let none = Cursor {
+    let spent = Cursor {
         block: 0,
         word: 0,
         left: 0,
     };
-    let mut cursors = [none; 51];
+    let none = Head {
+        cursor: spent,
+        word: 0,
+    };
+    let mut heads = [none; 51];
     let mut i: usize = 0;
     while i < n {
         let p = ps.records[i];
         let c = partitions::find_list(card, p, id);
-        cursors[i] = c;
+        let h = head_of(card, c);
+        heads[i] = h;
         i += 1;
     }
     Lists {
         used: used,
-        cursors: cursors,
+        heads: heads,
     }
 }
 

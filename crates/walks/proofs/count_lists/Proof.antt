@@ -5,7 +5,7 @@ use lib.ListN.{length}
 use Rattle.lists.proofs.Arrays.{unmapped}
 use Rattle.words.specs.Words.{words}
 use borrow.Author.Needs.{needs}
-use Rattle.walks.specs.Items.{cursorsOf, groups}
+use Rattle.walks.specs.Items.{headsOf, groups}
 use Rattle.walks.proofs.Lengths.{lefts-short}
 use Rattle.walks.proofs.Answers.{formed-falls, none-at-zero, size-groups, risen-few, told-faulty, told-formed, told}
 use Rattle.walks.proofs.count_lists.Statement.{statement}
@@ -26,7 +26,7 @@ total-left-requires c κs =
     let W = words (s .args .card .now) in
     let gs = groups W (s .args .ls) (s .args .b) (s .args .run) in
     let e = told-formed gs _ (sym (c .before .before .before .walk .ensures) ∙ c .before .walked .given .1) in
-    (s .pre .0 .few, lefts-short W 65536 (cursorsOf (s .args .ls)) (formed-falls W (s .args .ls) (s .args .b) (s .args .run) (e .0)))
+    (s .pre .0 .few, lefts-short W 65536 (headsOf (s .args .ls)) (formed-falls W (s .args .ls) (s .args .b) (s .args .run) (e .0)))
 
 sub-buffered : tie.Need-sub-buffered
 sub-buffered c = search needs

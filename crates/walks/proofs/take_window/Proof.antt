@@ -10,13 +10,13 @@ use lib.ListN.{length, take, length-set}
 use Rattle.lists.proofs.Arrays.{unmapped, of-used}
 use Rattle.words.specs.Words.{words}
 use Rattle.keyed.proofs.Turns.{Took, took-none, took-more, took-done}
-use Rattle.card.specs.Cursors.{Good}
-use Rattle.walks.specs.Items.{items, restOf, cursorsOf, noCursor}
+use Rattle.walks.specs.Items.{items, itemsAt, restHead, Kept, headsOf, noHead}
+use Rattle.walks.proofs.Heads.{over-cursors}
 use Rattle.walks.proofs.take_window.Statement.{statement}
 use Rattle.walks.proofs.take_window.Tie as tie
 
 abbrev Inv-loop : tie.InvT-loop
-Inv-loop card w ls n next₀ sum₀ fine₀ k₀ next sum fine k = (length (ls .cursors) ≡ 51) × (length (next .cursors) ≡ 51) × (k ≤ n) × (next .used ≡ n) × Took (items (words card)) (restOf (words card) w) w (cursorsOf ls) k (take n (next .cursors)) (toZ w32 sum) fine
+Inv-loop card w ls n next₀ sum₀ fine₀ k₀ next sum fine k = (length (ls .heads) ≡ 51) × (length (next .heads) ≡ 51) × (k ≤ n) × (next .used ≡ n) × Took (itemsAt (words card)) (restHead (words card) w) w (headsOf ls) k (take n (next .heads)) (toZ w32 sum) fine
 
 abbrev μ-loop : tie.MeasureT-loop
 μ-loop card w ls n next₀ sum₀ fine₀ k₀ next sum fine k = n - k
@@ -27,18 +27,18 @@ cast-n c = omega arith
 loop-holds : tie.Need-loop-holds Inv-loop μ-loop
 loop-holds c = (search (unmapped, needs), search (unmapped, needs), omega arith, refl, took-none _ _ _ _)
 
-mul-c : tie.Need-mul-c Inv-loop μ-loop
-mul-c c = omega arith
+mul-h : tie.Need-mul-h Inv-loop μ-loop
+mul-h c = omega arith
 
-element-copy-out-c : tie.Need-element-copy-out-c Inv-loop μ-loop
-element-copy-out-c c = omega (arith, c .before .before .before .pre .few)
+element-copy-out-h : tie.Need-element-copy-out-h Inv-loop μ-loop
+element-copy-out-h c = omega (arith, c .before .before .before .pre .few)
 
 took-requires : tie.Need-took-requires Inv-loop μ-loop
 took-requires c κs =
     let a = c .before .before in
     let s = a .before .before in
     let len = a .loop .inv .0 in
-    of-used (Good (words (s .args .card .now))) noCursor (s .args .t2 .cursors) (s .args .t2 .used) (a .loop .k) (omega (arith, s .pre .few)) (omega arith) (s .pre .good)
+    of-used (Kept (words (s .args .card .now))) noHead (s .args .t2 .heads) (s .args .t2 .used) (a .loop .k) (omega (arith, s .pre .few)) (omega arith) (s .pre .heads)
 
 mul-moved : tie.Need-mul-moved Inv-loop μ-loop
 mul-moved c = omega arith
@@ -68,8 +68,8 @@ loop-again c =
     let t = c .before .before .before .before .took in
     let f : SFits w16 (t .result .count) = search needs in
     let more =
-    took-more (items W) (restOf W (s .args .w)) (s .args .w) noCursor (s .args .t2 .cursors) (s .args .t2 .used) (a .loop .k) (omega (arith, s .pre .few)) (a .loop .next .cursors) _ _ (v .4) (omega arith)
-    (t .result .cursor) (t .result .count) (t .result .fine) (t .ensures .0) (t .ensures .1) (t .ensures .2) (omega (arith, f .sfits)) in (
+    took-more (itemsAt W) (restHead W (s .args .w)) (s .args .w) noHead (s .args .t2 .heads) (s .args .t2 .used) (a .loop .k) (omega (arith, s .pre .few)) (a .loop .next .heads) _ _ (v .4) (omega arith)
+    (t .result .head) (t .result .count) (t .result .fine) (t .ensures .0) (t .ensures .1) (t .ensures .2) (omega (arith, f .sfits)) in (
       len,
       simp length-set (v .1),
       omega arith,
@@ -85,8 +85,9 @@ returns c =
     let len = v .0 in
     let W = words (s .args .card .now) in
     let few = s .pre .few in
-    let d = took-done (items W) (restOf W (s .args .w)) (s .args .w) noCursor (s .args .t2 .cursors) (s .args .t2 .used) (a .loop .k) (omega arith) (a .loop .next .cursors) _ _ (v .4) (omega arith) in
-    (v .3, rw (v .3) (d .0), d .1, d .2, omega (arith, v .4 .size))
+    let d = took-done (itemsAt W) (restHead W (s .args .w)) (s .args .w) noHead (s .args .t2 .heads) (s .args .t2 .used) (a .loop .k) (omega arith) (a .loop .next .heads) _ _ (v .4) (omega arith) in
+    let o = over-cursors (items W) (headsOf (s .args .t2)) in
+    (v .3, rw (v .3) (d .0), rw o (d .1), rw o (d .2), omega (arith, v .4 .size))
 
 pub take-window-spec : {M : Type 1} → statement M
 take-window-spec =
@@ -96,8 +97,8 @@ take-window-spec =
     μ-loop
     cast-n
     loop-holds
-    mul-c
-    element-copy-out-c
+    mul-h
+    element-copy-out-h
     took-requires
     mul-moved
     element-set-from-moved
