@@ -15,3 +15,4 @@ pub mod Sizes
 pub mod Sections
 pub mod Filling
 pub mod Stores
+pub mod TopK
