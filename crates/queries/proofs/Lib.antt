@@ -1,2 +1,5 @@
 pub mod Quick
 pub mod Refused
+pub mod Ranking
+pub mod Tops
+pub mod Scores

@@ -1,0 +1,104 @@
+use mathlib.Core.List.{List}
+use mathlib.Core.Path.{_≡_, sym, ap, _∙_}
+use Prim.Native.Nat.{ℕ, _≤_, _+_, _-_}
+use native.Mathlib.Omega.{arith}
+use borrow.Author.Needs.{needs}
+use lib.ListN.{length, getD, set}
+use Rattle.lists.proofs.Arrays.{unmapped}
+use Rattle.lists.proofs.Shifts.{raised, raised-none, raised-more}
+use Rattle.answers.specs.declared.Hit.{Hit}
+use Rattle.queries.specs.Top.{noHit}
+use Rattle.queries.proofs.Tops.{made, insert-made}
+use Rattle.queries.proofs.insert_hit.Statement.{statement}
+use Rattle.queries.proofs.insert_hit.Tie as tie
+
+abbrev Inv-loop : tie.InvT-loop
+Inv-loop g k last u₀ i₀ u i =
+    (length (u₀ .hits) ≡ 32) × (k ≤ i) × (i ≤ last) × (u .hits ≡ raised last i (u₀ .hits))
+
+abbrev μ-loop : tie.MeasureT-loop
+μ-loop g k last u₀ i₀ u i = i
+
+loop-holds : tie.Need-loop-holds Inv-loop μ-loop
+loop-holds c =
+    (search (unmapped, needs), omega arith, omega arith, sym (raised-none (c .args .last) (c .args .t .hits)))
+
+sub-h : tie.Need-sub-h Inv-loop μ-loop
+sub-h c = omega arith
+
+mul-h : tie.Need-mul-h Inv-loop μ-loop
+mul-h c = omega arith
+
+element-copy-out-h : tie.Need-element-copy-out-h Inv-loop μ-loop
+element-copy-out-h c = omega arith
+
+mul-h-2 : tie.Need-mul-h-2 Inv-loop μ-loop
+mul-h-2 c = omega arith
+
+element-set-from-h : tie.Need-element-set-from-h Inv-loop μ-loop
+element-set-from-h c = omega arith
+
+sub-i : tie.Need-sub-i Inv-loop μ-loop
+sub-i c = omega arith
+
+loop-less : tie.Need-loop-less Inv-loop μ-loop
+loop-less c = omega arith
+
+loop-again : tie.Need-loop-again Inv-loop μ-loop
+loop-again c =
+    let a = c .before .before in
+    let t = a .before .args .t in
+    let last = a .before .args .last in
+    let i = a .loop .i in
+    let v = a .loop .inv in
+    let len = v .0 in (
+      len,
+      omega arith,
+      omega arith,
+      ap (λ (xs : List Hit). set xs i (getD xs (i - 1) noHit)) (v .3) ∙ raised-more noHit last i (t .hits) (omega arith) (omega arith) (omega arith),
+    )
+
+mul-g : tie.Need-mul-g Inv-loop μ-loop
+mul-g c = omega arith
+
+element-set-from-g : tie.Need-element-set-from-g Inv-loop μ-loop
+element-set-from-g c = omega arith
+
+cast-u : tie.Need-cast-u Inv-loop μ-loop
+cast-u c = omega arith
+
+add-u : tie.Need-add-u Inv-loop μ-loop
+add-u c = omega arith
+
+returns : tie.Need-returns Inv-loop μ-loop
+returns c =
+    let s = c .before .before in
+    let t = s .args .t in
+    let k = s .args .k in
+    let last = s .args .last in
+    let v = c .before .loop .inv in
+    let p = s .pre in
+    let e : c .before .loop .i ≡ k = omega arith in
+    ap (λ (xs : List Hit). made (last + 1) (set xs k (s .args .g))) (v .3 ∙ ap (λ (j : ℕ). raised last j (t .hits)) e)
+    ∙ insert-made t (p .0) (s .args .g) k last (p .1) (p .2) (p .3) (p .4)
+
+pub insert-hit-spec : {M : Type 1} → statement M
+insert-hit-spec =
+    tie.close
+    (tie.spec
+    Inv-loop
+    μ-loop
+    loop-holds
+    sub-h
+    mul-h
+    element-copy-out-h
+    mul-h-2
+    element-set-from-h
+    sub-i
+    loop-less
+    loop-again
+    mul-g
+    element-set-from-g
+    cast-u
+    add-u
+    returns)

@@ -1,0 +1,46 @@
+use mathlib.Core.List.{_∷_, _++_}
+use mathlib.Core.Path.{_≡_, sym, ap, _∙_}
+use Prim.Native.Nat.{ℕ, _+_, _-_, min}
+use native.Mathlib.Omega.{arith}
+use borrow.Author.Needs.{needs}
+use lib.ListN.{length, take, drop}
+use Rattle.queries.specs.Top.{listedHits, topOf}
+use Rattle.queries.proofs.Tops.{clean-used, rank-le, place-out, place-in}
+use Rattle.queries.proofs.place_hit.Statement.{statement}
+use Rattle.queries.proofs.place_hit.Tie as tie
+
+rank-of-requires : tie.Need-rank-of-requires
+rank-of-requires c κs = search needs
+
+last-place-requires : tie.Need-last-place-requires
+last-place-requires c κs = search needs
+
+returns : tie.Need-returns
+returns c =
+    let s = c .before .before .before in
+    let l = listedHits (s .args .t) in
+    let u = clean-used (s .args .t) (s .pre .clean) in
+    let k = c .before .before .rank-of .ensures in
+    let e = c .before .last-place .ensures in
+    s .pre .clean ∙ ap topOf (sym (place-out (s .args .g) (s .args .places) l (omega arith) (omega (arith, k, e, rank-le (s .args .g) l))))
+
+insert-hit-requires : tie.Need-insert-hit-requires
+insert-hit-requires c κs = search needs
+
+returns-2 : tie.Need-returns-2
+returns-2 c =
+    let s = c .before .before .before .before in
+    let g = s .args .g in
+    let places = s .args .places in
+    let l = listedHits (s .args .t) in
+    let last = c .before .before .last-place .result in
+    let u = clean-used (s .args .t) (s .pre .clean) in
+    let e : last ≡ min (length l) (places - 1) = c .before .before .last-place .ensures ∙ ap (λ (n : ℕ). min n (places - 1)) (sym u) in
+    c .insert-hit .ensures
+    ∙ ap topOf
+    (ap (λ (k : ℕ). take (last + 1) (take k l ++ g ∷ drop k l)) (c .before .before .before .rank-of .ensures)
+    ∙ place-in g places l last e (s .pre .some) (omega (arith, s .pre .within)))
+
+pub place-hit-spec : {M : Type 1} → statement M
+place-hit-spec =
+    tie.close (tie.spec rank-of-requires last-place-requires returns insert-hit-requires returns-2)

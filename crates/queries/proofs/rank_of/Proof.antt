@@ -1,0 +1,81 @@
+use mathlib.Core.Path.{_≡_, sym, _∙_}
+use Prim.Native.Nat.{_≤_, _+_, _-_}
+use native.Mathlib.Omega.{arith}
+use borrow.Author.Needs.{needs}
+use lib.ListN.{length, take, drop}
+use Rattle.lists.proofs.Arrays.{unmapped}
+use Rattle.queries.specs.Top.{rank}
+use Rattle.queries.proofs.Tops.{rank-here, rank-on, rank-end}
+use Rattle.queries.proofs.rank_of.Statement.{statement}
+use Rattle.queries.proofs.rank_of.Tie as tie
+
+abbrev Inv-loop : tie.InvT-loop
+Inv-loop g t n i₀ i =
+    (length (t .hits) ≡ 32) × (i ≤ n) × (rank g (take n (t .hits)) ≡ i + rank g (drop i (take n (t .hits))))
+
+abbrev μ-loop : tie.MeasureT-loop
+μ-loop g t n i₀ i = n - i
+
+cast-n : tie.Need-cast-n Inv-loop μ-loop
+cast-n c = omega arith
+
+loop-holds : tie.Need-loop-holds Inv-loop μ-loop
+loop-holds c = (search (unmapped, needs), omega arith, omega arith)
+
+mul-h : tie.Need-mul-h Inv-loop μ-loop
+mul-h c = omega arith
+
+element-copy-out-h : tie.Need-element-copy-out-h Inv-loop μ-loop
+element-copy-out-h c = omega arith
+
+outranks-requires : tie.Need-outranks-requires Inv-loop μ-loop
+outranks-requires c κs = tt
+
+returns : tie.Need-returns Inv-loop μ-loop
+returns c =
+    let a = c .before .before .before .before in
+    let t = a .before .args .t1 in
+    let len = a .loop .inv .0 in
+    let e = sym (c .before .outranks .ensures) ∙ c .if1 .taken in
+    let r = rank-here (a .before .args .g) (t .hits) (t .used) (a .loop .i) (omega arith) (omega arith) e in
+    omega (arith, a .loop .inv .2)
+
+add-i : tie.Need-add-i Inv-loop μ-loop
+add-i c = omega arith
+
+loop-less : tie.Need-loop-less Inv-loop μ-loop
+loop-less c = omega arith
+
+loop-again : tie.Need-loop-again Inv-loop μ-loop
+loop-again c =
+    let a = c .before .before .before .before in
+    let t = a .before .args .t1 in
+    let len = a .loop .inv .0 in
+    let e = sym (c .before .outranks .ensures) ∙ c .if1 .left in
+    let r = rank-on (a .before .args .g) (t .hits) (t .used) (a .loop .i) (omega arith) (omega arith) e in
+    (len, omega arith, omega (arith, a .loop .inv .2))
+
+returns-2 : tie.Need-returns-2 Inv-loop μ-loop
+returns-2 c =
+    let s = c .before .before in
+    let t = s .args .t1 in
+    let len = c .before .loop .inv .0 in
+    let r = rank-end (s .args .g) (t .hits) (t .used) (c .before .loop .i) (omega arith) (omega arith) in
+    omega (arith, c .before .loop .inv .2)
+
+pub rank-of-spec : {M : Type 1} → statement M
+rank-of-spec =
+    tie.close
+    (tie.spec
+    Inv-loop
+    μ-loop
+    cast-n
+    loop-holds
+    mul-h
+    element-copy-out-h
+    outranks-requires
+    returns
+    add-i
+    loop-less
+    loop-again
+    returns-2)
