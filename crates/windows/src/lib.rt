@@ -196,7 +196,7 @@ pub fn start(card: &mut [u8], register: &mut [u8]) -> Replied
 }
 
 // The next number is given to a window, which has no events yet.
-pub fn open_window(s: State) -> Opening
+pub fn open(s: State) -> Opening
     ensures { λ r. ⌜ Gives s (openOf s) (openedAs (r .answer)) (r .state) ⌝ }
 {
     if !state::state_ok(s) {
@@ -233,7 +233,7 @@ pub fn open_window(s: State) -> Opening
 }
 
 // No window is open; one without events gives its number back.
-pub fn close_window(s: State) -> Replied
+pub fn close(s: State) -> Replied
     ensures { λ r. ⌜ Gives s (closeOf s) (replied (r .reply)) (r .state) ⌝ }
 {
     if !state::state_ok(s) {

@@ -80,7 +80,7 @@ next-free-requires : tie.Need-next-free-requires
 next-free-requires c κs =
     let a = c .before .before .before .before .before .before .before .before .before in
     let k = state-kept (a .args .s) (a .pre .0) in
-    (omega (arith, length-words (a .args .card .now), k .lengths .card, a .pre .1), k .lengths .mostBlocks, k .taken)
+    (omega (arith, length-words (a .args .card .now), k .lengths .card, a .pre .1), k .lengths .mostBlocks, omega (arith, k .taken))
 
 enum-known-free : tie.Need-enum-known-free
 enum-known-free c = search needs

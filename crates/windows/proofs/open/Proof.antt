@@ -6,8 +6,8 @@ use borrow.Author.Needs.{needs}
 use borrow.Author.Tests.{eq-eqb, ne-eqb, le-leb, lt-leb}
 use Rattle.windows.specs.Calls.{openOf, opened}
 use Rattle.windows.proofs.Outcomes.{stopped, passed, given}
-use Rattle.windows.proofs.open_window.Statement.{statement}
-use Rattle.windows.proofs.open_window.Tie as tie
+use Rattle.windows.proofs.open.Statement.{statement}
+use Rattle.windows.proofs.open.Tie as tie
 
 state-ok-requires : tie.Need-state-ok-requires
 state-ok-requires c κs = search needs
@@ -46,6 +46,6 @@ returns-4 c =
     (passed _ 1 _ (ap not (sym (a .before .state-ok .ensures)) ∙ a .if1 .left)
     (passed _ 5 _ (ap not (eq-eqb _ _ (b .if2 .left))) (passed _ 6 _ (lt-leb 65535 (s .windows .last) (search needs)) (given _ refl))))
 
-pub open-window-spec : {M : Type 1} → statement M
-open-window-spec =
+pub open-spec : {M : Type 1} → statement M
+open-spec =
     tie.close (tie.spec state-ok-requires returns returns-2 returns-3 add-number returns-4)

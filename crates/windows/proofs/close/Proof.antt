@@ -9,8 +9,8 @@ use borrow.Author.Tests.{eq-eqb, ne-eqb, not-false}
 use Rattle.state.proofs.Kept.{state-kept, Shut, Opened}
 use Rattle.windows.specs.Calls.{closeOf, closed}
 use Rattle.windows.proofs.Outcomes.{stopped, passed, given}
-use Rattle.windows.proofs.close_window.Statement.{statement}
-use Rattle.windows.proofs.close_window.Tie as tie
+use Rattle.windows.proofs.close.Statement.{statement}
+use Rattle.windows.proofs.close.Tie as tie
 
 state-ok-requires : tie.Need-state-ok-requires
 state-ok-requires c κs = search needs
@@ -57,8 +57,8 @@ returns-3 c =
     (passed _ 1 _ (ap not (sym (a .before .state-ok .ensures)) ∙ a .if1 .left)
     (passed _ 5 _ (ap (λ t. not (not t)) (ne-eqb _ _ (b .if2 .left))) (given _ refl)))
 
-pub close-window-spec : {M : Type 1} → statement M
-close-window-spec =
+pub close-spec : {M : Type 1} → statement M
+close-spec =
     tie.close
     (tie.spec
     state-ok-requires
