@@ -37,16 +37,6 @@ pub struct Opening {
     pub state: State,
 }
 
-// A call that is done leaves the state.
-fn done(s: State) -> Replied
-    ensures { λ r. ⌜ r ≡ record { reply = Reply.Done; state = s } ⌝ }
-{
-    Replied {
-        reply: Reply::Done,
-        state: s,
-    }
-}
-
 // What a flush comes to: nothing to write, a block to write to, or a refusal.
 pub enum Target {
     Nothing,
@@ -66,6 +56,16 @@ fn refuse(s: State, why: Refusal) -> Replied
 {
     Replied {
         reply: Reply::Refused(why),
+        state: s,
+    }
+}
+
+// A call that is done, and the state that it leaves.
+fn done(s: State) -> Replied
+    ensures { λ r. ⌜ r ≡ record { reply = Reply.Done; state = s } ⌝ }
+{
+    Replied {
+        reply: Reply::Done,
         state: s,
     }
 }
