@@ -166,7 +166,7 @@ pub fn top_window(card: &[u8], ls: Lists) -> u32
 }
 
 // A count more.
-fn added(sum: i32, count: i16) -> i32
+pub fn added(sum: i32, count: i16) -> i32
     requires { ⌜ mag sum ≤ 16777216 ⌝ }
     ensures { λ r. ⌜ r ≡ sum +ℤ count ⌝ }
 {
@@ -174,7 +174,7 @@ fn added(sum: i32, count: i16) -> i32
 }
 
 // Whether both hold.
-fn both(a: bool, b: bool) -> bool
+pub fn both(a: bool, b: bool) -> bool
     ensures { λ r. ⌜ r ≡ (a && b) ⌝ }
 {
     if a { b } else { false }
@@ -273,7 +273,7 @@ pub fn run_took(b: Buffer, run: Run, w: u32) -> RunTaken
 }
 
 // Whether a sum fits a posting.
-fn in_range(sum: i32) -> bool
+pub fn in_range(sum: i32) -> bool
     ensures { λ r. ⌜ r ≡ inRange sum ⌝ }
 {
     if sum < -32767 {
@@ -283,14 +283,14 @@ fn in_range(sum: i32) -> bool
 }
 
 // Whether a sum counts.
-fn above(sum: i32) -> bool
+pub fn above(sum: i32) -> bool
     ensures { λ r. ⌜ r ≡ isAbove sum ⌝ }
 {
     0 < sum
 }
 
 // The larger of two.
-fn larger(a: u32, b: u32) -> u32
+pub fn larger(a: u32, b: u32) -> u32
     ensures { λ r. ⌜ r ≡ largerOf a b ⌝ }
 {
     if a < b { b } else { a }
@@ -389,7 +389,7 @@ pub fn count_lists(card: &[u8], ls: Lists, b: Buffer, run: Run) -> Counted
 }
 
 // The head of the identifier's list in each finished partition.
-fn open_lists(card: &[u8], ps: Partitions, id: u16) -> Lists
+pub fn open_lists(card: &[u8], ps: Partitions, id: u16) -> Lists
     requires { ⌜ (ps .used ≤ 51) × AllOf (Readable (wordsOf (now card))) (finished ps) ⌝ }
     ensures { λ r. ⌜ Ready (wordsOf (now (card .entry))) r
         × (map (listAt (wordsOf (now (card .entry))) id) (cursorsOf r) ≡ map (λ p. under id (postingsOf (wordsOf (now (card .entry))) p)) (finished ps)) ⌝ }
