@@ -16,3 +16,4 @@ pub mod Sections
 pub mod Filling
 pub mod Stores
 pub mod TopK
+pub mod Built

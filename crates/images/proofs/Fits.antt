@@ -1,0 +1,97 @@
+-- Which places hold numbers below 65,536, and the test of all of them.
+use mathlib.Core.Bool.{Bool, true, false, _||_, _&&_}
+use mathlib.Core.List.{List}
+use mathlib.Core.Path.{_≡_, refl, sym, _∙_}
+use Prim.Native.Nat.{ℕ, suc, _+_, _-_, _*_, _%_, _<_, _≤_}
+use native.Mathlib.Omega.{arith}
+use lib.Dec.{eqb, ltb, leb}
+use lib.ListN.{length, getD}
+use borrow.Author.Tests.{ltb-true, eqb-true, lt-ltb, le-ltb, le-leb, lt-leb, eq-eqb, ne-eqb}
+use Rattle.lists.specs.Lists.{every, rising, upTo}
+use Rattle.lists.proofs.Bools.{and-left, and-right}
+use Rattle.lists.proofs.Ranges.{elem-rising}
+use Rattle.lists.proofs.Sets.{every-elem}
+use Rattle.words.specs.Words.{words}
+use Rattle.words.proofs.Views.{length-words}
+use Rattle.images.specs.Images.{wide, fits, imageRule}
+
+-- an image has 614 words
+pub image-length : (b : List ℕ) → imageRule b ≡ true → length b ≡ 2456
+unfolding imageRule
+image-length b h = eqb-true (length b) 2456 (and-left (eqb (length b) 2456) _ h)
+
+pub image-words : (b : List ℕ) → imageRule b ≡ true → length (words b) ≡ 614
+image-words b h = omega (arith, length-words b, image-length b h)
+
+-- each number of an image fits its place
+pub image-fits : (b : List ℕ) → imageRule b ≡ true → (i : ℕ) → i < 614 → fits (words b) i ≡ true
+unfolding imageRule
+image-fits b h i l = every-elem (fits (words b)) (upTo 614) i (and-right (eqb (length b) 2456) _ h) (elem-rising 0 614 i (omega arith) (omega arith))
+
+pub fits-below : (w : List ℕ) (i : ℕ) → fits w i ≡ true → wide i ≡ false → getD w i 0 < 65536
+fits-below w i f n = let g : ltb (getD w i 0) 65536 ≡ true = rw n at f in ltb-true _ _ g
+
+-- so a number of which no more than 16 bits are kept is below 65,536
+pub image-below : (b : List ℕ) → imageRule b ≡ true → (i : ℕ) → i < 614 → wide i ≡ false → getD (words b) i 0 < 65536
+image-below b h i l n = fits-below (words b) i (image-fits b h i l) n
+
+-- Places -----------------------------------------------------------------------------------------------------------
+
+-- the two lengths are wide
+pub wide-front : (i : ℕ) → i < 2 → wide i ≡ true
+wide-front i a = rw (lt-ltb i 2 a)
+
+-- and so are the output's length and the steps
+pub wide-back : (i : ℕ) → 612 ≤ i → wide i ≡ true
+wide-back i a = rw (le-ltb i 2 (omega arith), le-leb 612 i a)
+
+-- among the finished partitions each third number is
+pub wide-among : (i : ℕ) → 457 ≤ i → i < 610 → wide i ≡ eqb ((i - 457) % 3) 2
+wide-among i a b = rw (le-ltb i 2 (omega arith), lt-leb 612 i (omega arith), le-leb 457 i a, lt-ltb i 610 b)
+
+-- before the finished partitions all but the two lengths are narrow
+pub narrow-front : (i : ℕ) → 2 ≤ i → i < 457 → wide i ≡ false
+narrow-front i a b = rw (le-ltb i 2 (omega arith), lt-leb 612 i (omega arith), lt-leb 457 i (omega arith))
+
+-- after them the block last taken and the first output block
+pub narrow-back : (i : ℕ) → 610 ≤ i → i < 612 → wide i ≡ false
+narrow-back i a b = rw (le-ltb i 2 (omega arith), lt-leb 612 i (omega arith), le-leb 457 i (omega arith), le-ltb i 610 (omega arith))
+
+-- of each partition's record the first two
+pub narrow-first : (i : ℕ) → i < 51 → wide (457 + 3 * i) ≡ false
+narrow-first i a = wide-among (457 + 3 * i) (omega arith) (omega arith) ∙ ne-eqb ((457 + 3 * i - 457) % 3) 2 (λ e. omega arith)
+
+pub narrow-level : (i : ℕ) → i < 51 → wide (458 + 3 * i) ≡ false
+narrow-level i a = wide-among (458 + 3 * i) (omega arith) (omega arith) ∙ ne-eqb ((458 + 3 * i - 457) % 3) 2 (λ e. omega arith)
+
+-- The loop ---------------------------------------------------------------------------------------------------------
+
+-- one place more is tested
+pub fits-turn : (t : ℕ → Bool) (i : ℕ) → i < 614 → t i ≡ true → every t (rising i (614 - i)) ≡ every t (rising (i + 1) (614 - (i + 1)))
+unfolding rising
+fits-turn t i l h =
+    let e : 614 - i ≡ suc (614 - (i + 1)) = omega arith in
+    let f : suc i ≡ i + 1 = omega arith in
+    rw (e, h, f)
+
+-- a place that fails
+pub fits-not : (t : ℕ → Bool) (i : ℕ) → i < 614 → t i ≡ false → every t (rising i (614 - i)) ≡ false
+unfolding rising
+fits-not t i l h =
+    let e : 614 - i ≡ suc (614 - (i + 1)) = omega arith in
+    rw (e, h)
+
+-- none is left
+pub fits-end : (t : ℕ → Bool) (i : ℕ) → 614 ≤ i → every t (rising i (614 - i)) ≡ true
+unfolding rising
+fits-end t i l = let e : 614 - i ≡ 0 = omega arith in rw e
+
+-- bytes of the right length are an image where all places fit
+pub image-whole : (b : List ℕ) → length b ≡ 2456 → imageRule b ≡ every (fits (words b)) (upTo 614)
+unfolding imageRule
+image-whole b l = rw (eq-eqb (length b) 2456 l)
+
+-- others are none
+pub image-short : (b : List ℕ) → (length b ≡ 2456 → ⊥) → imageRule b ≡ false
+unfolding imageRule
+image-short b l = rw (ne-eqb (length b) 2456 l)

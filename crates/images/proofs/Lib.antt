@@ -1,0 +1,5 @@
+pub mod Fits
+pub mod Signs
+pub mod Parts
+pub mod Whole
+pub mod Inverse

@@ -1,0 +1,62 @@
+-- `images::read_partitions` meets its contract. The invariant: the first i places are built. Assumes nothing.
+use mathlib.Core.Path.{refl}
+use Prim.Native.Nat.{_+_, _-_}
+use native.Mathlib.Omega.{arith}
+use borrow.Author.Needs.{needs}
+use lib.ListN.{getD}
+use Rattle.lists.proofs.Arrays.{unmapped}
+use Rattle.lists.proofs.Built.{Built, built-none, built-more, built-all}
+use Rattle.words.specs.Words.{words}
+use Rattle.images.specs.Images.{postingIn, recordIn}
+use Rattle.images.proofs.Fits.{narrow-front}
+use Rattle.images.proofs.read_partitions.Statement.{statement}
+use Rattle.images.proofs.read_partitions.Tie as tie
+
+abbrev Inv-loop : tie.InvT-loop
+Inv-loop image used records₀ i₀ records i = Built (recordIn (words image)) 51 i records
+
+abbrev μ-loop : tie.MeasureT-loop
+μ-loop image used records₀ i₀ records i = 51 - i
+
+narrow-requires : tie.Need-narrow-requires Inv-loop μ-loop
+narrow-requires c κs = (c .before .pre, omega arith, narrow-front 456 (omega arith) (omega arith))
+
+loop-holds : tie.Need-loop-holds Inv-loop μ-loop
+loop-holds c = built-none _ 51 _ (search (unmapped, needs))
+
+read-record-requires : tie.Need-read-record-requires Inv-loop μ-loop
+read-record-requires c κs = (c .before .before .before .before .pre, omega arith)
+
+mul-records : tie.Need-mul-records Inv-loop μ-loop
+mul-records c = omega arith
+
+array-set-from-records : tie.Need-array-set-from-records Inv-loop μ-loop
+array-set-from-records c = omega arith
+
+add-i : tie.Need-add-i Inv-loop μ-loop
+add-i c = omega arith
+
+loop-less : tie.Need-loop-less Inv-loop μ-loop
+loop-less c = omega arith
+
+loop-again : tie.Need-loop-again Inv-loop μ-loop
+loop-again c = built-more _ 51 (c .before .before .loop .i) (c .before .before .loop .records) (c .read-record .result) (omega arith) (c .read-record .ensures) (c .before .before .loop .inv)
+
+returns : tie.Need-returns Inv-loop μ-loop
+returns c = rw (c .before .before .narrow .ensures, built-all _ 51 (c .before .loop .i) (c .before .loop .records) (omega arith) (c .before .loop .inv))
+
+pub read-partitions-spec : {M : Type 1} → statement M
+read-partitions-spec =
+    tie.close
+    (tie.spec
+    Inv-loop
+    μ-loop
+    narrow-requires
+    loop-holds
+    read-record-requires
+    mul-records
+    array-set-from-records
+    add-i
+    loop-less
+    loop-again
+    returns)

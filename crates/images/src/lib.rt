@@ -1,0 +1,352 @@
+// The state as bytes, for callers in other languages: 614 little-endian words, one for each number.
+use postings::Posting;
+use state::Buffer;
+use state::Lengths;
+use state::Listed;
+use state::MergeJob;
+use state::Partition;
+use state::Partitions;
+use state::State;
+use state::Windows;
+ghost use mathlib.Core.Bool.{true, false};
+ghost use mathlib.Core.List.{map};
+ghost use mathlib.Core.Path.{_≡_};
+ghost use Prim.Native.Nat.{_+_, _*_, _≤_, _<_};
+ghost use lib.ListN.{length, getD};
+ghost use lib.Seq.{sets};
+ghost use Rattle.lists.specs.Lists.{joined, upTo};
+ghost use Rattle.words.specs.Words.{words as wordsOf, bytes};
+ghost use Rattle.images.specs.Images.{raised, lowered, postingWords, recordWords, numberWords, listedWords, bufferWords, partitionsWords, lastWords, imageOf, listedIn, postingIn, bufferIn, recordIn, partitionsIn, lengthsIn, windowsIn, mergeIn, stateIn, wide, fits, imageRule};
+
+// Whether a place holds a number that may need all 32 bits.
+fn is_wide(at: usize) -> bool
+    ensures { λ r. ⌜ r ≡ wide at ⌝ }
+{
+    if at < 2 {
+        return true;
+    }
+    if at >= 612 {
+        return true;
+    }
+    if at < 457 {
+        return false;
+    }
+    if at >= 610 {
+        return false;
+    }
+    (at - 457) % 3 == 2
+}
+
+// Whether the number in a place fits it.
+fn fits_place(image: &[u8], at: usize) -> bool
+    requires { ⌜ at < length (wordsOf (now image)) ⌝ }
+    ensures { λ r. ⌜ r ≡ fits (wordsOf (now (image .entry))) at ⌝ }
+{
+    if is_wide(at) {
+        return true;
+    }
+    words::word_at(image, at) < 65536
+}
+
+// Whether these bytes are the image of a state, whatever rules that breaks.
+pub fn image_ok(image: &[u8]) -> bool
+    ensures { λ r. ⌜ r ≡ imageRule (now (image .entry)) ⌝ }
+{
+    if image.len() != 2456 {
+        return false;
+    }
+    let mut at: usize = 0;
+    while at < 614 {
+        if !fits_place(image, at) {
+            return false;
+        }
+        at += 1;
+    }
+    true
+}
+
+// A number that is below 65,536.
+fn narrow(image: &[u8], at: usize) -> u16
+    requires { ⌜ (imageRule (now image) ≡ true) × (at < 614) × (wide at ≡ false) ⌝ }
+    ensures { λ r. ⌜ r ≡ getD (wordsOf (now (image .entry))) at 0 ⌝ }
+{
+    words::word_at(image, at) as u16
+}
+
+// The open window's identifiers.
+fn read_listed(image: &[u8]) -> Listed
+    requires { ⌜ imageRule (now image) ≡ true ⌝ }
+    ensures { λ r. ⌜ r ≡ listedIn (wordsOf (now (image .entry))) ⌝ }
+{
+    let used = narrow(image, 6);
+    let mut ids: [u16; 64] = [0; 64];
+    let mut i: usize = 0;
+    while i < 64 {
+        ids[i] = narrow(image, 7 + i);
+        i += 1;
+    }
+    Listed {
+        used: used,
+        ids: ids,
+    }
+}
+
+// A signed count, of which the image holds 32,768 more.
+fn lower(x: u16) -> i16
+    ensures { λ r. ⌜ r ≡ lowered x ⌝ }
+{
+    if x >= 32768 {
+        return (x - 32768) as i16;
+    }
+    0 - ((32767 - x) as i16) - 1
+}
+
+// A signed count raised by 32,768.
+fn raise(count: i16) -> u16
+    ensures { λ r. ⌜ r ≡ raised count ⌝ }
+{
+    if count < 0 {
+        32767 - ((0 - (count + 1)) as u16)
+    } else {
+        32768 + count as u16
+    }
+}
+
+// A buffered posting.
+fn read_posting(image: &[u8], i: usize) -> Posting
+    requires { ⌜ (imageRule (now image) ≡ true) × (i < 128) ⌝ }
+    ensures { λ r. ⌜ r ≡ postingIn (wordsOf (now (image .entry))) i ⌝ }
+{
+    let id = narrow(image, 72 + 3 * i);
+    let window = narrow(image, 73 + 3 * i);
+    let count = lower(narrow(image, 74 + 3 * i));
+    Posting {
+        id: id,
+        window: window,
+        count: count,
+    }
+}
+
+// The buffered postings.
+fn read_buffer(image: &[u8]) -> Buffer
+    requires { ⌜ imageRule (now image) ≡ true ⌝ }
+    ensures { λ r. ⌜ r ≡ bufferIn (wordsOf (now (image .entry))) ⌝ }
+{
+    let used = narrow(image, 71);
+    let none = Posting {
+        id: 0,
+        window: 0,
+        count: 0,
+    };
+    let mut postings = [none; 128];
+    let mut i: usize = 0;
+    while i < 128 {
+        let p = read_posting(image, i);
+        postings[i] = p;
+        i += 1;
+    }
+    Buffer {
+        used: used,
+        postings: postings,
+    }
+}
+
+// A finished partition's record.
+fn read_record(image: &[u8], i: usize) -> Partition
+    requires { ⌜ (imageRule (now image) ≡ true) × (i < 51) ⌝ }
+    ensures { λ r. ⌜ r ≡ recordIn (wordsOf (now (image .entry))) i ⌝ }
+{
+    let first = narrow(image, 457 + 3 * i);
+    let level = narrow(image, 458 + 3 * i);
+    let length = words::word_at(image, 459 + 3 * i);
+    Partition {
+        first: first,
+        level: level,
+        length: length,
+    }
+}
+
+// The finished partitions.
+fn read_partitions(image: &[u8]) -> Partitions
+    requires { ⌜ imageRule (now image) ≡ true ⌝ }
+    ensures { λ r. ⌜ r ≡ partitionsIn (wordsOf (now (image .entry))) ⌝ }
+{
+    let used = narrow(image, 456);
+    let none = Partition {
+        first: 0,
+        level: 0,
+        length: 0,
+    };
+    let mut records = [none; 51];
+    let mut i: usize = 0;
+    while i < 51 {
+        let p = read_record(image, i);
+        records[i] = p;
+        i += 1;
+    }
+    Partitions {
+        used: used,
+        records: records,
+    }
+}
+
+// The lengths of the buffers.
+fn read_lengths(image: &[u8]) -> Lengths
+    requires { ⌜ imageRule (now image) ≡ true ⌝ }
+    ensures { λ r. ⌜ r ≡ lengthsIn (wordsOf (now (image .entry))) ⌝ }
+{
+    let card = words::word_at(image, 0);
+    let register = words::word_at(image, 1);
+    Lengths {
+        card: card,
+        register: register,
+    }
+}
+
+// The windows' numbers.
+fn read_windows(image: &[u8]) -> Windows
+    requires { ⌜ imageRule (now image) ≡ true ⌝ }
+    ensures { λ r. ⌜ r ≡ windowsIn (wordsOf (now (image .entry))) ⌝ }
+{
+    let last = narrow(image, 2);
+    let live = narrow(image, 3);
+    let current = narrow(image, 4);
+    let events = narrow(image, 5);
+    Windows {
+        last: last,
+        live: live,
+        current: current,
+        events: events,
+    }
+}
+
+// The merge in progress.
+fn read_merge(image: &[u8]) -> MergeJob
+    requires { ⌜ imageRule (now image) ≡ true ⌝ }
+    ensures { λ r. ⌜ r ≡ mergeIn (wordsOf (now (image .entry))) ⌝ }
+{
+    let first = narrow(image, 611);
+    let length = words::word_at(image, 612);
+    let steps = words::word_at(image, 613);
+    MergeJob {
+        first: first,
+        length: length,
+        steps: steps,
+    }
+}
+
+// The state of an image.
+pub fn read_state(image: &[u8]) -> State
+    requires { ⌜ imageRule (now image) ≡ true ⌝ }
+    ensures { λ r. ⌜ r ≡ stateIn (wordsOf (now (image .entry))) ⌝ }
+{
+    let lengths = read_lengths(image);
+    let windows = read_windows(image);
+    let listed = read_listed(image);
+    let buffer = read_buffer(image);
+    let partitions = read_partitions(image);
+    let taken = narrow(image, 610);
+    let merge = read_merge(image);
+    State {
+        lengths: lengths,
+        windows: windows,
+        listed: listed,
+        buffer: buffer,
+        partitions: partitions,
+        taken: taken,
+        merge: merge,
+    }
+}
+
+// Words into the image, one after another from word `at` on.
+fn put_words(image: &mut [u8], at: usize, numbers: &[u32])
+    requires { ⌜ (length (now image) ≡ 2456) × (at + length (now numbers) ≤ 614) ⌝ }
+    ensures { λ r. ⌜ wordsOf (now (image .exit)) ≡ sets (wordsOf (now (image .entry))) at (now (numbers .entry)) ⌝ }
+{
+    let mut i: usize = 0;
+    while i < numbers.len() {
+        words::put_word(image, at + i, numbers[i]);
+        i += 1;
+    }
+}
+
+// The open window's identifiers.
+fn put_listed(image: &mut [u8], l: Listed)
+    requires { ⌜ length (now image) ≡ 2456 ⌝ }
+    ensures { λ r. ⌜ (wordsOf (now (image .exit)) ≡ sets (wordsOf (now (image .entry))) 6 (listedWords l)) × (length (l .ids) ≡ 64) ⌝ }
+{
+    words::put_word(image, 6, l.used as u32);
+    let mut i: usize = 0;
+    while i < 64 {
+        words::put_word(image, 7 + i, l.ids[i] as u32);
+        i += 1;
+    }
+}
+
+// The buffered postings.
+fn put_buffer(image: &mut [u8], b: Buffer)
+    requires { ⌜ length (now image) ≡ 2456 ⌝ }
+    ensures { λ r. ⌜ (wordsOf (now (image .exit)) ≡ sets (wordsOf (now (image .entry))) 71 (bufferWords b)) × (length (b .postings) ≡ 128) ⌝ }
+{
+    words::put_word(image, 71, b.used as u32);
+    let mut i: usize = 0;
+    while i < 128 {
+        let p = b.postings[i];
+        let count = raise(p.count);
+        let numbers = [p.id as u32, p.window as u32, count as u32];
+        put_words(image, 72 + 3 * i, &numbers);
+        i += 1;
+    }
+}
+
+// The finished partitions.
+fn put_partitions(image: &mut [u8], ps: Partitions)
+    requires { ⌜ length (now image) ≡ 2456 ⌝ }
+    ensures { λ r. ⌜ (wordsOf (now (image .exit)) ≡ sets (wordsOf (now (image .entry))) 456 (partitionsWords ps)) × (length (ps .records) ≡ 51) ⌝ }
+{
+    words::put_word(image, 456, ps.used as u32);
+    let mut i: usize = 0;
+    while i < 51 {
+        let p = ps.records[i];
+        let numbers = [p.first as u32, p.level as u32, p.length];
+        put_words(image, 457 + 3 * i, &numbers);
+        i += 1;
+    }
+}
+
+// The lengths of the buffers and the windows' numbers.
+fn put_numbers(image: &mut [u8], l: Lengths, w: Windows)
+    requires { ⌜ length (now image) ≡ 2456 ⌝ }
+    ensures { λ r. ⌜ wordsOf (now (image .exit)) ≡ sets (wordsOf (now (image .entry))) 0 (numberWords l w) ⌝ }
+{
+    let numbers = [
+        l.card,
+        l.register,
+        w.last as u32,
+        w.live as u32,
+        w.current as u32,
+        w.events as u32,
+    ];
+    put_words(image, 0, &numbers);
+}
+
+// The block last taken and the merge in progress.
+fn put_last(image: &mut [u8], taken: u16, m: MergeJob)
+    requires { ⌜ length (now image) ≡ 2456 ⌝ }
+    ensures { λ r. ⌜ wordsOf (now (image .exit)) ≡ sets (wordsOf (now (image .entry))) 610 (lastWords taken m) ⌝ }
+{
+    let numbers = [taken as u32, m.first as u32, m.length, m.steps];
+    put_words(image, 610, &numbers);
+}
+
+// The image of a state.
+pub fn write_state(image: &mut [u8], s: State)
+    requires { ⌜ length (now image) ≡ 2456 ⌝ }
+    ensures { λ r. ⌜ now (image .exit) ≡ bytes (imageOf s) ⌝ }
+{
+    put_numbers(image, s.lengths, s.windows);
+    put_listed(image, s.listed);
+    put_buffer(image, s.buffer);
+    put_partitions(image, s.partitions);
+    put_last(image, s.taken, s.merge);
+}
