@@ -1,9 +1,17 @@
-// The engine's functions for callers in C and Rust: numbers and byte slices alone.
+// The engine's functions for callers in C and Rust: numbers and byte slices alone. A state is lent as its byte image.
+use answers::Opened;
+use answers::Refusal;
+use answers::Reply;
+use state::State;
 ghost use mathlib.Core.Bool.{cond, _&&_};
 ghost use mathlib.Core.Path.{_≡_};
+ghost use Prim.Native.Nat.{_≤_};
 ghost use lib.Dec.{leb};
 ghost use lib.ListN.{length};
+ghost use Rattle.answers.specs.Numbers.{refusalNumber, replied, openedAs};
 ghost use Rattle.identifiers.specs.Register.{registerRule};
+ghost use Rattle.windows.specs.Promises.{Gives};
+ghost use Rattle.capi.specs.Exports.{cardedOf, lentOf, repliedBy, openedBy, startOn, unstartedOn, openOn, closeOn, eventOn, flushOn, settledOn, openedOn};
 
 // Is a register well formed? 1 where it is; 0 where it is not, or has more than 1,024 entries.
 #[no_mangle]
@@ -18,4 +26,137 @@ pub extern "C" fn gemsilver_register_ok(register: &[u8]) -> u8
     } else {
         0
     }
+}
+
+// A refusal's number.
+fn number_of(why: Refusal) -> u32
+    ensures { λ r. ⌜ r ≡ refusalNumber why ⌝ }
+{
+    match why {
+        Refusal::BrokenState => 1,
+        Refusal::WrongLength => 2,
+        Refusal::Malformed => 3,
+        Refusal::BadIdentifier => 4,
+        Refusal::OutOfTurn => 5,
+        Refusal::Exhausted => 6,
+        Refusal::NotLive => 7,
+        Refusal::RegisterFull => 8,
+        Refusal::WindowFull => 9,
+        Refusal::LevelFull => 10,
+        Refusal::HalfFull => 11,
+        Refusal::TooFewFree => 12,
+        Refusal::NothingDue => 13,
+        Refusal::BadQuery => 14,
+    }
+}
+
+// The number of an answer, with the image put back where the call is done.
+fn settle(image: &mut [u8], reply: Reply, s: State) -> u32
+    requires { ⌜ length (now image) ≡ 2456 ⌝ }
+    ensures { λ r. ⌜ (repliedBy r ≡ replied reply) × (now (image .exit) ≡ settledOn reply s (now (image .entry))) ⌝ }
+{
+    match reply {
+        Reply::Refused(why) => number_of(why),
+        Reply::Done => {
+            images::write_state(image, s);
+            0
+        }
+    }
+}
+
+// The same for an open.
+fn settle_open(image: &mut [u8], answer: Opened, s: State) -> u32
+    requires { ⌜ length (now image) ≡ 2456 ⌝ }
+    ensures { λ r. ⌜ (openedBy r ≡ openedAs answer) × (now (image .exit) ≡ openedOn answer s (now (image .entry))) ⌝ }
+{
+    match answer {
+        Opened::Refused(why) => 65536 + number_of(why),
+        Opened::Number(n) => {
+            images::write_state(image, s);
+            n as u32
+        }
+    }
+}
+
+// A fresh card and register, and the image of their state.
+#[no_mangle]
+pub extern "C" fn gemsilver_start(image: &mut [u8], card: &mut [u8], register: &mut [u8]) -> u32
+    ensures { λ r. ⌜ Gives (unstartedOn (lentOf (now (image .entry)) (now (card .entry)) (now (register .entry))))
+        (startOn (lentOf (now (image .entry)) (now (card .entry)) (now (register .entry))))
+        (repliedBy r) (lentOf (now (image .exit)) (now (card .exit)) (now (register .exit))) ⌝ }
+{
+    if image.len() != 2456 {
+        return 1;
+    }
+    let r = engine::start(card, register);
+    images::write_state(image, r.state);
+    let reply = r.reply;
+    match reply {
+        Reply::Refused(why) => number_of(why),
+        Reply::Done => 0,
+    }
+}
+
+// A window is opened: its number, or 65,536 more than a refusal's.
+#[no_mangle]
+pub extern "C" fn gemsilver_open(image: &mut [u8]) -> u32
+    ensures { λ r. ⌜ Gives (now (image .entry)) (openOn (now (image .entry))) (openedBy r) (now (image .exit)) ⌝ }
+{
+    if !images::image_ok(image) {
+        return 65537;
+    }
+    let s = images::read_state(image);
+    let r = engine::open(s);
+    let answer = r.answer;
+    settle_open(image, answer, r.state)
+}
+
+// The open window is closed.
+#[no_mangle]
+pub extern "C" fn gemsilver_close(image: &mut [u8]) -> u32
+    ensures { λ r. ⌜ Gives (now (image .entry)) (closeOn (now (image .entry))) (repliedBy r) (now (image .exit)) ⌝ }
+{
+    if !images::image_ok(image) {
+        return 1;
+    }
+    let s = images::read_state(image);
+    let r = engine::close(s);
+    let reply = r.reply;
+    settle(image, reply, r.state)
+}
+
+// An event is counted.
+#[no_mangle]
+pub extern "C" fn gemsilver_event(
+    image: &mut [u8],
+    card: &mut [u8],
+    register: &mut [u8],
+    id: &[u8],
+) -> u32
+    ensures { λ r. ⌜ Gives (lentOf (now (image .entry)) (now (card .entry)) (now (register .entry)))
+        (eventOn (lentOf (now (image .entry)) (now (card .entry)) (now (register .entry))) (now (id .entry)))
+        (repliedBy r) (lentOf (now (image .exit)) (now (card .exit)) (now (register .exit))) ⌝ }
+{
+    if !images::image_ok(image) {
+        return 1;
+    }
+    let s = images::read_state(image);
+    let r = engine::event(s, card, register, id);
+    let reply = r.reply;
+    settle(image, reply, r.state)
+}
+
+// The buffered postings are written.
+#[no_mangle]
+pub extern "C" fn gemsilver_flush(image: &mut [u8], card: &mut [u8]) -> u32
+    ensures { λ r. ⌜ Gives (cardedOf (now (image .entry)) (now (card .entry))) (flushOn (cardedOf (now (image .entry)) (now (card .entry))))
+        (repliedBy r) (cardedOf (now (image .exit)) (now (card .exit))) ⌝ }
+{
+    if !images::image_ok(image) {
+        return 1;
+    }
+    let s = images::read_state(image);
+    let r = engine::flush(s, card);
+    let reply = r.reply;
+    settle(image, reply, r.state)
 }

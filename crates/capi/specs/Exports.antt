@@ -1,0 +1,91 @@
+-- The exported calls: the engine's, on a state that is lent as its byte image, with answers as numbers.
+use mathlib.Core.Bool.{Bool, not, cond}
+use mathlib.Core.List.{List}
+use Prim.Native.Nat.{ℕ, zero, suc, _-_}
+use lib.Dec.{eqb, ltb}
+use lib.ListN.{length}
+use Rattle.words.specs.Words.{words, bytes}
+use Rattle.answers.specs.Answers.{Answer, done, number, refused, Outcome, refuseIf, carry}
+use Rattle.answers.specs.declared.Reply.{Reply}
+use Rattle.answers.specs.declared.Reply.the-variants as reply
+use Rattle.answers.specs.declared.Opened.{Opened}
+use Rattle.answers.specs.declared.Opened.the-variants as opened
+use Rattle.state.specs.declared.State.{State}
+use Rattle.state.specs.Probe.{Store, Probe}
+use Rattle.identifiers.specs.Names.{Name}
+use Rattle.windows.specs.Promises.{storeOf, probeOf}
+use Rattle.windows.specs.Calls.{startOf, unstarted, openOf, closeOf, eventOf, flushOf}
+use Rattle.images.specs.Images.{imageOf, stateIn, imageRule}
+
+-- the bytes that a call is lent: a state's image with a card, or with both buffers
+pub record Carded : Type 0 where
+  pub image : List ℕ
+  pub card : List ℕ
+
+pub record Lent : Type 0 where
+  pub image : List ℕ
+  pub card : List ℕ
+  pub register : List ℕ
+
+abbrev pub cardedOf : List ℕ → List ℕ → Carded
+cardedOf image card = record { image = image; card = card }
+
+abbrev pub lentOf : List ℕ → List ℕ → List ℕ → Lent
+lentOf image card register = record { image = image; card = card; register = register }
+
+-- ---- states as images
+
+-- the state of an image
+abbrev pub stateOn : List ℕ → State
+stateOn image = stateIn (words image)
+
+-- the image of a state
+unfoldable pub imaged : State → List ℕ
+imaged s = bytes (imageOf s)
+
+unfoldable pub imagedStore : Store → Carded
+imagedStore p = record { image = imaged (p .state); card = p .card }
+
+unfoldable pub imagedProbe : Probe → Lent
+imagedProbe p = record { image = imaged (p .state); card = p .card; register = p .register }
+
+-- ---- numbers as answers
+
+-- 0 is done, another number is a refusal's
+abbrev pub repliedBy : ℕ → Answer
+repliedBy zero = done
+repliedBy (suc n) = refused (suc n)
+
+-- a window's number, or 65,536 more than a refusal's
+abbrev pub openedBy : ℕ → Answer
+openedBy n = cond (ltb n 65536) (number n) (refused (n - 65536))
+
+-- ---- calls; bytes that are no image are no state, so that refusal 1 comes first
+
+unfoldable pub startOn : Lent → Outcome Lent
+startOn l = refuseIf (not (eqb (length (l .image)) 2456)) 1 (carry imagedProbe (startOf (l .card) (l .register)))
+
+-- what a start that is refused leaves: the image of a state of zeros, unless there was no room for it
+abbrev pub unstartedOn : Lent → Lent
+unstartedOn l = cond (eqb (length (l .image)) 2456) (imagedProbe (unstarted (l .card) (l .register))) l
+
+unfoldable pub openOn : List ℕ → Outcome (List ℕ)
+openOn image = refuseIf (not (imageRule image)) 1 (carry imaged (openOf (stateOn image)))
+
+unfoldable pub closeOn : List ℕ → Outcome (List ℕ)
+closeOn image = refuseIf (not (imageRule image)) 1 (carry imaged (closeOf (stateOn image)))
+
+unfoldable pub eventOn : Lent → Name → Outcome Lent
+eventOn l n = refuseIf (not (imageRule (l .image))) 1 (carry imagedProbe (eventOf (probeOf (stateOn (l .image)) (l .card) (l .register)) n))
+
+unfoldable pub flushOn : Carded → Outcome Carded
+flushOn l = refuseIf (not (imageRule (l .image))) 1 (carry imagedStore (flushOf (storeOf (stateOn (l .image)) (l .card))))
+
+-- the image after a call: the new state's where it is done, else as it was
+abbrev pub settledOn : Reply → State → List ℕ → List ℕ
+settledOn reply.Done s image = imaged s
+settledOn (reply.Refused why) s image = image
+
+abbrev pub openedOn : Opened → State → List ℕ → List ℕ
+openedOn (opened.Number n) s image = imaged s
+openedOn (opened.Refused why) s image = image
