@@ -44,11 +44,11 @@ use Rattle.walks.proofs.Ranges.{range, own, Falls, more, falling, sums-
 -- ---- words
 
 -- a word has 32 bits
-abbrev Small : ℕ → Type 0
+abbrev pub Small : ℕ → Type 0
 Small x = x < 4294967296
 
 -- what a rule of a list says of one posting
-abbrev rule : Posting → Bool
+abbrev pub rule : Posting → Bool
 rule p = leb 1 (p .window) && not (isZero (p .count))
 
 sizeless-zero : (b n : ℕ) → n ≡ 0 → isZero (signed b n) ≡ true
@@ -57,7 +57,7 @@ sizeless-zero (suc b) zero e = refl
 sizeless-zero b (suc n) e = absurd (omega arith)
 
 -- a word holds a posting where its posting keeps the rule
-fine-rule : (i x : ℕ) → isPosting x ≡ rule (posted i x)
+pub fine-rule : (i x : ℕ) → isPosting x ≡ rule (posted i x)
 fine-rule i x =
     by-test (eqb (x / 65536) 0)
     (λ y. let z = eqb-true (x / 65536) 0 y in rw (y, lt-leb 1 (x / 65536) (omega arith)))
@@ -107,7 +107,8 @@ module _ (W : List ℕ) (small : Below 4294967296 W) where
   small-at zero b k = tt
   small-at (suc n) b k = (small _, small-at n (nextBlock W b k) (nextWord k))
 
-  small-ahead : (c : Cursor) → AllOf Small (ahead W c)
+  -- the words that a cursor has to come are small
+  pub small-ahead : (c : Cursor) → AllOf Small (ahead W c)
   small-ahead c = small-at (c .left) (c .block) (c .word)
 
   falls-lists : (i : ℕ) (cs : List Cursor) → allFall 65536 (map (items W) cs) ≡ every listRule (map (listAt W i) cs)

@@ -1,0 +1,4 @@
+pub mod Heads
+pub mod Moves
+pub mod Keys
+pub mod Merged
