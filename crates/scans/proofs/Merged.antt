@@ -1,25 +1,20 @@
 -- The pairs by falling key are the pairs of the postings in order.
-use mathlib.Core.Bool.{Bool, true, false, cond, _&&_}
+use mathlib.Core.Bool.{true, false}
 use mathlib.Core.List.{List, [], _∷_, _++_, map, foldr}
 use mathlib.Core.Path.{_≡_, refl, sym, ap, _∙_}
-use Prim.Native.Nat.{ℕ, _<_, _≤_}
-use native.Mathlib.Omega.{arith}
-use lib.Dec.{leb, ltb, eqb}
-use lib.IntN.{ℤ, _+ℤ_}
-use borrow.Author.Tests.{le-leb}
 use Rattle.lists.specs.Lists.{every, joined}
 use Rattle.lists.proofs.Bools.{by-test, and-left, and-right, and-both}
 use Rattle.lists.proofs.Tests.{every-append}
-use Rattle.keyed.specs.Keys.{Item, Pair, allFall, pairs as keyedPairs}
+use Rattle.keyed.specs.Keys.{Pair, allFall, pairs as keyedPairs}
 use Rattle.keyed.specs.Collect.{put as putKeyed, putAll, collect}
 use Rattle.keyed.proofs.Collected.{pairs-collect}
 use Rattle.postings.specs.declared.Posting.{Posting}
 use Rattle.postings.specs.Order.{precedes, samePair}
-use Rattle.postings.specs.Merge.{counting, put, pairs}
-use Rattle.postings.proofs.Order.{same-swap, same-pair, precedes-apart}
-use Rattle.postings.proofs.Merge.{every-put, every-puts}
+use Rattle.postings.specs.Merge.{put, pairs}
+use Rattle.postings.proofs.Order.{same-swap, precedes-apart}
+use Rattle.postings.proofs.Merge.{every-puts}
 use Rattle.scans.specs.Keys.{keyOf, itemOf, isKeyed, postingOf}
-use Rattle.scans.proofs.Keys.{Bounds, bounds, key-of-id, key-of-window, key-pair, key-precedes}
+use Rattle.scans.proofs.Keys.{bounds, key-of-id, key-of-window, key-pair, key-precedes}
 
 -- a posting as a key with its sum
 abbrev pub pairOf : Posting → Pair

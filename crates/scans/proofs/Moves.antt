@@ -1,8 +1,8 @@
 -- Sources moved past a key, and the postings that they have to come.
-use mathlib.Core.Bool.{Bool, true, _&&_}
+use mathlib.Core.Bool.{true}
 use mathlib.Core.List.{List, [], _∷_, map}
-use mathlib.Core.Path.{_≡_, refl, sym, ap, ap₂, _∙_}
-use Prim.Native.Nat.{ℕ, _+_, _-_, _/_, _≤_}
+use mathlib.Core.Path.{_≡_, refl, sym, ap, _∙_}
+use Prim.Native.Nat.{ℕ, _-_, _/_, _≤_}
 use native.Mathlib.Omega.{arith}
 use lib.Dec.{ltb, leb}
 use lib.ListN.{getD, drop}
@@ -15,7 +15,6 @@ use Rattle.lists.proofs.Runs.{never}
 use Rattle.keyed.specs.Keys.{Item, rest}
 use Rattle.keyed.proofs.Turns.{views-map}
 use Rattle.words.specs.Words.{Below}
-use Rattle.postings.specs.declared.Posting.{Posting}
 use Rattle.card.specs.Cursors.{ahead}
 use Rattle.partitions.specs.declared.Reader.{Reader}
 use Rattle.partitions.specs.Readers.{postedBy, postingsAhead, numbered, GoodReader}

@@ -1,0 +1,75 @@
+-- The walk over opened sources tells what is told of the inputs.
+use mathlib.Core.Bool.{true}
+use mathlib.Core.List.{List, map}
+use mathlib.Core.Path.{_≡_, sym, ap, _∙_}
+use Prim.Native.Nat.{ℕ}
+use lib.Dec.{leb}
+use Rattle.lists.specs.Lists.{every, joined}
+use Rattle.lists.proofs.Bools.{by-test, and-left, and-right}
+use Rattle.lists.proofs.Tests.{every-from}
+use Rattle.lists.proofs.Ranges.{every-map}
+use Rattle.keyed.specs.Keys.{allFall}
+use Rattle.words.specs.Words.{Below}
+use Rattle.postings.specs.declared.Posting.{Posting}
+use Rattle.postings.specs.Merge.{pairs}
+use Rattle.state.specs.declared.Partition.{Partition}
+use Rattle.partitions.specs.Reading.{postingsOf, inPartitions}
+use Rattle.partitions.specs.Formed.{listRule}
+use Rattle.scans.specs.declared.Sources.{Sources}
+use Rattle.scans.specs.Keys.{itemOf, isKeyed}
+use Rattle.scans.specs.Items.{postingLists, itemLists, Ready}
+use Rattle.scans.proofs.Keys.{lists-rule}
+use Rattle.scans.proofs.Merged.{pairs-bound, pairs-keyed}
+use Rattle.scans.proofs.Moves.{items-lists, lists-keyed}
+use Rattle.inputs.specs.Judging.{allInRange, inputsFormed, totalsOf, zeros, judgedOf, resumed}
+use Rattle.inputs.specs.Ahead.{pairsAhead, Formed}
+use Rattle.inputs.proofs.Tallies.{tallied-all}
+
+-- inputs are told to be well formed where they are
+pub judged-fine : (W : List ℕ) (ps : List Partition) → judgedOf W ps .fine ≡ inputsFormed W ps
+unfolding judgedOf totalsOf
+judged-fine W ps = by-test (inputsFormed W ps) (λ y. rw y) (λ n. rw n)
+
+-- and then the totals are those of their pairs
+pub judged-totals : (W : List ℕ) (ps : List Partition) → inputsFormed W ps ≡ true → judgedOf W ps ≡ totalsOf (pairs (inPartitions W ps))
+unfolding judgedOf
+judged-totals W ps e = rw e
+
+module _ (W : List ℕ) (small : Below 4294967296 W) (ps : List Partition) (ss : Sources) (ready : Ready W ss) (lists : postingLists W ss ≡ map (postingsOf W) ps) where
+  abbrev ls : List (List Posting)
+  ls = map (postingsOf W) ps
+
+  keyed : every (every isKeyed) ls ≡ true
+  keyed = rw lists at (lists-keyed W small ss ready)
+
+  items : itemLists W ss ≡ map (map itemOf) ls
+  items = items-lists W ss ∙ ap (map (map itemOf)) lists
+
+  falls : allFall 67108864 (map (map itemOf) ls) ≡ every (λ p. listRule (postingsOf W p)) ps
+  falls = lists-rule ls keyed ∙ every-map listRule (postingsOf W) ps
+
+  ids : every (λ p. leb (p .id) 1023) (pairs (joined ls)) ≡ true
+  ids =
+      every-from isKeyed isKeyed (λ p. leb (p .id) 1023) (λ p a b. and-left (leb (p .id) 1023) _ a) (pairs (joined ls)) (pairs-bound ls keyed) (pairs-bound ls keyed)
+
+  -- what the walk tells
+  pub judged-walk : resumed 67108864 (itemLists W ss) (zeros true) ≡ judgedOf W ps
+  unfolding resumed judgedOf inputsFormed inPartitions
+  judged-walk =
+      rw items
+      (by-test (allFall 67108864 (map (map itemOf) ls))
+      (λ y. rw (pairs-keyed ls keyed y, tallied-all (pairs (joined ls)) ids, falls))
+      (λ n. rw (n, sym falls ∙ n)))
+
+  -- sources of well formed inputs
+  pub opened-ahead : pairsAhead W ss ≡ pairs (inPartitions W ps)
+  unfolding pairsAhead inPartitions
+  opened-ahead = ap (λ (l : List (List Posting)). pairs (joined l)) lists
+
+  pub opened-formed : inputsFormed W ps ≡ true → Formed W ss
+  unfolding inputsFormed
+  opened-formed e = record {
+    ready = ready;
+    lists = ap (every listRule) lists ∙ every-map listRule (postingsOf W) ps ∙ and-left _ _ e;
+    sums = ap allInRange opened-ahead ∙ and-right (every (λ p. listRule (postingsOf W p)) ps) _ e;
+  }

@@ -1,0 +1,45 @@
+-- The walk that judges the inputs: how what is told goes on from key to key.
+use mathlib.Core.Bool.{true, false}
+use mathlib.Core.List.{List, map}
+use mathlib.Core.Path.{_≡_, sym, _∙_}
+use Prim.Native.Nat.{ℕ, suc, _<_, _≤_}
+use native.Mathlib.Omega.{arith}
+use Rattle.lists.proofs.Bools.{by-test, and-right}
+use Rattle.keyed.specs.Keys.{Item, allFall, topFrom, rest, headVals, headsFine}
+use Rattle.keyed.proofs.Walk.{under-top, top-falls, spent-falls, under, step-falls, pairs-none, pairs-step}
+use Rattle.partitions.specs.Formed.{inRange}
+use Rattle.scans.specs.Keys.{postingOf}
+use Rattle.inputs.specs.declared.Totals.{Totals}
+use Rattle.inputs.specs.Judging.{zeros, tallyOf, tallied, resumed}
+
+module _ (m : ℕ) (ls : List (List Item)) (t : Totals) where
+  -- nothing is left
+  pub ended : topFrom 0 ls ≡ 0 → resumed m ls t ≡ t
+  unfolding resumed tallied
+  ended e = let u = rw e at (under-top 0 ls) in rw (spent-falls m ls u, pairs-none m ls u)
+
+  -- a key at or above one that was passed
+  pub too-high : m < topFrom 0 ls → resumed m ls t ≡ zeros false
+  unfolding resumed
+  too-high h = by-test (allFall m ls) (λ e. let f = top-falls m 0 ls (omega arith) e in absurd (omega arith)) (λ e. rw e)
+
+  module _ (k : ℕ) (top : topFrom 0 ls ≡ suc k) (low : suc k ≤ m) where
+    -- a malformed posting
+    pub malformed : headsFine k ls ≡ false → resumed m ls t ≡ zeros false
+    unfolding resumed
+    malformed e = rw (step-falls m k ls (under k ls top) low, e)
+
+    -- a sum that does not fit
+    pub out-of-range : inRange (headVals k ls) ≡ false → resumed m ls t ≡ zeros false
+    unfolding resumed
+    out-of-range e = by-test (allFall m ls) (λ y. rw (y, pairs-step m k ls top low y, e)) (λ n. rw n)
+
+    -- else a pair more
+    pub went-on : headsFine k ls ≡ true → inRange (headVals k ls) ≡ true
+        → resumed m ls t ≡ resumed k (map (rest k) ls) (tallyOf t (postingOf (record { key = k; sum = headVals k ls })))
+    unfolding resumed tallied
+    went-on e w =
+        let s = step-falls m k ls (under k ls top) low in
+        by-test (allFall m ls)
+        (λ y. let b : allFall k (map (rest k) ls) ≡ true = and-right (headsFine k ls) _ (sym s ∙ y) in rw (y, pairs-step m k ls top low y, w, b))
+        (λ n. let b : allFall k (map (rest k) ls) ≡ false = rw e at (sym s ∙ n) in rw (n, b))

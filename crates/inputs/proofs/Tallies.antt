@@ -1,0 +1,131 @@
+-- Totals pair by pair are the totals of all pairs.
+use mathlib.Core.Bool.{Bool, true, false, not, cond}
+use mathlib.Core.List.{List, [], _∷_, _++_, map, append-nil, append-assoc}
+use mathlib.Core.Path.{_≡_, refl, sym, ap, _∙_}
+use Prim.Native.Nat.{ℕ, zero, suc, _+_, _<_, _≤_}
+use native.Mathlib.Omega.{arith}
+use lib.Dec.{eqb, leb}
+use lib.ListN.{length, getD, set, replicate, length-append, length-map, length-set}
+use lib.Seq.{ext-getD, getD-set-same, getD-set-other}
+use borrow.Author.Tests.{leb-true, eqb-true, eqb-false, eq-eqb, ne-eqb}
+use Rattle.lists.specs.Lists.{keep, every, rising, upTo}
+use Rattle.lists.proofs.Bools.{by-test, and-left, and-right}
+use Rattle.lists.proofs.Tests.{keep-append}
+use Rattle.lists.proofs.Ranges.{length-rising, upTo-at}
+use Rattle.postings.specs.declared.Posting.{Posting}
+use Rattle.postings.specs.Merge.{isZero, counts, nonzero}
+use Rattle.postings.specs.Sums.{under}
+use Rattle.partitions.specs.Layout.{identifiersOf, termCount}
+use Rattle.inputs.specs.declared.Totals.{Totals}
+use Rattle.inputs.specs.Judging.{totalsOf, zeros, risen, tallyOf, tallied}
+
+-- ---- a posting more at the end
+
+-- how many postings it makes under each identifier
+length-under : (i : ℕ) (l : List Posting) (p : Posting) → length (under i (l ++ (p ∷ []))) ≡ length (under i l) + cond (eqb (p .id) i) 1 0
+length-under i l p =
+    ap length (keep-append (λ q. eqb (q .id) i) l (p ∷ []))
+    ∙ length-append (under i l) (under i (p ∷ []))
+    ∙ ap (λ (n : ℕ). length (under i l) + n) (by-test (eqb (p .id) i) (λ y. rw y) (λ n. rw n))
+
+-- the numbers of postings by identifier
+abbrev numbers : List Posting → List ℕ
+numbers l = map (λ i. length (under i l)) (upTo 1024)
+
+length-numbers : (l : List Posting) → length (numbers l) ≡ 1024
+length-numbers l = length-map (upTo 1024) (λ i. length (under i l)) ∙ length-rising 0 1024
+
+number-at : (l : List Posting) (i : ℕ) → i < 1024 → getD (numbers l) i 0 ≡ length (under i l)
+number-at l i h = upTo-at (λ j. length (under j l)) 1024 i 0 h
+
+numbers-more : (l : List Posting) (p : Posting) → p .id ≤ 1023 → numbers (l ++ (p ∷ [])) ≡ set (numbers l) (p .id) (getD (numbers l) (p .id) 0 + 1)
+numbers-more l p h =
+    ext-getD 0 (numbers (l ++ (p ∷ []))) (set (numbers l) (p .id) (getD (numbers l) (p .id) 0 + 1))
+    (length-numbers (l ++ (p ∷ [])) ∙ sym (length-set (numbers l) (p .id) (getD (numbers l) (p .id) 0 + 1) ∙ length-numbers l))
+    (λ i b. let c : i < 1024 = omega (arith, length-numbers (l ++ (p ∷ []))) in
+    number-at (l ++ (p ∷ [])) i c ∙ length-under i l p ∙ each i c)
+  where
+    each : (i : ℕ) → i < 1024 → length (under i l) + cond (eqb (p .id) i) 1 0 ≡ getD (set (numbers l) (p .id) (getD (numbers l) (p .id) 0 + 1)) i 0
+    each i c =
+        by-test (eqb (p .id) i)
+        (λ y. let e = eqb-true (p .id) i y in
+        rw (y, ← e, getD-set-same (numbers l) (p .id) (getD (numbers l) (p .id) 0 + 1) 0 (omega (arith, length-numbers l)), number-at l (p .id) (omega arith)))
+        (λ n. let e : p .id ≡ i → ⊥ = eqb-false (p .id) i n in
+        rw (n, getD-set-other (numbers l) (p .id) i (getD (numbers l) (p .id) 0 + 1) 0 (λ s. e (sym s)), number-at l i c) (omega arith))
+
+-- and which identifiers there are
+identifiers-more : (l : List Posting) (p : Posting) → identifiersOf (l ++ (p ∷ [])) ≡ identifiersOf l ++ cond (eqb (length (under (p .id) l)) 0) (p .id ∷ []) []
+identifiers-more [] p = refl
+identifiers-more (q ∷ l) p =
+    by-test (eqb (q .id) (p .id))
+    (λ y. let e = eqb-true (q .id) (p .id) y in
+    let z : not (eqb (p .id) (q .id)) ≡ false = rw (eq-eqb (p .id) (q .id) (sym e)) in
+    rw (y, ne-eqb (suc (length (under (p .id) l))) 0 (λ s. omega arith)) (first (identifiers-more l p) (gone z (eqb (length (under (p .id) l)) 0))))
+    (λ n. let e : q .id ≡ p .id → ⊥ = eqb-false (q .id) (p .id) n in
+    let z : not (eqb (p .id) (q .id)) ≡ true = rw (ne-eqb (p .id) (q .id) (λ s. e (sym s))) in
+    rw n (first (identifiers-more l p) (kept z (eqb (length (under (p .id) l)) 0))))
+  where
+    gone : not (eqb (p .id) (q .id)) ≡ false → (t : Bool) → keep (λ i. not (eqb i (q .id))) (cond t (p .id ∷ []) []) ≡ []
+    gone z true = rw z
+    gone z false = refl
+
+    kept : not (eqb (p .id) (q .id)) ≡ true → (t : Bool) → keep (λ i. not (eqb i (q .id))) (cond t (p .id ∷ []) []) ≡ cond t (p .id ∷ []) []
+    kept z true = rw z
+    kept z false = refl
+
+    first : {r : List ℕ} → identifiersOf (l ++ (p ∷ [])) ≡ identifiersOf l ++ cond (eqb (length (under (p .id) l)) 0) (p .id ∷ []) []
+        → keep (λ i. not (eqb i (q .id))) (cond (eqb (length (under (p .id) l)) 0) (p .id ∷ []) []) ≡ r
+        → q .id ∷ keep (λ i. not (eqb i (q .id))) (identifiersOf (l ++ (p ∷ []))) ≡ q .id ∷ (keep (λ i. not (eqb i (q .id))) (identifiersOf l) ++ r)
+    first more e =
+        ap (λ (m : List ℕ). q .id ∷ m)
+        (ap (keep (λ i. not (eqb i (q .id)))) more
+        ∙ keep-append (λ i. not (eqb i (q .id))) (identifiersOf l) (cond (eqb (length (under (p .id) l)) 0) (p .id ∷ []) [])
+        ∙ ap (λ (m : List ℕ). keep (λ i. not (eqb i (q .id))) (identifiersOf l) ++ m) e)
+
+terms-more : (l : List Posting) (p : Posting) → p .id ≤ 1023 → termCount (l ++ (p ∷ [])) ≡ risen (termCount l) (getD (numbers l) (p .id) 0)
+terms-more l p h =
+    ap length (identifiers-more l p)
+    ∙ length-append (identifiersOf l) (cond (eqb (length (under (p .id) l)) 0) (p .id ∷ []) [])
+    ∙ rw (number-at l (p .id) (omega arith)) (pick (eqb (length (under (p .id) l)) 0))
+  where
+    pick : (t : Bool) → length (identifiersOf l) + length (cond t (p .id ∷ []) []) ≡ cond t (termCount l + 1) (termCount l)
+    pick true = refl
+    pick false = omega arith
+
+-- ---- a pair more
+
+nonzero-more : (l : List Posting) (p : Posting) → nonzero (l ++ (p ∷ [])) ≡ nonzero l ++ cond (counts p) (p ∷ []) []
+unfolding nonzero
+nonzero-more l p = keep-append counts l (p ∷ [])
+
+tally-more : (l : List Posting) (p : Posting) → p .id ≤ 1023 → totalsOf (l ++ (p ∷ [])) ≡ tallyOf (totalsOf l) p
+unfolding totalsOf tallyOf
+tally-more l p h =
+    let e = length-append l (p ∷ []) in
+    by-test (isZero (p .count))
+    (λ y. let q : nonzero (l ++ (p ∷ [])) ≡ nonzero l = nonzero-more l p ∙ rw y (append-nil (nonzero l)) in
+    rw (y, e, q))
+    (λ n. let q : nonzero (l ++ (p ∷ [])) ≡ nonzero l ++ (p ∷ []) = nonzero-more l p ∙ rw n in
+    rw (n, e, q, length-append (nonzero l) (p ∷ []), terms-more (nonzero l) p h, numbers-more (nonzero l) p h))
+
+-- ---- all pairs
+
+tallied-from : (d l : List Posting) → every (λ p. leb (p .id) 1023) l ≡ true → tallied (totalsOf d) l ≡ totalsOf (d ++ l)
+unfolding tallied
+tallied-from d [] e = ap totalsOf (sym (append-nil d))
+tallied-from d (p ∷ l) e =
+    ap (λ (t : Totals). tallied t l) (sym (tally-more d p (leb-true (p .id) 1023 (and-left (leb (p .id) 1023) _ e))))
+    ∙ tallied-from (d ++ (p ∷ [])) l (and-right (leb (p .id) 1023) _ e)
+    ∙ ap totalsOf (append-assoc d (p ∷ []) l)
+
+no-numbers : (n k : ℕ) → map {B = ℕ} (λ i. 0) (rising n k) ≡ replicate k 0
+unfolding rising
+no-numbers n zero = refl
+no-numbers n (suc k) = ap (λ (r : List ℕ). 0 ∷ r) (no-numbers (suc n) k)
+
+totals-none : totalsOf [] ≡ zeros true
+unfolding totalsOf nonzero
+totals-none = rw (no-numbers 0 1024)
+
+pub tallied-all : (l : List Posting) → every (λ p. leb (p .id) 1023) l ≡ true → tallied (zeros true) l ≡ totalsOf l
+tallied-all l e = ap (λ (t : Totals). tallied t l) (sym totals-none) ∙ tallied-from [] l e

@@ -1,0 +1,49 @@
+-- `inputs::kept` meets its contract: a sum of 0, and another at the next place. Assumes nothing.
+use mathlib.Core.Bool.{true, false}
+use mathlib.Core.List.{append-nil}
+use mathlib.Core.Path.{_≡_, sym, _∙_}
+use native.Mathlib.Numerals.{add-one}
+use native.Mathlib.Omega.{arith}
+use borrow.Author.Needs.{needs}
+use lib.ListN.{length}
+use lib.Seq.{take-suc-set}
+use Rattle.lists.proofs.Arrays.{unmapped}
+use Rattle.postings.specs.Merge.{isZero, nonzero}
+use Rattle.inputs.specs.Ahead.{batched}
+use Rattle.inputs.proofs.kept.Statement.{statement}
+use Rattle.inputs.proofs.kept.Tie as tie
+
+is-zero-requires : tie.Need-is-zero-requires
+is-zero-requires c κs = search needs
+
+returns : tie.Need-returns
+unfolding nonzero
+returns c =
+    let s = c .before .before in
+    let e : isZero (s .args .p .count) ≡ true = sym (c .before .is-zero .ensures) ∙ c .if1 .taken in
+    (rw e (sym (append-nil (batched (s .args .b)))), omega arith)
+
+cast-n : tie.Need-cast-n
+cast-n c = search needs
+
+mul-p : tie.Need-mul-p
+mul-p c = search needs
+
+element-set-from-p : tie.Need-element-set-from-p
+element-set-from-p c = search needs
+
+add-next : tie.Need-add-next
+add-next c = search needs
+
+returns-2 : tie.Need-returns-2
+unfolding nonzero
+returns-2 c =
+    let s = c .before .before .before .before in
+    let e : isZero (s .args .p .count) ≡ false = sym (c .before .before .before .is-zero .ensures) ∙ c .before .before .if1 .left in
+    let len : length (s .args .b .pairs) ≡ 16 = search (unmapped, needs) in
+    (rw (e, add-one (s .args .b .used), take-suc-set (s .args .b .pairs) (s .args .b .used) (s .args .p) (omega arith)), omega arith)
+
+pub kept-spec : {M : Type 1} → statement M
+kept-spec =
+    tie.close
+    (tie.spec is-zero-requires returns cast-n mul-p element-set-from-p add-next returns-2)
