@@ -22,7 +22,7 @@ pub fn bad_length(id: &[u8]) -> bool
 }
 
 // Are two identifiers equal? The lengths come first, so that neither is read by the other's.
-fn equal(a: &[u8], b: &[u8]) -> bool
+pub fn equal(a: &[u8], b: &[u8]) -> bool
     ensures { λ r. ⌜ r ≡ same (now (a .entry)) (now (b .entry)) ⌝ }
 {
     if a.len() != b.len() {

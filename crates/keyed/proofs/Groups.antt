@@ -73,12 +73,12 @@ unfolding AllOf
 spent-zero j [] u = tt
 spent-zero j (g ∷ gs) u = (spent-sums j g (u .0), spent-zero j gs (u .1))
 
-top-all-falls : (m t : ℕ) (gs : List Group) → t ≤ m → allFallAll m gs ≡ true → topAll t gs ≤ m
+pub top-all-falls : (m t : ℕ) (gs : List Group) → t ≤ m → allFallAll m gs ≡ true → topAll t gs ≤ m
 top-all-falls m t [] h e = h
 top-all-falls m t (g ∷ gs) h e =
     top-all-falls m (larger t (topFrom 0 g)) gs (larger-under t (topFrom 0 g) m h (top-falls m 0 g zero-le (and-left _ _ e))) (and-right (allFall m g) _ e)
 
-step-falls-all : (m k : ℕ) (gs : List Group) → AllOf (Under (suc k)) gs → k < m → allFallAll m gs ≡ (headsFineAll k gs && allFallAll k (moveAll k gs))
+pub step-falls-all : (m k : ℕ) (gs : List Group) → AllOf (Under (suc k)) gs → k < m → allFallAll m gs ≡ (headsFineAll k gs && allFallAll k (moveAll k gs))
 unfolding AllOf
 step-falls-all m k [] u low = refl
 step-falls-all m k (g ∷ gs) u low =

@@ -2,4 +2,3 @@ pub mod Quick
 pub mod Refused
 pub mod Ranking
 pub mod Tops
-pub mod Scores

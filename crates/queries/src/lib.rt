@@ -2,9 +2,8 @@
 use answers::Hit;
 ghost use mathlib.Core.List.{[], _∷_, _++_};
 ghost use mathlib.Core.Path.{_≡_};
-ghost use Prim.Native.Nat.{_+_, _-_, _*_, _≤_, _<_, min};
+ghost use Prim.Native.Nat.{_+_, _-_, _≤_, _<_, min};
 ghost use lib.ListN.{take, drop};
-ghost use Rattle.weights.specs.Weights.{tfWeight, idfWeight};
 ghost use Rattle.queries.specs.Hits.{outranks, place};
 ghost use Rattle.queries.specs.Top.{topOf, listedHits, Held, rank};
 
@@ -96,12 +95,4 @@ pub fn place_hit(t: Top, g: Hit, places: u16) -> Top
         return t;
     }
     insert_hit(t, g, k, last)
-}
-
-// What an identifier adds to a window's score: `count` events there, and `f` of `n` windows have it.
-pub fn weighed(count: u16, n: u16, f: u16) -> u32
-    requires { ⌜ count ≤ 32767 ⌝ }
-    ensures { λ r. ⌜ (r ≡ tfWeight count * idfWeight n f) × (r ≤ 3780) ⌝ }
-{
-    weights::tf_weight(count) * weights::idf_weight(n, f)
 }

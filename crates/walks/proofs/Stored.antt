@@ -217,22 +217,22 @@ module _ (W : List ℕ) (s : State) (i : ℕ) (ls : Lists) (r : Run) (small : Be
       ∙ sym (over-two (λ w. sum inside i w) (λ w. sum beside i w) 65536)
       ∙ over-same ranges true 65536 (λ w. sum inside i w ∷ sum beside i w ∷ []) (λ w. map (sums w) gs) (λ w h. ap₂ (λ (y z : ℤ). y ∷ z ∷ []) (sym (sum-inside w)) (sym (sum-beside w) ∙ sym (+ℤ-idr _)))
 
-  formed-same : identifierFormed W s i ≡ formed gs
+  pub formed-same : identifierFormed W s i ≡ formed gs
   unfolding identifierFormed formed
   formed-same = ap₂ _&&_ rule-lists rule-sums
 
-  total-same : (w : ℕ) → sum (stored W s) i w ≡ totalZ (map (sums w) gs)
+  pub total-same : (w : ℕ) → sum (stored W s) i w ≡ totalZ (map (sums w) gs)
   total-same w =
       sym (sum-under i w (stored W s)) ∙ sum-whole w
       ∙ ap₂ (λ (y z : ℤ). y +ℤ z) (sym (sum-inside w)) (sym (sum-beside w) ∙ sym (+ℤ-idr _) ∙ sym (+ℤ-idr _))
 
-  risen-same : formed gs ≡ true → frequency (stored W s) i ≡ risen gs
+  pub risen-same : formed gs ≡ true → frequency (stored W s) i ≡ risen gs
   unfolding frequency risen
   risen-same f =
       let z = none-at-zero W ls (s .buffer) r (formed-falls W ls (s .buffer) r f) windows in
       over-down (λ w. isAbove (sum (stored W s) i w)) (λ w. map (sums w) gs) (λ w. ap isAbove (total-same w)) (ap isAbove (total-same 0 ∙ total-none (map (sums 0) gs) z)) 65535
 
-  size-same : length whole ≡ size gs
+  pub size-same : length whole ≡ size gs
   unfolding runItems
   size-same =
       let a = size-lists W i (cursorsOf ls) ∙ ap length joined-lists in

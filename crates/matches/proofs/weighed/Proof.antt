@@ -2,9 +2,9 @@ use mathlib.Core.Path.{ap₂}
 use Prim.Native.Nat.{_*_}
 use native.Mathlib.Omega.{arith}
 use borrow.Author.Needs.{needs}
-use Rattle.queries.proofs.Scores.{weight-most}
-use Rattle.queries.proofs.weighed.Statement.{statement}
-use Rattle.queries.proofs.weighed.Tie as tie
+use Rattle.matches.proofs.Scores.{weight-most}
+use Rattle.matches.proofs.weighed.Statement.{statement}
+use Rattle.matches.proofs.weighed.Tie as tie
 
 tf-weight-requires : tie.Need-tf-weight-requires
 tf-weight-requires c κs = search needs

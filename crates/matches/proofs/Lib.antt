@@ -1,0 +1,4 @@
+pub mod Scores
+pub mod Parts
+pub mod Fives
+pub mod Opening
