@@ -68,7 +68,7 @@ unfolding AllOf
 spent-all m [] u = refl
 spent-all m (g ∷ gs) u = and-both (allFall m g) _ (spent-falls m g (u .0)) (spent-all m gs (u .1))
 
-spent-zero : (j : ℕ) (gs : List Group) → AllOf (Under 0) gs → AllOf Zero (map (sums j) gs)
+pub spent-zero : (j : ℕ) (gs : List Group) → AllOf (Under 0) gs → AllOf Zero (map (sums j) gs)
 unfolding AllOf
 spent-zero j [] u = tt
 spent-zero j (g ∷ gs) u = (spent-sums j g (u .0), spent-zero j gs (u .1))

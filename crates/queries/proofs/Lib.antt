@@ -2,3 +2,4 @@ pub mod Quick
 pub mod Refused
 pub mod Ranking
 pub mod Tops
+pub mod Walked

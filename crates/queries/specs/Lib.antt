@@ -1,3 +1,4 @@
 pub mod Hits
 pub mod Query
 pub mod Top
+pub mod Walks

@@ -7,6 +7,8 @@ ghost use lib.ListN.{take, drop};
 ghost use Rattle.queries.specs.Hits.{outranks, place};
 ghost use Rattle.queries.specs.Top.{topOf, listedHits, Held, rank};
 
+pub mod walking; // the walk over the lists of a query's identifiers
+
 // The best hits so far, best first, and zeros after them.
 pub struct Top {
     pub used: u16,
