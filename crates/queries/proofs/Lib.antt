@@ -5,3 +5,5 @@ pub mod Tops
 pub mod Walked
 pub mod Matching
 pub mod Numbers
+pub mod Gathering
+pub mod Tested

@@ -2,3 +2,4 @@ pub mod Hits
 pub mod Query
 pub mod Top
 pub mod Walks
+pub mod Gathered

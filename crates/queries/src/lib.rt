@@ -7,6 +7,7 @@ ghost use lib.ListN.{take, drop};
 ghost use Rattle.queries.specs.Hits.{outranks, place};
 ghost use Rattle.queries.specs.Top.{topOf, listedHits, Held, rank};
 
+pub mod judging; // judging a query and gathering what it reads
 pub mod walking; // the walk over the lists of a query's identifiers
 
 // The best hits so far, best first, and zeros after them.

@@ -1,0 +1,58 @@
+-- `queries::judging::all_differ` meets its contract. The invariant: the first i differ. Assumes nothing.
+use mathlib.Core.Bool.{true}
+use mathlib.Core.Path.{_≡_, refl}
+use mathlib.Core.List.{map}
+use Prim.Native.Nat.{_≤_, _-_}
+use native.Mathlib.Omega.{arith}
+use borrow.Author.Needs.{needs}
+use lib.ListN.{length, take}
+use denote.Ref.{now}
+use Rattle.identifiers.specs.Names.{distinct}
+use Rattle.queries.proofs.Tested.{differ-stopped, differ-on, differ-end}
+use Rattle.queries.proofs.judging.all_differ.Statement.{statement}
+use Rattle.queries.proofs.judging.all_differ.Tie as tie
+
+abbrev Inv-loop : tie.InvT-loop
+Inv-loop ids i₀ i = (i ≤ length ids) × (distinct (take i (map now ids)) ≡ true)
+
+abbrev μ-loop : tie.MeasureT-loop
+μ-loop ids i₀ i = length ids - i
+
+loop-holds : tie.Need-loop-holds Inv-loop μ-loop
+loop-holds c = (omega arith, refl)
+
+repeats-requires : tie.Need-repeats-requires Inv-loop μ-loop
+repeats-requires c κs = omega arith
+
+returns : tie.Need-returns Inv-loop μ-loop
+returns c =
+    let a = c .before .before .before in
+    differ-stopped (a .before .args .ids .now) (a .loop .i) (a .loop .inv .1) (omega arith) _ (c .before .repeats .ensures) (c .if1 .taken)
+
+add-i : tie.Need-add-i Inv-loop μ-loop
+add-i c = omega arith
+
+loop-less : tie.Need-loop-less Inv-loop μ-loop
+loop-less c = omega arith
+
+loop-again : tie.Need-loop-again Inv-loop μ-loop
+loop-again c =
+    let a = c .before .before .before in
+    (omega arith, differ-on (a .before .args .ids .now) (a .loop .i) (a .loop .inv .1) (omega arith) _ (c .before .repeats .ensures) (c .if1 .left))
+
+returns-2 : tie.Need-returns-2 Inv-loop μ-loop
+returns-2 c = let a = c .before in differ-end (a .before .args .ids .now) (a .loop .i) (a .loop .inv .1) (omega arith)
+
+pub all-differ-spec : {M : Type 1} → statement M
+all-differ-spec =
+    tie.close
+    (tie.spec
+    Inv-loop
+    μ-loop
+    loop-holds
+    repeats-requires
+    returns
+    add-i
+    loop-less
+    loop-again
+    returns-2)

@@ -1,0 +1,66 @@
+-- `queries::judging::any_bad` meets its contract. The invariant: the answer for all is the answer for those from i on. Assumes nothing.
+use mathlib.Core.Path.{_≡_, refl}
+use mathlib.Core.List.{map}
+use Prim.Native.Nat.{_≤_, _-_}
+use native.Mathlib.Omega.{arith}
+use borrow.Author.Needs.{needs}
+use lib.ListN.{length, drop}
+use denote.Ref.{now}
+use Rattle.lists.specs.Lists.{any}
+use Rattle.identifiers.specs.Names.{badLength}
+use Rattle.queries.proofs.Tested.{bad-found, bad-on, bad-end}
+use Rattle.queries.proofs.judging.any_bad.Statement.{statement}
+use Rattle.queries.proofs.judging.any_bad.Tie as tie
+
+abbrev Inv-loop : tie.InvT-loop
+Inv-loop ids i₀ i = (i ≤ length ids) × (any badLength (map now ids) ≡ any badLength (map now (drop i ids)))
+
+abbrev μ-loop : tie.MeasureT-loop
+μ-loop ids i₀ i = length ids - i
+
+loop-holds : tie.Need-loop-holds Inv-loop μ-loop
+loop-holds c = (omega arith, refl)
+
+mul-id : tie.Need-mul-id Inv-loop μ-loop
+mul-id c = omega arith
+
+shared-slice-copy-out-id : tie.Need-shared-slice-copy-out-id Inv-loop μ-loop
+shared-slice-copy-out-id c = omega arith
+
+bad-length-requires : tie.Need-bad-length-requires Inv-loop μ-loop
+bad-length-requires c κs = search needs
+
+returns : tie.Need-returns Inv-loop μ-loop
+returns c =
+    let a = c .before .before .before .before in
+    bad-found (a .before .args .ids .now) (a .loop .i) (a .loop .inv .1) (omega arith) _ (c .before .bad-length .ensures) (c .if1 .taken)
+
+add-i : tie.Need-add-i Inv-loop μ-loop
+add-i c = omega arith
+
+loop-less : tie.Need-loop-less Inv-loop μ-loop
+loop-less c = omega arith
+
+loop-again : tie.Need-loop-again Inv-loop μ-loop
+loop-again c =
+    let a = c .before .before .before .before in
+    (omega arith, bad-on (a .before .args .ids .now) (a .loop .i) (a .loop .inv .1) (omega arith) _ (c .before .bad-length .ensures) (c .if1 .left))
+
+returns-2 : tie.Need-returns-2 Inv-loop μ-loop
+returns-2 c = let a = c .before in bad-end (a .before .args .ids .now) (a .loop .i) (a .loop .inv .1) (omega arith)
+
+pub any-bad-spec : {M : Type 1} → statement M
+any-bad-spec =
+    tie.close
+    (tie.spec
+    Inv-loop
+    μ-loop
+    loop-holds
+    mul-id
+    shared-slice-copy-out-id
+    bad-length-requires
+    returns
+    add-i
+    loop-less
+    loop-again
+    returns-2)
