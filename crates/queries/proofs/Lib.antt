@@ -7,3 +7,4 @@ pub mod Matching
 pub mod Numbers
 pub mod Gathering
 pub mod Tested
+pub mod Outcomes

@@ -3,3 +3,4 @@ pub mod Query
 pub mod Top
 pub mod Walks
 pub mod Gathered
+pub mod Finds

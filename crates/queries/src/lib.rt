@@ -1,11 +1,16 @@
 // The query.
+use answers::Found;
 use answers::Hit;
-ghost use mathlib.Core.List.{[], _∷_, _++_};
+use answers::Refusal;
+use state::State;
+ghost use mathlib.Core.List.{[], _∷_, _++_, map};
 ghost use mathlib.Core.Path.{_≡_};
 ghost use Prim.Native.Nat.{_+_, _-_, _≤_, _<_, min};
 ghost use lib.ListN.{take, drop};
 ghost use Rattle.queries.specs.Hits.{outranks, place};
 ghost use Rattle.queries.specs.Top.{topOf, listedHits, Held, rank};
+ghost use Rattle.queries.specs.Gathered.{Sound};
+ghost use Rattle.queries.specs.Finds.{probeOf, Finds};
 
 pub mod judging; // judging a query and gathering what it reads
 pub mod walking; // the walk over the lists of a query's identifiers
@@ -98,4 +103,66 @@ pub fn place_hit(t: Top, g: Hit, places: u16) -> Top
         return t;
     }
     insert_hit(t, g, k, last)
+}
+
+// What a query answers, and its hits.
+pub struct Answered {
+    pub answer: Found,
+    pub top: Top,
+}
+
+// A refusal: no hits.
+fn refuse(why: Refusal) -> Answered
+    ensures { λ r. ⌜ r ≡ record { answer = Found.Refused why; top = topOf [] } ⌝ }
+{
+    let top = no_hits();
+    Answered {
+        answer: Found::Refused(why),
+        top: top,
+    }
+}
+
+// A query on sound buffers: 3 for what is read of its identifiers, 4 and 14, and then the walk.
+fn search_sound(s: State, card: &[u8], register: &[u8], ids: &[&[u8]], places: usize) -> Answered
+    requires { ⌜ Sound s (now card) (now register) ⌝ }
+    ensures { λ r. ⌜ Finds (probeOf s (now (card .entry)) (now (register .entry))) (map now (now (ids .entry))) places (r .answer) (r .top) ⌝ }
+{
+    let k = judging::gather(s, card, register, ids);
+    let fine = k.fine;
+    if !fine {
+        return refuse(Refusal::Malformed);
+    }
+    if judging::any_bad(ids) {
+        return refuse(Refusal::BadIdentifier);
+    }
+    if judging::bad_query(ids, places) {
+        return refuse(Refusal::BadQuery);
+    }
+    let top = walking::walk(card, s.buffer, k.terms, s.windows.live, places as u16);
+    Answered {
+        answer: Found::Hits(top.used, k.taken),
+        top: top,
+    }
+}
+
+// The query, with a list of so many places.
+pub fn search(s: State, card: &[u8], register: &[u8], ids: &[&[u8]], places: usize) -> Answered
+    ensures { λ r. ⌜ Finds (probeOf s (now (card .entry)) (now (register .entry))) (map now (now (ids .entry))) places (r .answer) (r .top) ⌝ }
+{
+    if !state::state_ok(s) {
+        return refuse(Refusal::BrokenState);
+    }
+    if card.len() != s.lengths.card as usize {
+        return refuse(Refusal::WrongLength);
+    }
+    if register.len() != s.lengths.register as usize {
+        return refuse(Refusal::WrongLength);
+    }
+    if !identifiers::register_ok(register) {
+        return refuse(Refusal::Malformed);
+    }
+    if !partitions::partitions_ok(card, s.lengths.card / 4096, s.partitions) {
+        return refuse(Refusal::Malformed);
+    }
+    search_sound(s, card, register, ids, places)
 }
