@@ -1,1 +1,5 @@
 pub mod Refused
+pub mod Windowed
+pub mod Takes
+pub mod Given
+pub mod Takeables

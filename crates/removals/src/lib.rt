@@ -1,1 +1,174 @@
 // Removal of a window.
+use answers::Refusal;
+use answers::Reply;
+use postings::Posting;
+use state::Buffer;
+use state::State;
+use state::Windows;
+use sums::Counts;
+use windows::Replied;
+use windows::Target;
+ghost use mathlib.Core.Bool.{true, _&&_, _||_, not, cond};
+ghost use mathlib.Core.List.{foldr};
+ghost use mathlib.Core.Path.{_≡_};
+ghost use Prim.Native.Nat.{_+_, _≤_};
+ghost use lib.Dec.{eqb, ltb, leb};
+ghost use lib.ListN.{length};
+ghost use Rattle.postings.specs.Merge.{put, nonzero, negated};
+ghost use Rattle.postings.specs.Sums.{isAbove};
+ghost use Rattle.answers.specs.Numbers.{replied};
+ghost use Rattle.state.specs.Views.{buffered, bufferOf};
+ghost use Rattle.windows.specs.Promises.{Gives, storeOf};
+ghost use Rattle.sums.specs.Views.{countsIn};
+ghost use Rattle.removals.specs.Removal.{isLive, removed, removing};
+ghost use Rattle.removals.specs.Taking.{Takeable, Judged};
+
+// A refusal: the state stays.
+fn refuse(s: State, why: Refusal) -> Replied
+    ensures { λ r. ⌜ r ≡ record { reply = Reply.Refused why; state = s } ⌝ }
+{
+    Replied {
+        reply: Reply::Refused(why),
+        state: s,
+    }
+}
+
+// A call that is done, and the state that it leaves.
+fn done(s: State) -> Replied
+    ensures { λ r. ⌜ r ≡ record { reply = Reply.Done; state = s } ⌝ }
+{
+    Replied {
+        reply: Reply::Done,
+        state: s,
+    }
+}
+
+// Takes each of a window's counts back: it is added to the buffer negated, and a sum that comes to 0 is dropped.
+fn take_back(b: Buffer, c: Counts) -> Buffer
+    requires { ⌜ Takeable b c ⌝ }
+    ensures { λ r. ⌜ r ≡ bufferOf (nonzero (foldr put (buffered b) (negated (countsIn c)))) ⌝ }
+{
+    let mut left = b;
+    let mut i = c.used as usize;
+    while 0 < i {
+        i -= 1;
+        let p = c.postings[i];
+        let q = Posting {
+            id: p.id,
+            window: p.window,
+            count: buffer::negate(p.count),
+        };
+        left = buffer::add(left, q);
+    }
+    left
+}
+
+// The state without the window: its counts are taken back, and N is one less.
+fn without(s: State, c: Counts) -> State
+    requires { ⌜ Takeable (s .buffer) c × (1 ≤ s .windows .live) ⌝ }
+    ensures { λ r. ⌜ r ≡ removed s (countsIn c) ⌝ }
+{
+    let left = take_back(s.buffer, c);
+    let w = Windows {
+        last: s.windows.last,
+        live: s.windows.live - 1,
+        current: s.windows.current,
+        events: s.windows.events,
+    };
+    let mut t = s;
+    t.windows = w;
+    t.buffer = left;
+    t
+}
+
+// Is it the open window's number?
+fn names_open(w: Windows, window: u32) -> bool
+    ensures { λ r. ⌜ r ≡ (not (eqb (w .current) 0) && eqb window (w .current)) ⌝ }
+{
+    if w.current == 0 {
+        return false;
+    }
+    window == w.current as u32
+}
+
+// Is a count above 0?
+fn counts_up(p: Posting) -> bool
+    ensures { λ r. ⌜ r ≡ isAbove (p .count) ⌝ }
+{
+    p.count > 0
+}
+
+// Is a count of the window above 0?
+fn is_live(c: Counts) -> bool
+    requires { ⌜ c .used ≤ 64 ⌝ }
+    ensures { λ r. ⌜ r ≡ isLive (countsIn c) ⌝ }
+{
+    let n = c.used as usize;
+    let mut i: usize = 0;
+    while i < n {
+        let p = c.postings[i];
+        if counts_up(p) {
+            return true;
+        }
+        i += 1;
+    }
+    false
+}
+
+// 1 where the open window is counted in N.
+fn open_counted(w: Windows) -> u16
+    ensures { λ r. ⌜ r ≡ cond (not (eqb (w .current) 0) && ltb 0 (w .events)) 1 0 ⌝ }
+{
+    if w.current == 0 {
+        return 0;
+    }
+    if w.events == 0 {
+        return 0;
+    }
+    1
+}
+
+// Is there no such window to remove: none that is live, none given yet, or none but the open one in N?
+fn not_live(w: Windows, window: u32, c: Counts) -> bool
+    requires { ⌜ c .used ≤ 64 ⌝ }
+    ensures { λ r. ⌜ r ≡ (not (isLive (countsIn c)) || (ltb (w .last) window || leb (w .live) (cond (not (eqb (w .current) 0) && ltb 0 (w .events)) 1 0))) ⌝ }
+{
+    if !is_live(c) {
+        return true;
+    }
+    if (w.last as u32) < window {
+        return true;
+    }
+    w.live <= open_counted(w)
+}
+
+// Do buffered postings and counts together exceed 128?
+fn must_flush(b: Buffer, c: Counts) -> bool
+    requires { ⌜ (b .used ≤ 128) × (c .used ≤ 64) ⌝ }
+    ensures { λ r. ⌜ r ≡ ltb 128 (length (buffered b) + length (countsIn c)) ⌝ }
+{
+    b.used + c.used > 128
+}
+
+// Removes a window whose counts are read, with a flush first where the buffer has no room for them.
+fn remove_counts(s: State, card: &mut [u8], window: u32, c: Counts) -> Replied
+    requires { ⌜ Judged s (now card) window c ⌝ }
+    ensures { λ r. ⌜ Gives (storeOf s (now (card .entry))) (removing s (now (card .entry)) window (countsIn c))
+        (replied (r .reply)) (storeOf (r .state) (now (card .exit))) ⌝ }
+{
+    if names_open(s.windows, window) {
+        return refuse(s, Refusal::OutOfTurn);
+    }
+    if not_live(s.windows, window, c) {
+        return refuse(s, Refusal::NotLive);
+    }
+    let target = windows::flushing::target_of(s, card, must_flush(s.buffer, c));
+    match target {
+        Target::Refused(why) => refuse(s, why),
+        Target::Block(b) => {
+            let t = windows::flushing::flush_to(s, card, b);
+            done(without(t, c))
+        }
+        Target::Nothing => done(without(s, c)),
+    }
+}

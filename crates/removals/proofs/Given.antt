@@ -1,0 +1,79 @@
+-- What a removal gives after refusals 1 to 3, by its tests and by its flush's target.
+use mathlib.Core.Bool.{Bool, true, false, _&&_, _||_, not, cond}
+use mathlib.Core.List.{List}
+use mathlib.Core.Path.{_≡_, sym, ap, _∙_}
+use Prim.Native.Nat.{ℕ, _≤_, _+_}
+use native.Mathlib.Omega.{arith}
+use lib.Dec.{eqb, ltb, leb}
+use lib.ListN.{length}
+use borrow.Author.Tests.{leb-false}
+use Rattle.lists.proofs.Bools.{or-none}
+use Rattle.words.specs.Words.{words, bytes}
+use Rattle.postings.specs.declared.Posting.{Posting}
+use Rattle.answers.specs.declared.Refusal.{Refusal}
+use Rattle.answers.specs.Answers.{Outcome, Answer, leave, done, refused}
+use Rattle.answers.specs.Numbers.{refusalNumber}
+use Rattle.state.specs.declared.State.{State}
+use Rattle.state.specs.Views.{buffered}
+use Rattle.state.specs.Probe.{Store}
+use Rattle.windows.specs.declared.Target.{Target}
+use Rattle.windows.specs.Flush.{flushingIf, flushedTo, flushedCard}
+use Rattle.windows.specs.Calls.{isOpen}
+use Rattle.windows.specs.Targets.{targetOf, following}
+use Rattle.windows.specs.Promises.{Gives, storeOf}
+use Rattle.windows.proofs.Outcomes.{stopped, passed}
+use Rattle.windows.proofs.Targets.{follows}
+use Rattle.windows.proofs.Flushes.{gives-by, refuses, leaves}
+use Rattle.removals.specs.Removal.{isLive, openCounted, removalFlushes, removed, removing}
+
+-- it names the open window
+abbrev pub namesOpen : State → ℕ → Bool
+namesOpen s w = isOpen s && eqb w (s .windows .current)
+
+-- there is no such window to remove
+abbrev pub notLive : State → ℕ → List Posting → Bool
+notLive s w counts = not (isLive counts) || (ltb (s .windows .last) w || leb (s .windows .live) (openCounted s))
+
+module _ (s : State) (card : List ℕ) (w : ℕ) (counts : List Posting) where
+  pub names-the-open : namesOpen s w ≡ true → Gives (storeOf s card) (removing s card w counts) (refused 5) (storeOf s card)
+  unfolding removing
+  names-the-open e = stopped _ 5 _ e
+
+  module _ (a : namesOpen s w ≡ false) where
+    pub names-no-live : notLive s w counts ≡ true → Gives (storeOf s card) (removing s card w counts) (refused 7) (storeOf s card)
+    unfolding removing
+    names-no-live e = passed _ 5 _ a (stopped _ 7 _ e)
+
+    module _ (b : notLive s w counts ≡ false) where
+      -- N counts one beside the open window
+      pub some-live : 1 ≤ s .windows .live
+      some-live =
+          let e = or-none (not (isLive counts)) _ b .1 in
+          let f = leb-false (s .windows .live) (openCounted s) (or-none (ltb (s .windows .last) w) _ e .1) in
+          omega arith
+
+      abbrev left : State → List ℕ → Outcome Store
+      left t after = leave done (record { state = removed t counts; card = after })
+
+      by-target : (t : Target) → t ≡ targetOf (removalFlushes s counts) s (words card) → flushingIf (removalFlushes s counts) s card left ≡ following s card left t
+      by-target t e = follows s card left (removalFlushes s counts) ∙ ap (following s card left) (sym e)
+
+      goes-on : {x : Answer} {after : Store} (t : Target) → t ≡ targetOf (removalFlushes s counts) s (words card) → Gives (storeOf s card) (following s card left t) x after → Gives (storeOf s card) (removing s card w counts) x after
+      unfolding removing
+      goes-on t e g = passed _ 5 _ a (passed _ 7 _ b (gives-by _ _ (by-target t e) g))
+
+      pub flush-barred : (why : Refusal) → Target.Refused why ≡ targetOf (removalFlushes s counts) s (words card) → Gives (storeOf s card) (removing s card w counts) (refused (refusalNumber why)) (storeOf s card)
+      flush-barred why e = goes-on (Target.Refused why) e (refuses _)
+
+      pub removed-plain : Target.Nothing ≡ targetOf (removalFlushes s counts) s (words card) → Gives (storeOf s card) (removing s card w counts) done (storeOf (removed s counts) card)
+      removed-plain e = goes-on Target.Nothing e (leaves _ _)
+
+      pub removed-flushed : (k : ℕ) → Target.Block k ≡ targetOf (removalFlushes s counts) s (words card)
+          → Gives (storeOf s card) (removing s card w counts) done (storeOf (removed (flushedTo s k) counts) (bytes (flushedCard s (words card) k)))
+      removed-flushed k e = goes-on (Target.Block k) e (leaves _ _)
+
+-- a target judged with the test as the code makes it
+pub judged : (s : State) (counts : List Posting) (W : List ℕ) (wanted : Bool) (t : Target)
+    → wanted ≡ ltb 128 (length (buffered (s .buffer)) + length counts) → t ≡ targetOf wanted s W → t ≡ targetOf (removalFlushes s counts) s W
+unfolding removalFlushes
+judged s counts W wanted t e f = f ∙ ap (λ (x : Bool). targetOf x s W) e

@@ -1,0 +1,144 @@
+-- A judged window's counts can be taken back from the buffer, with a flush first or without.
+use mathlib.Core.Bool.{Bool, true, false, _&&_, _||_, not}
+use mathlib.Core.List.{List, [], _∷_, _++_, List·Memᴰ}
+use mathlib.Core.Path.{_≡_, refl, sym, ap, _∙_}
+use Prim.Native.Nat.{ℕ, zero, suc, _+_, _≤_}
+use native.Mathlib.Omega.{arith}
+use lib.Dec.{eqb, ltb, leb}
+use lib.IntN.{ℤ, pos, negsuc, natAbs, negℤ, _+ℤ_, +ℤ-idr, +ℤ-invl, +ℤ-assoc, negℤ-+ℤ}
+use lib.ListN.{length, length-take}
+use borrow.Author.Tests.{leb-true, le-leb, eqb-true, ltb-false}
+use Rattle.lists.specs.Lists.{every, empty}
+use Rattle.lists.proofs.Bools.{by-test, and-left, and-right, and-both}
+use Rattle.words.specs.Words.{words}
+use Rattle.postings.specs.declared.Posting.{Posting}
+use Rattle.postings.specs.Order.{ordered}
+use Rattle.postings.specs.Merge.{counts}
+use Rattle.postings.specs.Sums.{sum}
+use Rattle.postings.proofs.Sums.{sum-append}
+use Rattle.state.specs.declared.State.{State}
+use Rattle.state.specs.Views.{blocks, buffered, finished, bufferOf}
+use Rattle.state.proofs.Kept.{rules-of, state-kept}
+use Rattle.partitions.specs.Reading.{postingsOf, inPartitions, stored}
+use Rattle.partitions.specs.Formed.{partitionsFormed, listRule, sumsInRange}
+use Rattle.buffer.proofs.Canonical.{canonical-of, rule-canonical, rule-counts}
+use Rattle.windows.specs.declared.Target.{Target}
+use Rattle.windows.specs.Flush.{flushedTo}
+use Rattle.windows.specs.Targets.{targetOf}
+use Rattle.windows.proofs.Targets.{empty-length}
+use Rattle.windows.proofs.Counts.{nothing-wanted}
+use Rattle.sums.specs.declared.Counts.{Counts}
+use Rattle.sums.specs.Views.{countsIn}
+use Rattle.removals.specs.Removal.{ofWindow, countsOf, removalFormed, removalFlushes}
+use Rattle.removals.specs.Taking.{takeable, Takeable, Judged}
+use Rattle.removals.proofs.Windowed.{every-member, window-fits, counts-ordered, counts-some, count-there}
+
+-- ---- signed numbers
+
+natAbs-neg : (z : ℤ) → natAbs (negℤ z) ≡ natAbs z
+natAbs-neg (pos zero) = refl
+natAbs-neg (pos (suc n)) = refl
+natAbs-neg (negsuc n) = refl
+
+-- taking a sum back from its second part leaves the first, negated
+pub back : (a b : ℤ) → negℤ (a +ℤ b) +ℤ b ≡ negℤ a
+back a b =
+    ap (λ (z : ℤ). z +ℤ b) (negℤ-+ℤ a b) ∙ +ℤ-assoc (negℤ a) (negℤ b) b ∙ ap (λ (z : ℤ). negℤ a +ℤ z) (+ℤ-invl b) ∙ +ℤ-idr (negℤ a)
+
+-- ---- what refusal 3 lets through
+
+pub record Formed (W : List ℕ) (s : State) (w : ℕ) : Type 0 where
+  pub parts : sumsInRange (ofWindow w (inPartitions W (finished (s .partitions)))) ≡ true
+  pub all : sumsInRange (ofWindow w (stored W s)) ≡ true
+  pub few : length (countsOf w (stored W s)) ≤ 64
+
+pub formed-of : (W : List ℕ) (s : State) (w : ℕ) → removalFormed W s w ≡ true → Formed W s w
+unfolding removalFormed
+formed-of W s w e =
+    let a = and-right (partitionsFormed W (blocks s) (finished (s .partitions))) _ e in
+    let b = and-right (every (λ p. listRule (postingsOf W p)) (finished (s .partitions))) _ a in
+    let c = and-right (sumsInRange (ofWindow w (inPartitions W (finished (s .partitions))))) _ b in
+    record {
+      parts = and-left (sumsInRange (ofWindow w (inPartitions W (finished (s .partitions))))) _ b;
+      all = and-left (sumsInRange (ofWindow w (stored W s))) _ c;
+      few = leb-true _ _ (and-right (sumsInRange (ofWindow w (stored W s))) _ c);
+    }
+
+module _ (s : State) (card : List ℕ) (w : ℕ) (c : Counts) (j : Judged s card w c) where
+  abbrev all : List Posting
+  all = stored (words card) s
+
+  in-order : ordered (countsIn c) ≡ true
+  in-order = rw (j .counts) (counts-ordered w all)
+
+  some : every counts (countsIn c) ≡ true
+  some = rw (j .counts) (counts-some w all)
+
+  short : length (countsIn c) ≤ 64
+  short = rw (j .counts) (formed-of (words card) s w (j .formed) .few)
+
+  -- a count is in range
+  small : (p : Posting) → List·Memᴰ p (countsOf w all) → natAbs (p .count) ≤ 32767
+  small p m = rw (count-there w all p m .1) (window-fits w (p .id) all (formed-of (words card) s w (j .formed) .all))
+
+  split : (i v : ℕ) → sum all i v ≡ sum (inPartitions (words card) (finished (s .partitions))) i v +ℤ sum (buffered (s .buffer)) i v
+  unfolding stored
+  split i v = sum-append i v (inPartitions (words card) (finished (s .partitions))) (buffered (s .buffer))
+
+  -- from the buffer, what is left is the sum over the partitions, negated
+  from-buffer : every (takeable (buffered (s .buffer))) (countsIn c) ≡ true
+  from-buffer =
+      rw (j .counts)
+      (every-member (takeable (buffered (s .buffer))) (countsOf w all)
+      (λ p m. let t = count-there w all p m in
+      let a = sum (inPartitions (words card) (finished (s .partitions))) (p .id) w in
+      let b = sum (buffered (s .buffer)) (p .id) w in
+      let e : negℤ (p .count) +ℤ sum (buffered (s .buffer)) (p .id) (p .window) ≡ negℤ a = rw (t .0, t .1, split (p .id) w) (back a b) in
+      and-both (leb (natAbs (p .count)) 32767) _ (le-leb _ _ (small p m))
+      (rw (e, natAbs-neg a) (le-leb _ _ (window-fits w (p .id) (inPartitions (words card) (finished (s .partitions))) (formed-of (words card) s w (j .formed) .parts))))))
+
+  -- from an empty one, the count itself, negated
+  from-none : every (takeable []) (countsIn c) ≡ true
+  from-none =
+      rw (j .counts)
+      (every-member (takeable []) (countsOf w all)
+      (λ p m. rw (+ℤ-idr (negℤ (p .count)), natAbs-neg (p .count), le-leb _ _ (small p m))))
+
+  -- without a flush
+  pub takeable-plain : Target.Nothing ≡ targetOf (removalFlushes s (countsIn c)) s (words card) → Takeable (s .buffer) c
+  unfolding removalFlushes
+  takeable-plain e =
+      let r = rules-of s (j .rule) in
+      record {
+        canonical = rule-canonical (s .windows) (s .buffer) (r .buffer);
+        counted = rule-counts (s .windows) (s .buffer) (r .buffer);
+        few = j .few;
+        inOrder = in-order;
+        some = some;
+        within = from-buffer;
+        room = by-test (empty (buffered (s .buffer)))
+            (λ y. let z : length (buffered (s .buffer)) ≡ 0 = eqb-true _ _ (empty-length (buffered (s .buffer)) ∙ y) in omega (arith, short))
+            (λ m. let z = ltb-false 128 (length (buffered (s .buffer)) + length (countsIn c)) (not-wanted-only _ _ (nothing-wanted _ s (words card) e) m) in omega arith);
+      }
+    where
+      not-wanted-only : (x t : Bool) → (not x || t) ≡ true → t ≡ false → x ≡ false
+      not-wanted-only true t e f = let z : _≡_ {A = ℕ} 0 1 = cc in absurd (omega arith)
+      not-wanted-only false t e f = refl
+
+  -- after a flush, which leaves an empty buffer
+  pub takeable-flushed : (k : ℕ) → Takeable (flushedTo s k .buffer) c
+  unfolding flushedTo
+  takeable-flushed k = record {
+    canonical = λ e. canonical-of [] refl (omega arith);
+    counted = refl;
+    few = j .few;
+    inOrder = in-order;
+    some = some;
+    within = from-none;
+    room = omega (arith, short);
+  }
+
+  -- a flush keeps N
+  pub live-flushed : (k : ℕ) → flushedTo s k .windows .live ≡ s .windows .live
+  unfolding flushedTo
+  live-flushed k = refl

@@ -1,0 +1,105 @@
+-- A window's sums, and its counts read from them.
+use mathlib.Core.Bool.{Bool, true, false, _&&_, cond}
+use mathlib.Core.List.{List, [], _∷_, _++_, List·Memᴰ, List·Memᴰ·head, List·Memᴰ·tail}
+use mathlib.Core.Path.{_≡_, refl, sym, ap, _∙_}
+use Prim.Native.Nat.{ℕ, _≤_}
+use native.Mathlib.Omega.{arith}
+use lib.Dec.{eqb, leb}
+use lib.IntN.{ℤ, pos, natAbs, _+ℤ_, +ℤ-idl, +ℤ-idr}
+use borrow.Author.Tests.{leb-true, eqb-true, eq-eqb}
+use Rattle.lists.specs.Lists.{any, every}
+use Rattle.lists.proofs.Bools.{by-test, and-left, and-right}
+use Rattle.lists.proofs.Tests.{every-kept, every-keep, every-mem}
+use Rattle.postings.specs.declared.Posting.{Posting}
+use Rattle.postings.specs.Order.{precedes, samePair, ordered}
+use Rattle.postings.specs.Merge.{counts, pairs, nonzero}
+use Rattle.postings.specs.Sums.{share, sum}
+use Rattle.postings.proofs.Order.{any-before, same-pair}
+use Rattle.postings.proofs.Sums.{sum-pairs, sum-merge}
+use Rattle.postings.proofs.Merge.{every-puts, pairs-ordered, nonzero-ordered, nonzero-counts, ordered-sum, sum-none}
+use Rattle.partitions.specs.Formed.{inRange, sumsInRange}
+use Rattle.removals.specs.Removal.{ofWindow, countsOf}
+
+-- what holds of each member holds of all
+pub every-member : {A : Type 0} (t : A → Bool) (l : List A) → ((x : A) → List·Memᴰ x l → t x ≡ true) → every t l ≡ true
+every-member t [] h = refl
+every-member t (x ∷ l) h = rw (h x (List·Memᴰ·head refl)) (every-member t l (λ y m. h y (List·Memᴰ·tail m)))
+
+-- ---- sums of a window's postings
+
+module _ (w i : ℕ) where
+  -- the window's sums are those of its own postings
+  pub window-sum : (l : List Posting) → sum (ofWindow w l) i w ≡ sum l i w
+  window-sum [] = refl
+  window-sum (p ∷ l) =
+      by-test (eqb (p .window) w) (λ y. rw (y, window-sum l, y)) (λ n. rw (n, and-none (eqb (p .id) i), window-sum l) (sym (+ℤ-idl (sum l i w))))
+    where
+      and-none : (b : Bool) → (b && false) ≡ false
+      and-none true = refl
+      and-none false = refl
+
+  -- and other windows have none in them
+  pub other-sum : (v : ℕ) → (v ≡ w → ⊥) → (l : List Posting) → sum (ofWindow w l) i v ≡ pos 0
+  other-sum v h [] = refl
+  other-sum v h (p ∷ l) =
+      by-test (eqb (p .window) w)
+      (λ y. by-test (eqb (p .window) v) (λ z. absurd (h (sym (eqb-true _ _ z) ∙ eqb-true _ _ y)))
+      (λ n. rw (y, n, and-none (eqb (p .id) i), other-sum v h l) refl))
+      (λ n. rw (n, other-sum v h l))
+    where
+      and-none : (b : Bool) → (b && false) ≡ false
+      and-none true = refl
+      and-none false = refl
+
+-- where every pair's count fits, every sum does
+fits-sum : (i w : ℕ) (l : List Posting) → ordered l ≡ true → every (λ p. inRange (p .count)) l ≡ true → natAbs (sum l i w) ≤ 32767
+fits-sum i w [] o e = omega arith
+fits-sum i w (p ∷ l) o e =
+    by-test (eqb (p .id) i && eqb (p .window) w)
+    (λ y. let a : p .id ≡ i = eqb-true _ _ (and-left (eqb (p .id) i) _ y) in
+    let b : p .window ≡ w = eqb-true _ _ (and-right (eqb (p .id) i) _ y) in
+    let z : sum l i w ≡ pos 0 = rw (a, b) at (sum-none p l (any-before p l (and-left (every (precedes p) l) _ o))) in
+    rw (y, z, +ℤ-idr (p .count)) (leb-true _ _ (and-left (inRange (p .count)) _ e)))
+    (λ n. rw (n, +ℤ-idl (sum l i w)) (fits-sum i w l (and-right (every (precedes p) l) _ o) (and-right (inRange (p .count)) _ e)))
+
+-- so a window whose sums are judged has sums that fit
+pub window-fits : (w i : ℕ) (l : List Posting) → sumsInRange (ofWindow w l) ≡ true → natAbs (sum l i w) ≤ 32767
+unfolding sumsInRange
+window-fits w i l e =
+    rw (← window-sum w i l, ← sum-pairs i w (ofWindow w l)) (fits-sum i w (pairs (ofWindow w l)) (pairs-ordered (ofWindow w l)) e)
+
+-- ---- its counts
+
+module _ (w : ℕ) (l : List Posting) where
+  -- are in order
+  pub counts-ordered : ordered (countsOf w l) ≡ true
+  unfolding countsOf
+  counts-ordered = nonzero-ordered _ (pairs-ordered (ofWindow w l))
+
+  -- and not 0
+  pub counts-some : every counts (countsOf w l) ≡ true
+  unfolding countsOf
+  counts-some = nonzero-counts _
+
+  counts-window : every (λ p. eqb (p .window) w) (countsOf w l) ≡ true
+  unfolding countsOf nonzero pairs
+  counts-window =
+      every-keep counts (λ p. eqb (p .window) w) (pairs (ofWindow w l)) (every-puts (λ p. eqb (p .window) w) (λ q c e. e) (ofWindow w l) [] (every-kept (λ p. eqb (p .window) w) l) refl)
+
+  counts-sum : (i v : ℕ) → sum (countsOf w l) i v ≡ sum (ofWindow w l) i v
+  unfolding countsOf
+  counts-sum i v = sum-merge i v (ofWindow w l)
+
+  -- their sums are the window's
+  pub counts-own : (i : ℕ) → sum (countsOf w l) i w ≡ sum l i w
+  counts-own i = counts-sum i w ∙ window-sum w i l
+
+  -- and no other's
+  pub counts-other : (i v : ℕ) → (v ≡ w → ⊥) → sum (countsOf w l) i v ≡ pos 0
+  counts-other i v h = counts-sum i v ∙ other-sum w i v h l
+
+  -- each is of the window, and its count is the pair's sum
+  pub count-there : (p : Posting) → List·Memᴰ p (countsOf w l) → (p .window ≡ w) × (p .count ≡ sum l (p .id) w)
+  count-there p m =
+      let e : p .window ≡ w = eqb-true _ _ (every-mem (λ q. eqb (q .window) w) (countsOf w l) counts-window m) in
+      (e, sym (ordered-sum (countsOf w l) counts-ordered m) ∙ rw e (counts-own (p .id)))

@@ -1,0 +1,81 @@
+use mathlib.Core.Path.{_≡_, refl, sym, _∙_}
+use Prim.Native.Nat.{_≤_, _-_}
+use native.Mathlib.Omega.{arith}
+use borrow.Author.Needs.{needs}
+use lib.ListN.{length, take, drop}
+use Rattle.lists.proofs.Arrays.{unmapped}
+use Rattle.lists.proofs.Places.{any-turn, any-ended}
+use Rattle.postings.specs.Sums.{isAbove}
+use Rattle.state.specs.Views.{noPosting}
+use Rattle.removals.specs.Removal.{isLive}
+use Rattle.removals.proofs.is_live.Statement.{statement}
+use Rattle.removals.proofs.is_live.Tie as tie
+
+abbrev Inv-loop : tie.InvT-loop
+Inv-loop c n i₀ i =
+    (length (c .postings) ≡ 64) × (i ≤ n) × (isLive (take n (c .postings)) ≡ isLive (drop i (take n (c .postings))))
+
+abbrev μ-loop : tie.MeasureT-loop
+μ-loop c n i₀ i = n - i
+
+cast-n : tie.Need-cast-n Inv-loop μ-loop
+cast-n c = omega arith
+
+loop-holds : tie.Need-loop-holds Inv-loop μ-loop
+loop-holds c = (search (unmapped, needs), omega arith, refl)
+
+mul-p : tie.Need-mul-p Inv-loop μ-loop
+mul-p c = omega arith
+
+element-copy-out-p : tie.Need-element-copy-out-p Inv-loop μ-loop
+element-copy-out-p c = omega arith
+
+counts-up-requires : tie.Need-counts-up-requires Inv-loop μ-loop
+counts-up-requires c κs = tt
+
+returns : tie.Need-returns Inv-loop μ-loop
+returns c =
+    let a = c .before .before .before .before in
+    let t = a .before .args .t1 in
+    let len = a .loop .inv .0 in
+    let e = any-turn (λ p. isAbove (p .count)) (t .postings) noPosting (t .used) (a .loop .i) (omega arith) (omega arith) in
+    let f = sym (c .before .counts-up .ensures) ∙ c .if1 .taken in
+    sym (a .loop .inv .2 ∙ e ∙ rw f)
+
+add-i : tie.Need-add-i Inv-loop μ-loop
+add-i c = omega arith
+
+loop-less : tie.Need-loop-less Inv-loop μ-loop
+loop-less c = omega arith
+
+loop-again : tie.Need-loop-again Inv-loop μ-loop
+loop-again c =
+    let a = c .before .before .before .before in
+    let t = a .before .args .t1 in
+    let len = a .loop .inv .0 in
+    let e = any-turn (λ p. isAbove (p .count)) (t .postings) noPosting (t .used) (a .loop .i) (omega arith) (omega arith) in
+    let f = sym (c .before .counts-up .ensures) ∙ c .if1 .left in
+    (len, omega arith, a .loop .inv .2 ∙ e ∙ rw f)
+
+returns-2 : tie.Need-returns-2 Inv-loop μ-loop
+returns-2 c =
+    let t = c .before .before .args .t1 in
+    let len = c .before .loop .inv .0 in
+    sym (c .before .loop .inv .2 ∙ any-ended (λ p. isAbove (p .count)) (t .postings) (t .used) (c .before .loop .i) (omega arith) (omega arith))
+
+pub is-live-spec : {M : Type 1} → statement M
+is-live-spec =
+    tie.close
+    (tie.spec
+    Inv-loop
+    μ-loop
+    cast-n
+    loop-holds
+    mul-p
+    element-copy-out-p
+    counts-up-requires
+    returns
+    add-i
+    loop-less
+    loop-again
+    returns-2)

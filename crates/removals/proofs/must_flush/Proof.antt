@@ -1,0 +1,23 @@
+use mathlib.Core.Path.{_≡_}
+use native.Mathlib.Omega.{arith}
+use lib.ListN.{length}
+use lib.Seq.{length-take-le}
+use Rattle.lists.proofs.Arrays.{unmapped}
+use borrow.Author.Needs.{needs}
+use Rattle.removals.proofs.must_flush.Statement.{statement}
+use Rattle.removals.proofs.must_flush.Tie as tie
+
+add-result : tie.Need-add-result
+add-result c = search needs
+
+returns : tie.Need-returns
+returns c =
+    let a = c .before .before in
+    let b = a .args .b in
+    let t = a .args .c in
+    let long : length (b .postings) ≡ 128 = search (unmapped, needs) in
+    let wide : length (t .postings) ≡ 64 = search (unmapped, needs) in
+    rw (length-take-le (b .used) (b .postings) (omega arith), length-take-le (t .used) (t .postings) (omega arith))
+
+pub must-flush-spec : {M : Type 1} → statement M
+must-flush-spec = tie.close (tie.spec add-result returns)

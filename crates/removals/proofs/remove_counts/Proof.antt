@@ -1,0 +1,218 @@
+use mathlib.Core.Path.{_≡_, refl, sym, _∙_}
+use denote.Enum.Declared.{tagOf}
+use lib.ListN.{length}
+use Rattle.lists.proofs.Arrays.{unmapped}
+use Rattle.words.specs.Words.{words}
+use Rattle.state.proofs.Kept.{state-kept}
+use Rattle.windows.proofs.Target.{the-type}
+use Rattle.windows.proofs.Targets.{chosen}
+use Rattle.windows.proofs.Flushes.{nothing-told}
+use Rattle.sums.specs.Views.{countsIn}
+use Rattle.removals.proofs.Given.{names-the-open, names-no-live, some-live, flush-barred, removed-plain, removed-flushed, judged}
+use Rattle.removals.proofs.Takeables.{takeable-plain, takeable-flushed, live-flushed}
+use borrow.Author.Needs.{needs}
+use Rattle.removals.proofs.remove_counts.Statement.{statement}
+use Rattle.removals.proofs.remove_counts.Tie as tie
+
+names-open-requires : tie.Need-names-open-requires
+names-open-requires c κs = search needs
+
+refuse-requires : tie.Need-refuse-requires
+refuse-requires c κs = search needs
+
+returns : tie.Need-returns
+returns c =
+    let a = c .before .before .before .before in
+    let s = a .args .s in
+    let card = a .args .card .now in
+    let w = a .args .window in
+    let k = a .args .c in
+    let o = c .before .before in
+    rw (c .refuse .ensures) (names-the-open s card w (countsIn k) (sym (o .names-open .ensures) ∙ c .before .if1 .taken))
+
+not-live-requires : tie.Need-not-live-requires
+not-live-requires c κs = search needs
+
+refuse-requires-2 : tie.Need-refuse-requires-2
+refuse-requires-2 c κs = search needs
+
+returns-2 : tie.Need-returns-2
+returns-2 c =
+    let a = c .before .before .before .before .before .before in
+    let s = a .args .s in
+    let card = a .args .card .now in
+    let w = a .args .window in
+    let k = a .args .c in
+    let o = c .before .before .before .before in
+    let l = c .before .before in
+    rw (c .refuse2 .ensures)
+    (names-no-live s card w (countsIn k) (sym (o .names-open .ensures) ∙ c .before .before .before .if1 .left) (sym (l .not-live .ensures) ∙ c .before .if2 .taken))
+
+must-flush-requires : tie.Need-must-flush-requires
+must-flush-requires c κs =
+    let a = c .before .before .before .before .before .before in
+    let s = a .args .s in
+    let card = a .args .card .now in
+    let w = a .args .window in
+    let k = a .args .c in
+    (state-kept s (a .pre .rule) .buffer .used, a .pre .few)
+
+target-of-requires : tie.Need-target-of-requires
+target-of-requires c κs = search needs
+
+enum-known-target : tie.Need-enum-known-target
+enum-known-target c = search needs
+
+refuse-requires-3 : tie.Need-refuse-requires-3
+refuse-requires-3 c κs = search needs
+
+enum-known-target-2 : tie.Need-enum-known-target-2
+enum-known-target-2 c = search needs
+
+flush-to-requires : tie.Need-flush-to-requires
+flush-to-requires c κs =
+    let a = c .before .before .before .before .before .before .before .before .before .before .before .before in
+    let s = a .args .s in
+    let card = a .args .card .now in
+    let w = a .args .window in
+    let k = a .args .c in
+    let t = c .before .before in
+    let m = c .before .before .before .before in
+    (a .pre .rule, a .pre .size, chosen _ s (words card) (t .target2 .given .0 .0) (sym (m .target-of .ensures) ∙ t .target2 .given .1))
+
+without-requires : tie.Need-without-requires
+without-requires c κs =
+    let a = c .before .before .before .before .before .before .before .before .before .before .before .before .before .before .before in
+    let s = a .args .s in
+    let card = a .args .card .now in
+    let w = a .args .window in
+    let k = a .args .c in
+    let m = c .before .before .before .before .before .before .before in
+    let i = m .before .before .before in
+    let l = m .before .before .before .before in
+    let j = m .before .before .before .before .before in
+    let o = m .before .before .before .before .before .before in
+    let shut = sym (o .names-open .ensures) ∙ j .if1 .left in
+    let live = sym (l .not-live .ensures) ∙ i .if2 .left in
+    let f = c .before .before in
+    let n = some-live s card w (countsIn k) shut live in
+    rw (f .flush-to .ensures .0)
+    (takeable-flushed s card w k (a .pre) _, rw (live-flushed s card w k (a .pre) _) n)
+
+done-requires : tie.Need-done-requires
+done-requires c κs = search needs
+
+enum-told : tie.Need-enum-told
+enum-told c = search needs
+
+without-requires-2 : tie.Need-without-requires-2
+without-requires-2 c κs =
+    let a = c .before .before .before .before .before .before .before .before .before .before in
+    let s = a .args .s in
+    let card = a .args .card .now in
+    let w = a .args .window in
+    let k = a .args .c in
+    let m = c .before .before in
+    let i = m .before .before .before in
+    let l = m .before .before .before .before in
+    let j = m .before .before .before .before .before in
+    let o = m .before .before .before .before .before .before in
+    let shut = sym (o .names-open .ensures) ∙ j .if1 .left in
+    let live = sym (l .not-live .ensures) ∙ i .if2 .left in
+    let none = nothing-told (tagOf the-type) (λ x. refl) (λ x. refl) (m .target-of .result) (c .before .match .keys3) in
+    (takeable-plain s card w k (a .pre) (sym none ∙ judged s (countsIn k) (words card) _ _ (m .before .must-flush .ensures) (m .target-of .ensures)), some-live s card w (countsIn k) shut live)
+
+done-requires-2 : tie.Need-done-requires-2
+done-requires-2 c κs = search needs
+
+same-length : tie.Need-same-length
+same-length c = search needs
+
+returns-3 : tie.Need-returns-3
+returns-3 c =
+    let a = c .before .before .before .before .before .before .before .before .before .before .before .before in
+    let s = a .args .s in
+    let card = a .args .card .now in
+    let w = a .args .window in
+    let k = a .args .c in
+    let m = c .before .before .before .before in
+    let i = m .before .before .before in
+    let l = m .before .before .before .before in
+    let j = m .before .before .before .before .before in
+    let o = m .before .before .before .before .before .before in
+    let shut = sym (o .names-open .ensures) ∙ j .if1 .left in
+    let live = sym (l .not-live .ensures) ∙ i .if2 .left in
+    let t = c .before .before in
+    rw (c .refuse3 .ensures)
+    (flush-barred s card w (countsIn k) shut live (t .target .given .0 .0) (sym (t .target .given .1) ∙ judged s (countsIn k) (words card) _ _ (m .before .must-flush .ensures) (m .target-of .ensures)))
+
+same-length-2 : tie.Need-same-length-2
+same-length-2 c = search needs
+
+returns-4 : tie.Need-returns-4
+returns-4 c =
+    let a = c .before .before .before .before .before .before .before .before .before .before .before .before .before .before .before .before .before in
+    let s = a .args .s in
+    let card = a .args .card .now in
+    let w = a .args .window in
+    let k = a .args .c in
+    let m = c .before .before .before .before .before .before .before .before .before in
+    let i = m .before .before .before in
+    let l = m .before .before .before .before in
+    let j = m .before .before .before .before .before in
+    let o = m .before .before .before .before .before .before in
+    let shut = sym (o .names-open .ensures) ∙ j .if1 .left in
+    let live = sym (l .not-live .ensures) ∙ i .if2 .left in
+    let f = c .before .before .before .before in
+    let t = c .before .before .before .before .before .before .before in
+    rw (c .done .ensures, c .before .without .ensures, f .flush-to .ensures .0, f .flush-to .ensures .1)
+    (removed-flushed s card w (countsIn k) shut live (t .target2 .given .0 .0) (sym (t .target2 .given .1) ∙ judged s (countsIn k) (words card) _ _ (m .before .must-flush .ensures) (m .target-of .ensures)))
+
+same-length-3 : tie.Need-same-length-3
+same-length-3 c = search needs
+
+returns-5 : tie.Need-returns-5
+returns-5 c =
+    let a = c .before .before .before .before .before .before .before .before .before .before .before .before in
+    let s = a .args .s in
+    let card = a .args .card .now in
+    let w = a .args .window in
+    let k = a .args .c in
+    let m = c .before .before .before .before in
+    let i = m .before .before .before in
+    let l = m .before .before .before .before in
+    let j = m .before .before .before .before .before in
+    let o = m .before .before .before .before .before .before in
+    let shut = sym (o .names-open .ensures) ∙ j .if1 .left in
+    let live = sym (l .not-live .ensures) ∙ i .if2 .left in
+    let none = nothing-told (tagOf the-type) (λ x. refl) (λ x. refl) (m .target-of .result) (c .before .before .before .match .keys3) in
+    rw (c .done2 .ensures, c .before .without2 .ensures)
+    (removed-plain s card w (countsIn k) shut live (sym none ∙ judged s (countsIn k) (words card) _ _ (m .before .must-flush .ensures) (m .target-of .ensures)))
+
+pub remove-counts-spec : {M : Type 1} → statement M
+remove-counts-spec =
+    tie.close
+    (tie.spec
+    names-open-requires
+    refuse-requires
+    returns
+    not-live-requires
+    refuse-requires-2
+    returns-2
+    must-flush-requires
+    target-of-requires
+    enum-known-target
+    refuse-requires-3
+    enum-known-target-2
+    flush-to-requires
+    without-requires
+    done-requires
+    enum-told
+    without-requires-2
+    done-requires-2
+    same-length
+    returns-3
+    same-length-2
+    returns-4
+    same-length-3
+    returns-5)
