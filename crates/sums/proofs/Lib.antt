@@ -1,0 +1,4 @@
+pub mod Buffers
+pub mod Keeps
+pub mod Resumes
+pub mod Walking
