@@ -30,7 +30,7 @@ use Rattle.windows.proofs.Counts.{nothing-wanted}
 use Rattle.sums.specs.declared.Counts.{Counts}
 use Rattle.sums.specs.Views.{countsIn}
 use Rattle.removals.specs.Removal.{ofWindow, countsOf, removalFormed, removalFlushes}
-use Rattle.removals.specs.Taking.{takeable, Takeable, Judged}
+use Rattle.removals.specs.Taking.{takeable, Takeable, Removable}
 use Rattle.removals.proofs.Windowed.{every-member, window-fits, counts-ordered, counts-some, count-there}
 
 -- ---- signed numbers
@@ -64,7 +64,7 @@ formed-of W s w e =
       few = leb-true _ _ (and-right (sumsInRange (ofWindow w (stored W s))) _ c);
     }
 
-module _ (s : State) (card : List ℕ) (w : ℕ) (c : Counts) (j : Judged s card w c) where
+module _ (s : State) (card : List ℕ) (w : ℕ) (c : Counts) (j : Removable s card w c) where
   abbrev all : List Posting
   all = stored (words card) s
 

@@ -12,7 +12,7 @@ use Rattle.lists.proofs.Bools.{by-test, and-left, and-right}
 use Rattle.lists.proofs.Tests.{every-kept, every-keep, every-mem}
 use Rattle.postings.specs.declared.Posting.{Posting}
 use Rattle.postings.specs.Order.{precedes, samePair, ordered}
-use Rattle.postings.specs.Merge.{counts, pairs, nonzero}
+use Rattle.postings.specs.Merge.{counting, counts, pairs, nonzero}
 use Rattle.postings.specs.Sums.{share, sum}
 use Rattle.postings.proofs.Order.{any-before, same-pair}
 use Rattle.postings.proofs.Sums.{sum-pairs, sum-merge}
@@ -103,3 +103,8 @@ module _ (w : ℕ) (l : List Posting) where
   count-there p m =
       let e : p .window ≡ w = eqb-true _ _ (every-mem (λ q. eqb (q .window) w) (countsOf w l) counts-window m) in
       (e, sym (ordered-sum (countsOf w l) counts-ordered m) ∙ rw e (counts-own (p .id)))
+
+  -- what all postings pass by their pairs alone, the counts pass
+  pub counts-pass : (t : Posting → Bool) → ((q : Posting) (c : ℤ) → t q ≡ true → t (counting q c) ≡ true) → every t l ≡ true → every t (countsOf w l) ≡ true
+  unfolding countsOf nonzero pairs
+  counts-pass t h e = every-keep counts t (pairs (ofWindow w l)) (every-puts t h (ofWindow w l) [] (every-keep (λ p. eqb (p .window) w) t l e) refl)

@@ -6,22 +6,26 @@ use state::Buffer;
 use state::State;
 use state::Windows;
 use sums::Counts;
+use sums::Judged;
 use windows::Replied;
 use windows::Target;
 ghost use mathlib.Core.Bool.{true, _&&_, _||_, not, cond};
 ghost use mathlib.Core.List.{foldr};
 ghost use mathlib.Core.Path.{_≡_};
-ghost use Prim.Native.Nat.{_+_, _≤_};
+ghost use Prim.Native.Nat.{_+_, _*_, _≤_};
 ghost use lib.Dec.{eqb, ltb, leb};
 ghost use lib.ListN.{length};
+ghost use Rattle.words.specs.Words.{words as wordsOf};
 ghost use Rattle.postings.specs.Merge.{put, nonzero, negated};
 ghost use Rattle.postings.specs.Sums.{isAbove};
 ghost use Rattle.answers.specs.Numbers.{replied};
-ghost use Rattle.state.specs.Views.{buffered, bufferOf};
+ghost use Rattle.state.specs.Views.{buffered, bufferOf, blocks, finished};
+ghost use Rattle.state.specs.Rules.{stateRule};
+ghost use Rattle.partitions.specs.Formed.{partitionsFormed};
 ghost use Rattle.windows.specs.Promises.{Gives, storeOf};
 ghost use Rattle.sums.specs.Views.{countsIn};
-ghost use Rattle.removals.specs.Removal.{isLive, removed, removing};
-ghost use Rattle.removals.specs.Taking.{Takeable, Judged};
+ghost use Rattle.removals.specs.Removal.{isLive, removed, removing, removeOf};
+ghost use Rattle.removals.specs.Taking.{Takeable, Removable, ReadOf};
 
 // A refusal: the state stays.
 fn refuse(s: State, why: Refusal) -> Replied
@@ -41,6 +45,18 @@ fn done(s: State) -> Replied
         reply: Reply::Done,
         state: s,
     }
+}
+
+// The window's counts, read from the partitions and the buffer together, where all lists and the window's sums are well formed.
+fn window_counts(card: &[u8], s: State, window: u32) -> Judged
+    requires { ⌜ (stateRule s ≡ true) × (length (wordsOf (now card)) ≡ 1024 * blocks s)
+        × (partitionsFormed (wordsOf (now card)) (blocks s) (finished (s .partitions)) ≡ true) ⌝ }
+    ensures { λ r. ⌜ ReadOf (wordsOf (now (card .entry))) s window r ⌝ }
+{
+    let ps = s.partitions;
+    let b = s.buffer;
+    let sources = scans::open_sources(card, ps);
+    sums::walk(card, sources, b, window)
 }
 
 // Takes each of a window's counts back: it is added to the buffer negated, and a sum that comes to 0 is dropped.
@@ -152,7 +168,7 @@ fn must_flush(b: Buffer, c: Counts) -> bool
 
 // Removes a window whose counts are read, with a flush first where the buffer has no room for them.
 fn remove_counts(s: State, card: &mut [u8], window: u32, c: Counts) -> Replied
-    requires { ⌜ Judged s (now card) window c ⌝ }
+    requires { ⌜ Removable s (now card) window c ⌝ }
     ensures { λ r. ⌜ Gives (storeOf s (now (card .entry))) (removing s (now (card .entry)) window (countsIn c))
         (replied (r .reply)) (storeOf (r .state) (now (card .exit))) ⌝ }
 {
@@ -171,4 +187,26 @@ fn remove_counts(s: State, card: &mut [u8], window: u32, c: Counts) -> Replied
         }
         Target::Nothing => done(without(s, c)),
     }
+}
+
+// Removes a closed window: each of its counts is buffered negated, and N is one less.
+pub fn remove(s: State, card: &mut [u8], window: u32) -> Replied
+    ensures { λ r. ⌜ Gives (storeOf s (now (card .entry))) (removeOf (storeOf s (now (card .entry))) window) (replied (r .reply)) (storeOf (r .state) (now (card .exit))) ⌝ }
+{
+    if !state::state_ok(s) {
+        return refuse(s, Refusal::BrokenState);
+    }
+    if card.len() != s.lengths.card as usize {
+        return refuse(s, Refusal::WrongLength);
+    }
+    if !partitions::partitions_ok(card, s.lengths.card / 4096, s.partitions) {
+        return refuse(s, Refusal::Malformed);
+    }
+    let read = window_counts(card, s, window);
+    let fine = read.fine;
+    if !fine {
+        return refuse(s, Refusal::Malformed);
+    }
+    let c = read.counts;
+    remove_counts(s, card, window, c)
 }
