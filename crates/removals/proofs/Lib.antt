@@ -6,3 +6,4 @@ pub mod Takeables
 pub mod Tallies
 pub mod ReadBack
 pub mod Turns
+pub mod Effect

@@ -1,23 +1,20 @@
 -- What the walk over partitions and buffer tells is what a removal reads.
 use mathlib.Core.Bool.{Bool, true, false, cond, _&&_, not}
 use mathlib.Core.List.{List, [], _∷_, _++_, map}
-use mathlib.Core.Path.{_≡_, refl, sym, ap, ap₂, _∙_}
-use Prim.Native.Nat.{ℕ, _*_, _≤_}
+use mathlib.Core.Path.{_≡_, refl, sym, ap, _∙_}
+use Prim.Native.Nat.{ℕ, _≤_}
 use native.Mathlib.Omega.{arith}
 use lib.Dec.{leb}
 use lib.ListN.{length}
-use borrow.Author.Tests.{leb-true, le-leb, not-true}
+use borrow.Author.Tests.{le-leb}
 use Rattle.lists.specs.Lists.{every, joined}
-use Rattle.lists.proofs.Bools.{by-test, and-left, and-right, and-both}
+use Rattle.lists.proofs.Bools.{by-test, and-both}
 use Rattle.lists.proofs.Tests.{every-from}
 use Rattle.lists.proofs.Ranges.{every-map}
-use Rattle.keyed.specs.Keys.{Item}
 use Rattle.keyed.specs.Groups.{Group}
 use Rattle.words.specs.Words.{Below}
 use Rattle.postings.specs.declared.Posting.{Posting}
 use Rattle.postings.specs.Order.{ordered}
-use Rattle.postings.specs.Merge.{isZero}
-use Rattle.state.specs.declared.Windows.{Windows}
 use Rattle.state.specs.declared.State.{State}
 use Rattle.state.specs.Views.{blocks, buffered, finished}
 use Rattle.state.specs.Rules.{postingRule, stateRule}
@@ -26,11 +23,11 @@ use Rattle.partitions.specs.Reading.{postingsOf, inPartitions, stored}
 use Rattle.partitions.specs.Formed.{listRule, sumsInRange, partitionsFormed}
 use Rattle.scans.specs.declared.Sources.{Sources}
 use Rattle.scans.specs.Keys.{itemOf, isKeyed}
-use Rattle.scans.specs.Items.{postingLists, itemLists, Ready}
+use Rattle.scans.specs.Items.{postingLists, Ready}
 use Rattle.scans.proofs.Moves.{items-lists, lists-keyed}
 use Rattle.sums.specs.declared.Judged.{Judged}
 use Rattle.sums.specs.Views.{countsIn, Neat}
-use Rattle.sums.specs.Tally.{Tally, faulty, tallied, tallyIf, tallyOf}
+use Rattle.sums.specs.Tally.{faulty, tallied, tallyIf, tallyOf}
 use Rattle.sums.specs.Steps.{told, isFine, bufferItems, Walkable, groups}
 use Rattle.removals.specs.Removal.{ofWindow, countsOf, removalFormed}
 use Rattle.removals.specs.Taking.{listsFormed, ReadOf}

@@ -1,12 +1,12 @@
 -- A judged window's counts can be taken back from the buffer, with a flush first or without.
-use mathlib.Core.Bool.{Bool, true, false, _&&_, _||_, not}
-use mathlib.Core.List.{List, [], _∷_, _++_, List·Memᴰ}
-use mathlib.Core.Path.{_≡_, refl, sym, ap, _∙_}
+use mathlib.Core.Bool.{Bool, true, false, _||_, not}
+use mathlib.Core.List.{List, [], List·Memᴰ}
+use mathlib.Core.Path.{_≡_, refl, ap, _∙_}
 use Prim.Native.Nat.{ℕ, zero, suc, _+_, _≤_}
 use native.Mathlib.Omega.{arith}
-use lib.Dec.{eqb, ltb, leb}
+use lib.Dec.{leb}
 use lib.IntN.{ℤ, pos, negsuc, natAbs, negℤ, _+ℤ_, +ℤ-idr, +ℤ-invl, +ℤ-assoc, negℤ-+ℤ}
-use lib.ListN.{length, length-take}
+use lib.ListN.{length}
 use borrow.Author.Tests.{leb-true, le-leb, eqb-true, ltb-false}
 use Rattle.lists.specs.Lists.{every, empty}
 use Rattle.lists.proofs.Bools.{by-test, and-left, and-right, and-both}
@@ -17,8 +17,8 @@ use Rattle.postings.specs.Merge.{counts}
 use Rattle.postings.specs.Sums.{sum}
 use Rattle.postings.proofs.Sums.{sum-append}
 use Rattle.state.specs.declared.State.{State}
-use Rattle.state.specs.Views.{blocks, buffered, finished, bufferOf}
-use Rattle.state.proofs.Kept.{rules-of, state-kept}
+use Rattle.state.specs.Views.{blocks, buffered, finished}
+use Rattle.state.proofs.Kept.{rules-of}
 use Rattle.partitions.specs.Reading.{postingsOf, inPartitions, stored}
 use Rattle.partitions.specs.Formed.{partitionsFormed, listRule, sumsInRange}
 use Rattle.buffer.proofs.Canonical.{canonical-of, rule-canonical, rule-counts}

@@ -1,21 +1,20 @@
 -- What the walk tells of one window is what a removal reads: its lists, its sums and its counts.
 use mathlib.Core.Bool.{Bool, true, false, cond, _&&_, _||_, not, and-true}
-use mathlib.Core.List.{List, [], _∷_, _++_, map, List·Memᴰ}
+use mathlib.Core.List.{List, [], _∷_, _++_, map}
 use mathlib.Core.Path.{_≡_, refl, sym, ap, ap₂, _∙_}
 use Prim.Native.Nat.{ℕ, zero, suc, _+_, _<_, _≤_}
 use native.Mathlib.Omega.{arith}
 use lib.Dec.{eqb, ltb, leb}
 use lib.IntN.{ℤ, pos, natAbs, _+ℤ_, +ℤ-idl, +ℤ-idr}
-use lib.ListN.{length}
-use borrow.Author.Tests.{leb-true, le-leb, lt-leb, eqb-true, eqb-false, eq-eqb, ne-eqb, ltb-true, ltb-false, lt-ltb, le-ltb}
+use borrow.Author.Tests.{leb-true, le-leb, eqb-true, eqb-false, eq-eqb, ltb-true, ltb-false, lt-ltb, le-ltb}
 use Rattle.lists.specs.Lists.{every, joined}
 use Rattle.lists.proofs.Bools.{by-test, and-left, and-right, and-both}
 use Rattle.lists.proofs.Tests.{every-from, every-mem, every-keep, every-kept, every-append}
-use Rattle.keyed.specs.Keys.{Item, falls, allFall, sumOf, sums, overKeys}
+use Rattle.keyed.specs.Keys.{sumOf, sums, overKeys}
 use Rattle.keyed.specs.Groups.{Group, allFallAll}
 use Rattle.postings.specs.declared.Posting.{Posting}
 use Rattle.postings.specs.Order.{precedes, ordered}
-use Rattle.postings.specs.Merge.{isZero, counts, nonzero, pairs}
+use Rattle.postings.specs.Merge.{isZero, counts, pairs}
 use Rattle.postings.specs.Sums.{share, sum}
 use Rattle.postings.proofs.Sums.{is-zero, sum-append, sum-pairs}
 use Rattle.postings.proofs.Merge.{every-puts, pairs-ordered, ordered-sum, same-sums}
@@ -23,7 +22,7 @@ use Rattle.partitions.specs.Formed.{inRange, sumsInRange, listRule}
 use Rattle.walks.specs.Judged.{totalZ, inRanges}
 use Rattle.scans.specs.Keys.{keyOf, keyId, keyWindow, itemOf, isKeyed}
 use Rattle.scans.proofs.Keys.{key-whole, key-of-id, key-of-window, key-below, key-precedes, falls-rule, lists-rule, sum-keyed, sums-keyed}
-use Rattle.sums.specs.Tally.{Tally, faulty, tallied, totalAt, checked, gathered, windowChecked, windowGathered, tallyIf, tallyOf}
+use Rattle.sums.specs.Tally.{faulty, totalAt, checked, gathered, windowChecked, windowGathered, tallyIf, tallyOf}
 use Rattle.removals.specs.Removal.{ofWindow, countsOf}
 use Rattle.removals.proofs.Windowed.{every-member, window-sum, window-fits, counts-ordered, counts-some, counts-own, counts-other, counts-pass}
 

@@ -1,12 +1,11 @@
 -- Refusals 1 to 3 of a removal, and what goes on after them.
-use mathlib.Core.Bool.{true, false, _&&_, not}
+use mathlib.Core.Bool.{true, false, not}
 use mathlib.Core.List.{List}
-use mathlib.Core.Path.{_≡_, refl, sym, ap, _∙_}
-use Prim.Native.Nat.{ℕ, _*_, _/_}
+use mathlib.Core.Path.{_≡_, sym, ap, _∙_}
+use Prim.Native.Nat.{ℕ, _*_}
 use native.Mathlib.Omega.{arith}
 use lib.ListN.{length}
 use borrow.Author.Tests.{eq-eqb, ne-eqb}
-use Rattle.lists.proofs.Bools.{and-both}
 use Rattle.words.specs.Words.{words}
 use Rattle.words.proofs.Views.{length-words}
 use Rattle.answers.specs.Answers.{Answer, refused}
@@ -15,14 +14,13 @@ use Rattle.state.specs.Views.{blocks, finished}
 use Rattle.state.specs.Rules.{stateRule}
 use Rattle.state.specs.Probe.{Store}
 use Rattle.state.proofs.Kept.{state-kept}
-use Rattle.partitions.specs.Reading.{stored}
 use Rattle.partitions.specs.Formed.{partitionsFormed}
 use Rattle.windows.specs.Promises.{Gives, storeOf}
 use Rattle.windows.proofs.Outcomes.{stopped, passed}
 use Rattle.sums.specs.declared.Judged.{Judged}
 use Rattle.sums.specs.Views.{countsIn}
-use Rattle.removals.specs.Removal.{countsOf, removalFormed, removing, removeOf}
-use Rattle.removals.specs.Taking.{Removable, listsFormed, ReadOf}
+use Rattle.removals.specs.Removal.{removalFormed, removing, removeOf}
+use Rattle.removals.specs.Taking.{Removable, ReadOf}
 use Rattle.removals.proofs.ReadBack.{formed-parts}
 
 module _ (s : State) (card : List ℕ) (w : ℕ) where

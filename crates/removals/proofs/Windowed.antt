@@ -1,20 +1,20 @@
 -- A window's sums, and its counts read from them.
-use mathlib.Core.Bool.{Bool, true, false, _&&_, cond}
-use mathlib.Core.List.{List, [], _∷_, _++_, List·Memᴰ, List·Memᴰ·head, List·Memᴰ·tail}
-use mathlib.Core.Path.{_≡_, refl, sym, ap, _∙_}
+use mathlib.Core.Bool.{Bool, true, false, _&&_}
+use mathlib.Core.List.{List, [], _∷_, List·Memᴰ, List·Memᴰ·head, List·Memᴰ·tail}
+use mathlib.Core.Path.{_≡_, refl, sym, _∙_}
 use Prim.Native.Nat.{ℕ, _≤_}
 use native.Mathlib.Omega.{arith}
-use lib.Dec.{eqb, leb}
+use lib.Dec.{eqb}
 use lib.IntN.{ℤ, pos, natAbs, _+ℤ_, +ℤ-idl, +ℤ-idr}
-use borrow.Author.Tests.{leb-true, eqb-true, eq-eqb}
-use Rattle.lists.specs.Lists.{any, every}
+use borrow.Author.Tests.{leb-true, eqb-true}
+use Rattle.lists.specs.Lists.{every}
 use Rattle.lists.proofs.Bools.{by-test, and-left, and-right}
 use Rattle.lists.proofs.Tests.{every-kept, every-keep, every-mem}
 use Rattle.postings.specs.declared.Posting.{Posting}
-use Rattle.postings.specs.Order.{precedes, samePair, ordered}
+use Rattle.postings.specs.Order.{precedes, ordered}
 use Rattle.postings.specs.Merge.{counting, counts, pairs, nonzero}
-use Rattle.postings.specs.Sums.{share, sum}
-use Rattle.postings.proofs.Order.{any-before, same-pair}
+use Rattle.postings.specs.Sums.{sum}
+use Rattle.postings.proofs.Order.{any-before}
 use Rattle.postings.proofs.Sums.{sum-pairs, sum-merge}
 use Rattle.postings.proofs.Merge.{every-puts, pairs-ordered, nonzero-ordered, nonzero-counts, ordered-sum, sum-none}
 use Rattle.partitions.specs.Formed.{inRange, sumsInRange}

@@ -1,19 +1,19 @@
 -- The buffer as one list by key: its head, and what is taken of it under a key.
-use mathlib.Core.Bool.{true, _&&_, not}
+use mathlib.Core.Bool.{true}
 use mathlib.Core.List.{List, [], _∷_, map}
-use mathlib.Core.Path.{_≡_, refl, ap, _∙_}
-use Prim.Native.Nat.{ℕ, suc, _+_, _<_, _≤_}
+use mathlib.Core.Path.{_≡_, refl}
+use Prim.Native.Nat.{ℕ, _+_, _<_, _≤_}
 use native.Mathlib.Numerals.{add-one}
 use native.Mathlib.Omega.{arith}
 use lib.Dec.{eqb, leb}
 use lib.IntN.{pos}
-use lib.ListN.{length, getD, take, drop, drop-of-length-le}
+use lib.ListN.{length, getD, drop, drop-of-length-le}
 use lib.Seq.{drop-cons, getD-take, length-take-le}
 use borrow.Author.Tests.{leb-true, eq-eqb, ne-eqb}
 use Rattle.lists.specs.Lists.{every}
-use Rattle.lists.proofs.Bools.{by-test, and-left, and-right}
+use Rattle.lists.proofs.Bools.{by-test, and-left}
 use Rattle.lists.proofs.Tests.{every-at, every-drop}
-use Rattle.keyed.specs.Keys.{Item, reach, rest, headVal, headFine}
+use Rattle.keyed.specs.Keys.{reach, rest, headVal, headFine}
 use Rattle.postings.specs.declared.Posting.{Posting}
 use Rattle.state.specs.declared.Buffer.{Buffer}
 use Rattle.state.specs.Views.{buffered, noPosting}

@@ -1,11 +1,10 @@
 -- One key more: what is told of the counts.
-use mathlib.Core.Bool.{Bool, true, false, cond, _&&_, _||_, not}
+use mathlib.Core.Bool.{true, false, _&&_}
 use mathlib.Core.List.{List, [], _∷_, _++_}
 use mathlib.Core.Path.{_≡_, refl, sym, ap, _∙_}
-use Prim.Native.Nat.{ℕ, suc, _<_, _≤_}
+use Prim.Native.Nat.{ℕ, _<_, _≤_}
 use native.Mathlib.Omega.{arith}
-use lib.Dec.{eqb, leb}
-use lib.IntN.{ℤ, pos, natAbs}
+use lib.IntN.{ℤ}
 use lib.ListN.{length, length-append}
 use mir.Syntax.{w16, w32}
 use mir.Val.{SFits, toZ, ofZ}
@@ -18,7 +17,7 @@ use Rattle.postings.specs.Merge.{isZero}
 use Rattle.postings.proofs.Sums.{is-zero}
 use Rattle.partitions.specs.Formed.{inRange}
 use Rattle.scans.specs.Keys.{keyWindow}
-use Rattle.sums.specs.Tally.{Tally, faulty, tallied, totalAt, tallyIf, keptOf}
+use Rattle.sums.specs.Tally.{faulty, tallied, totalAt, tallyIf, keptOf}
 
 pub append-none : (l : List Posting) → l ++ [] ≡ l
 append-none [] = refl

@@ -5,7 +5,7 @@ use mathlib.Core.Path.{_≡_, refl, sym, ap, ap₂, _∙_}
 use Prim.Native.Nat.{ℕ, zero, suc, _<_, _≤_}
 use native.Mathlib.Omega.{arith}
 use lib.Dec.{eqb, leb}
-use lib.IntN.{ℤ, pos, _+ℤ_, +ℤ-idr}
+use lib.IntN.{ℤ, _+ℤ_, +ℤ-idr}
 use lib.ListN.{length, length-append}
 use borrow.Author.Tests.{le-leb, lt-leb, leb-false}
 use Rattle.lists.specs.All.{AllOf}
@@ -16,7 +16,6 @@ use Rattle.keyed.proofs.Walk.{over-none}
 use Rattle.keyed.proofs.Groups as G
 use Rattle.postings.specs.declared.Posting.{Posting}
 use Rattle.postings.specs.Merge.{isZero}
-use Rattle.partitions.specs.Formed.{inRange}
 use Rattle.walks.specs.Judged.{totalZ, inRanges}
 use Rattle.walks.proofs.Steps.{total-none, quiet}
 use Rattle.scans.specs.Keys.{keyWindow}

@@ -1,7 +1,5 @@
-use mathlib.Core.Path.{_≡_, refl, sym, _∙_}
+use mathlib.Core.Path.{refl, sym, _∙_}
 use denote.Enum.Declared.{tagOf}
-use lib.ListN.{length}
-use Rattle.lists.proofs.Arrays.{unmapped}
 use Rattle.words.specs.Words.{words}
 use Rattle.state.proofs.Kept.{state-kept}
 use Rattle.windows.proofs.Target.{the-type}

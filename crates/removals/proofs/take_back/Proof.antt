@@ -5,7 +5,7 @@ use Rattle.lists.proofs.Arrays.{unmapped}
 use Rattle.lists.proofs.Sizes.{small-fits}
 use Rattle.postings.proofs.Signs.{neg-fits}
 use Rattle.removals.proofs.Takes.{start-buffer, end-buffer, small-count, next-addable, next-buffer, buffer-canonical}
-use mathlib.Core.Path.{_≡_, sym, ap, _∙_}
+use mathlib.Core.Path.{_≡_, _∙_}
 use native.Mathlib.Omega.{arith}
 use borrow.Author.Needs.{needs}
 use Rattle.state.specs.Views.{buffered, bufferOf, noPosting}
