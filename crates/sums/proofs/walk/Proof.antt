@@ -1,13 +1,15 @@
-use mathlib.Core.Path.{_≡_, refl, _∙_}
+use mathlib.Core.Path.{_≡_, refl, ap₂, _∙_}
 use Prim.Native.Nat.{suc, _-_}
 use native.Mathlib.Omega.{arith}
+use lib.IntN.{ℤ}
 use mir.Syntax.{w32}
 use mir.Val.{SFits}
 use mir.Facts.{toZ-ofZ}
 use borrow.Author.Needs.{needs}
 use borrow.Author.Tests.{not-true, not-false}
 use Rattle.words.specs.Words.{words}
-use Rattle.sums.specs.Tally.{tallyOf}
+use Rattle.sums.specs.Views.{countsIn}
+use Rattle.sums.specs.Tally.{tallyOf, keptOf}
 use Rattle.sums.specs.Steps.{groups}
 use Rattle.sums.proofs.Walking.{told-fine, told-faulty, Going, going-start, stop-ended, stop-high, stop-formed, stop-refused, goes-on}
 use Rattle.sums.proofs.walk.Statement.{statement}
@@ -116,7 +118,7 @@ returns-4 c =
     let h : l .larger .result ≡ suc k = omega (arith, c .before .before .before .before .before .before .before .if1 .left) in
     let fs : SFits w32 (t .result .sum) = record { sfits = omega (arith, c .before .before .before .struct-told .given) } in
     let ft : SFits w32 (t .result .total) = record { sfits = omega (arith, c .before .before .struct-told2 .given) } in
-    let u = rw (toZ-ofZ fs, toZ-ofZ ft) at (d .ensures .0) in (
+    let u = d .ensures .0 ∙ ap₂ (λ (x y : ℤ). keptOf w k x y (countsIn (a .loop .c))) (toZ-ofZ fs) (toZ-ofZ ft) in (
       told-faulty _ refl
           ∙ stop-refused W b w _ (a .loop .ss) (a .loop .at) (a .loop .bound) (a .loop .c) (s .pre .1) v (x .top-key .result) (y .buffer-reach .result) (l .larger .result) (x .top-key .ensures .0) (y .buffer-reach .ensures .0) (l .larger .ensures) k (t .result) h (c .before .before .before .before .before .before .if2 .left) (t .ensures) (not-false _ (c .before .before .before .before .if3 .left)) _ u (told-faulty (d .result) (not-true _ (c .if4 .taken))),
       v .neat,
@@ -142,7 +144,7 @@ loop-again c =
     let h : l .larger .result ≡ suc k = omega (arith, c .before .before .before .before .before .before .before .before .before .if1 .left) in
     let fs : SFits w32 (t .result .sum) = record { sfits = omega (arith, c .before .before .before .before .before .struct-told .given) } in
     let ft : SFits w32 (t .result .total) = record { sfits = omega (arith, c .before .before .before .before .struct-told2 .given) } in
-    let u = rw (toZ-ofZ fs, toZ-ofZ ft) at (d .ensures .0) in
+    let u = d .ensures .0 ∙ ap₂ (λ (x y : ℤ). keptOf w k x y (countsIn (a .loop .c))) (toZ-ofZ fs) (toZ-ofZ ft) in
     goes-on W b w _ (a .loop .ss) (a .loop .at) (a .loop .bound) (a .loop .c) (s .pre .1) v (x .top-key .result) (y .buffer-reach .result) (l .larger .result) (x .top-key .ensures .0) (y .buffer-reach .ensures .0) (l .larger .ensures) k (t .result) h (c .before .before .before .before .before .before .before .before .if2 .left) (t .ensures) (not-false _ (c .before .before .before .before .before .before .if3 .left)) _ u (d .result .counts) (d .ensures .1) (told-fine (d .result) (not-false _ (c .before .before .if4 .left)))
 
 pub walk-spec : {M : Type 1} → statement M
