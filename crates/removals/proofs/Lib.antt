@@ -7,3 +7,4 @@ pub mod Tallies
 pub mod ReadBack
 pub mod Turns
 pub mod Effect
+pub mod Whole
