@@ -17,3 +17,4 @@ pub mod Filling
 pub mod Stores
 pub mod TopK
 pub mod Built
+pub mod Distinct

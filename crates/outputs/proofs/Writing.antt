@@ -8,7 +8,7 @@ use lib.ListN.{length, getD, set, drop, length-set, drop-of-length-le}
 use lib.Seq.{drop-cons, getD-set-other}
 use Rattle.lists.specs.All.{AllOf}
 use Rattle.card.specs.Blocks.{link}
-use Rattle.card.specs.Chains.{chain}
+use Rattle.card.specs.Chains.{chain, chainRule}
 use Rattle.card.specs.Cursors.{InCard, Chained}
 use Rattle.outputs.specs.declared.Place.{Place}
 use Rattle.outputs.specs.Contents.{spotOf, written, At, nextPlace}
@@ -27,6 +27,13 @@ module _ (W : List ℕ) (b r v : ℕ) (h : r < 1023) where
   unfolding chain
   chain-set first zero = refl
   chain-set first (suc n) = ap (λ (l : List ℕ). first ∷ l) (ap (λ (d : ℕ). chain W′ d n) (link-set first) ∙ chain-set (link W first) n)
+
+  -- and whether it keeps the rule
+  pub rule-set : (limit first n : ℕ) → chainRule W′ limit first n ≡ chainRule W limit first n
+  unfolding chainRule
+  rule-set limit first zero = refl
+  rule-set limit first (suc zero) = rw (link-set first)
+  rule-set limit first (suc (suc n)) = rw (link-set first, rule-set limit (link W first) (suc n))
 
   all-in : (l : List ℕ) → AllOf (InCard W) l → AllOf (InCard W′) l
   unfolding AllOf
