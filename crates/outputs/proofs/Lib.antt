@@ -1,3 +1,5 @@
 pub mod Places
 pub mod Writing
 pub mod Contents
+pub mod Turning
+pub mod Linking

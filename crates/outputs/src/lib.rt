@@ -1,13 +1,16 @@
 // What a merge writes: the output's blocks linked, words of its content, header and entries; and its inputs' blocks freed.
 use card::block_word;
 use card::put_block_word;
+use card::Free;
+ghost use mathlib.Core.List.{[]};
 ghost use mathlib.Core.Path.{_≡_};
 ghost use Prim.Native.Nat.{_+_, _-_, _*_, _%_, _≤_, _<_};
-ghost use lib.ListN.{length, set};
+ghost use lib.ListN.{length, getD, set, take};
 ghost use Rattle.words.specs.Words.{words as wordsOf};
-ghost use Rattle.card.specs.Blocks.{link};
+ghost use Rattle.card.specs.Blocks.{freeBlocks};
 ghost use Rattle.card.specs.Chains.{chain};
 ghost use Rattle.card.specs.Cursors.{InCard, Chained};
+ghost use Rattle.card.specs.Writes.{store};
 ghost use Rattle.outputs.specs.Contents.{written, At, nextPlace};
 
 // A place to write at: a word of a block, or 1,023 for the place past its content, from where the link leads on to the next word.
@@ -62,5 +65,48 @@ fn write_words(card: &mut [u8], first: u16, n: u32, offset: u32, content: &[u32]
     while i < content.len() {
         p = put_next(card, p, content[i]);
         i += 1;
+    }
+}
+
+// The free block that is taken next, where there is one.
+fn free_after(card: &[u8], blocks: u32, taken: u16) -> u16
+    requires { ⌜ (length (wordsOf (now card)) ≡ 1024 * blocks) × (blocks ≤ 4096) × (taken < blocks) × (1 ≤ length (freeBlocks (wordsOf (now card)) blocks taken)) ⌝ }
+    ensures { λ r. ⌜ r ≡ getD (freeBlocks (wordsOf (now (card .entry))) blocks taken) 0 0 ⌝ }
+{
+    let found = card::next_free(card, blocks, taken);
+    match found {
+        Free::Block(block) => block,
+        Free::Nothing => taken,
+    }
+}
+
+// The first and the last of blocks that were linked.
+pub struct Linked {
+    pub first: u16,
+    pub last: u16,
+}
+
+// Takes the next n free blocks and links each to the next, the last to none. A block that is linked is free no more, so the search for
+// the next one goes on from it.
+pub fn link_free(card: &mut [u8], blocks: u32, taken: u16, n: u32) -> Linked
+    requires { ⌜ (length (now card) % 4 ≡ 0) × (length (wordsOf (now card)) ≡ 1024 * blocks) × (blocks ≤ 4096) × (taken < blocks) × (1 ≤ n)
+        × (n ≤ length (freeBlocks (wordsOf (now card)) blocks taken)) ⌝ }
+    ensures { λ r. ⌜ (wordsOf (now (card .exit)) ≡ store (wordsOf (now (card .entry))) (take n (freeBlocks (wordsOf (now (card .entry))) blocks taken)) [])
+        × (r .first ≡ getD (take n (freeBlocks (wordsOf (now (card .entry))) blocks taken)) 0 0)
+        × (r .last ≡ getD (take n (freeBlocks (wordsOf (now (card .entry))) blocks taken)) (n - 1) 0) ⌝ }
+{
+    let first = free_after(card, blocks, taken);
+    let mut last = first;
+    let mut count: u32 = 1;
+    while count < n {
+        let next = free_after(card, blocks, last);
+        put_block_word(card, last, 1023, next as u32);
+        last = next;
+        count += 1;
+    }
+    put_block_word(card, last, 1023, 65534);
+    Linked {
+        first: first,
+        last: last,
     }
 }
