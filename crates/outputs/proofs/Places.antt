@@ -1,18 +1,21 @@
 -- A place to write at, moved along a chain of blocks.
-use mathlib.Core.Bool.{true, false}
+use mathlib.Core.Bool.{true, false, _&&_}
 use mathlib.Core.List.{List}
 use mathlib.Core.Logic.{_⊎_, inl, inr, ⊎-elim}
 use mathlib.Core.Path.{_≡_, refl, sym, ap, _∙_}
 use Prim.Native.Nat.{ℕ, zero, suc, _+_, _-_, _*_, _/_, _%_, _<_, _≤_}
 use native.Mathlib.Omega.{arith}
-use lib.Dec.{eqb}
+use lib.Dec.{eqb, ltb}
 use lib.ListN.{length, getD}
 use borrow.Author.Tests.{eq-eqb, ne-eqb, eqb-true, eqb-false}
+use Rattle.lists.specs.Lists.{every}
 use Rattle.lists.proofs.Arrays.{of-at}
 use Rattle.lists.proofs.Bools.{by-test}
+use Rattle.words.specs.Words.{allOnes}
 use Rattle.card.specs.Blocks.{link}
 use Rattle.card.specs.Chains.{chain}
-use Rattle.card.specs.Cursors.{InCard, Chained}
+use Rattle.card.specs.declared.Cursor.{Cursor}
+use Rattle.card.specs.Cursors.{InCard, Chained, aheadAt, ahead, movedOf}
 use Rattle.card.proofs.Links.{length-chain, chain-next}
 use Rattle.outputs.specs.declared.Place.{Place}
 use Rattle.outputs.specs.Contents.{spotOf, At, nextPlace}
@@ -105,3 +108,17 @@ module _ (W : List ℕ) (first n : ℕ) (g : Chained W first n) where
     next-at =
         let e : k + 1 - 1 ≡ k = omega arith in
         record { block = rw e next-block; word = rw e (omega (arith, next-word)) }
+
+-- Cursors ------------------------------------------------------------------------------------------------------------
+
+-- a cursor that moves has less to come
+pub moved-less : (W : List ℕ) (c : Cursor) → 0 < c .left → movedOf W c .left < c .left
+moved-less W c h =
+    by-test (eqb (c .word) 1022 && ltb 1 (c .left))
+    (λ y. rw y (omega arith))
+    (λ y. rw y (omega arith))
+
+-- one with none to come has no word that is not all ones
+pub every-none : (W : List ℕ) (c : Cursor) → c .left ≡ 0 → every (eqb allOnes) (ahead W c) ≡ true
+unfolding aheadAt
+every-none W c e = rw e

@@ -1,11 +1,11 @@
 -- Words written one after another along a chain: its links stay as they are.
-use mathlib.Core.List.{List, [], _∷_}
+use mathlib.Core.List.{List, [], _∷_, _++_}
 use mathlib.Core.Path.{_≡_, refl, sym, ap, _∙_}
 use Prim.Native.Nat.{ℕ, zero, suc, _+_, _-_, _*_, _/_, _%_, _<_, _≤_}
 use native.Mathlib.Numerals.{add-one}
 use native.Mathlib.Omega.{arith}
 use lib.ListN.{length, getD, set, drop, length-set, drop-of-length-le}
-use lib.Seq.{drop-cons, getD-set-other}
+use lib.Seq.{getD-set-other}
 use Rattle.lists.specs.All.{AllOf}
 use Rattle.card.specs.Blocks.{link}
 use Rattle.card.specs.Chains.{chain, chainRule}
@@ -75,12 +75,13 @@ module _ (W₀ : List ℕ) (first n o : ℕ) (vs : List ℕ) where
           (word-most W first n g (o + i) p (omega arith) here, place-in W first n g (o + i) p (omega arith) here, next-in W first n g (o + i) p (omega arith) here)
 
       -- one turn
-      pub writing-on : (W′ : List ℕ) (q : Place) → q ≡ nextPlace W p → W′ ≡ set W (1024 * q .block + (q .word - 1)) (getD vs i 0) → Writing W₀ first n o vs W′ q (i + 1)
-      writing-on W′ q x y =
+      pub writing-on : (v : ℕ) → drop i vs ≡ v ∷ drop (suc i) vs → (W′ : List ℕ) (q : Place) → q ≡ nextPlace W p → W′ ≡ set W (1024 * q .block + (q .word - 1)) v
+          → Writing W₀ first n o vs W′ q (i + 1)
+      writing-on v turn W′ q x y =
           let g = w .chained in
           let bs = chain W₀ first n in
           let s = next-spot W first n g (o + i) p (omega arith) here in
-          let z : W′ ≡ set W (spotOf bs (o + i)) (getD vs i 0) = y ∙ rw (x, s, w .links) in
+          let z : W′ ≡ set W (spotOf bs (o + i)) v = y ∙ rw (x, s, w .links) in
           let d = getD bs ((o + i) / 1023) 0 in
           let r = (o + i) % 1023 in
           let m : r < 1023 = omega arith in
@@ -89,8 +90,30 @@ module _ (W₀ : List ℕ) (first n o : ℕ) (vs : List ℕ) where
           let e₂ : o + (i + 1) ≡ o + i + 1 = omega arith in
           record {
             most = omega arith;
-            links = rw z (chain-set W d r (getD vs i 0) m first n ∙ w .links);
-            chained = rw z (chained-set W d r (getD vs i 0) m first n g);
+            links = rw z (chain-set W d r v m first n ∙ w .links);
+            chained = rw z (chained-set W d r v m first n g);
             at = rw (x, e₂) a;
-            rest = w .rest ∙ rw (drop-cons vs i 0 h, z, e, add-one i);
+            rest = w .rest ∙ rw (turn, z, e, add-one i);
           }
+
+-- Written as a whole ---------------------------------------------------------------------------------------------------
+
+module _ (bs : List ℕ) where
+  -- words written one after another
+  pub written-append : (W : List ℕ) (k : ℕ) (vs ws : List ℕ) → written W bs k (vs ++ ws) ≡ written (written W bs k vs) bs (k + length vs) ws
+  written-append W k [] ws = let e : k + 0 ≡ k = omega arith in rw e
+  written-append W k (v ∷ vs) ws =
+      let e : k + suc (length vs) ≡ suc k + length vs = omega arith in
+      rw e (written-append (set W (spotOf bs k) v) (suc k) vs ws)
+
+  -- leave every chain
+  pub chain-written : (W : List ℕ) (k : ℕ) (vs : List ℕ) (first n : ℕ) → chain (written W bs k vs) first n ≡ chain W first n
+  chain-written W k [] first n = refl
+  chain-written W k (v ∷ vs) first n =
+      chain-written (set W (spotOf bs k) v) (suc k) vs first n ∙ chain-set W (getD bs (k / 1023) 0) (k % 1023) v (omega arith) first n
+
+  -- of blocks of the card
+  pub chained-written : (W : List ℕ) (k : ℕ) (vs : List ℕ) (first n : ℕ) → Chained W first n → Chained (written W bs k vs) first n
+  chained-written W k [] first n g = g
+  chained-written W k (v ∷ vs) first n g =
+      chained-written (set W (spotOf bs k) v) (suc k) vs first n (chained-set W (getD bs (k / 1023) 0) (k % 1023) v (omega arith) first n g)

@@ -1,17 +1,29 @@
 // What a merge writes: the output's blocks linked, words of its content, header and entries; and its inputs' blocks freed.
+use card::Cursor;
+use card::Free;
 use card::block_word;
 use card::put_block_word;
-use card::Free;
-ghost use mathlib.Core.List.{[]};
+use postings::Posting;
+use postings::pack;
+use state::Partitions;
+ghost use mathlib.Core.Bool.{true};
+ghost use mathlib.Core.List.{[], map};
 ghost use mathlib.Core.Path.{_≡_};
 ghost use Prim.Native.Nat.{_+_, _-_, _*_, _%_, _≤_, _<_};
+ghost use lib.Dec.{eqb};
 ghost use lib.ListN.{length, getD, set, take};
-ghost use Rattle.words.specs.Words.{words as wordsOf};
+ghost use Rattle.lists.specs.All.{AllOf};
+ghost use Rattle.lists.specs.Lists.{every, different};
+ghost use Rattle.words.specs.Words.{words as wordsOf, allOnes};
+ghost use Rattle.state.specs.Views.{finished};
 ghost use Rattle.card.specs.Blocks.{freeBlocks};
-ghost use Rattle.card.specs.Chains.{chain};
-ghost use Rattle.card.specs.Cursors.{InCard, Chained};
-ghost use Rattle.card.specs.Writes.{store};
+ghost use Rattle.card.specs.Chains.{blocksFor, chain};
+ghost use Rattle.card.specs.Cursors.{InCard, Chained, Good, ahead};
+ghost use Rattle.card.specs.Writes.{store, release};
+ghost use Rattle.partitions.specs.Layout.{header, wordOf};
+ghost use Rattle.partitions.specs.Formed.{chainsOf, inRange};
 ghost use Rattle.outputs.specs.Contents.{written, At, nextPlace};
+ghost use Rattle.outputs.specs.Entries.{entriesBy};
 
 // A place to write at: a word of a block, or 1,023 for the place past its content, from where the link leads on to the next word.
 struct Place {
@@ -64,6 +76,98 @@ fn write_words(card: &mut [u8], first: u16, n: u32, offset: u32, content: &[u32]
     let mut i = 0;
     while i < content.len() {
         p = put_next(card, p, content[i]);
+        i += 1;
+    }
+}
+
+// The header, at the beginning of the content of the n blocks from `first` on.
+pub fn write_header(card: &mut [u8], first: u16, n: u32, level: u16, terms: u16, count: u32)
+    requires { ⌜ (length (now card) % 4 ≡ 0) × (0 < n) × (n ≤ 4096) × (count ≤ 1023 * n) × Chained (wordsOf (now card)) first n ⌝ }
+    ensures { λ r. ⌜ wordsOf (now (card .exit)) ≡ written (wordsOf (now (card .entry))) (chain (wordsOf (now (card .entry))) first n) 0 (header level terms count) ⌝ }
+{
+    let t = terms as u32;
+    let fields = [
+        t,
+        count,
+        32,
+        32 + 12 * t,
+        32 + 12 * t + 4 * count,
+        level as u32,
+        0,
+        0,
+    ];
+    write_words(card, first, n, 0, &fields);
+}
+
+// The entries, from how many postings each identifier has.
+pub fn write_entries(card: &mut [u8], first: u16, n: u32, counts: [u16; 1024])
+    requires { ⌜ (length (now card) % 4 ≡ 0) × (0 < n) × (n ≤ 4096) × (8 + length (entriesBy 0 0 counts) ≤ 1023 * n) × Chained (wordsOf (now card)) first n ⌝ }
+    ensures { λ r. ⌜ wordsOf (now (card .exit)) ≡ written (wordsOf (now (card .entry))) (chain (wordsOf (now (card .entry))) first n) 8 (entriesBy 0 0 counts) ⌝ }
+{
+    let mut at: u32 = 8;
+    let mut sum: u32 = 0;
+    let mut i: usize = 0;
+    while i < 1024 {
+        let count = counts[i] as u32;
+        if count != 0 {
+            let entry = [i as u32, count, sum];
+            write_words(card, first, n, at, &entry);
+            at += 3;
+            sum += count;
+        }
+        i += 1;
+    }
+}
+
+// The words of the first `used` of these postings, from word `offset` of the content of the n blocks from `first` on.
+pub fn write_postings(
+    card: &mut [u8],
+    first: u16,
+    n: u32,
+    offset: u32,
+    used: u16,
+    postings: [Posting; 16],
+)
+    requires { ⌜ (length (now card) % 4 ≡ 0) × (0 < n) × (used ≤ 16) × (offset + used ≤ 1023 * n) × Chained (wordsOf (now card)) first n
+        × (every (λ p. inRange (p .count)) (take used postings) ≡ true) ⌝ }
+    ensures { λ r. ⌜ wordsOf (now (card .exit)) ≡ written (wordsOf (now (card .entry))) (chain (wordsOf (now (card .entry))) first n) offset (map wordOf (take used postings)) ⌝ }
+{
+    let mut p = place_at(card, first, n, offset);
+    let mut i: u16 = 0;
+    while i < used {
+        let q = postings[i as usize];
+        let count = q.count;
+        p = put_next(card, p, pack(count, q.window));
+        i += 1;
+    }
+}
+
+// Whether all words that a cursor has still to come are all ones.
+pub fn rest_free(card: &[u8], c: Cursor) -> bool
+    requires { ⌜ Good (wordsOf (now card)) c ⌝ }
+    ensures { λ r. ⌜ r ≡ every (eqb allOnes) (ahead (wordsOf (now (card .entry))) c) ⌝ }
+{
+    let mut at = c;
+    while 0 < at.left {
+        if card::head(card, at) != 4294967295 {
+            return false;
+        }
+        at = card::moved(card, at);
+    }
+    true
+}
+
+// Frees the blocks of partitions.
+pub fn release_inputs(card: &mut [u8], ps: Partitions)
+    requires { ⌜ (length (now card) % 4 ≡ 0) × (ps .used ≤ 51) × AllOf (λ p. Chained (wordsOf (now card)) (p .first) (blocksFor (p .length))) (finished ps)
+        × (different (chainsOf (wordsOf (now card)) (finished ps)) ≡ true) ⌝ }
+    ensures { λ r. ⌜ wordsOf (now (card .exit)) ≡ release (wordsOf (now (card .entry))) (chainsOf (wordsOf (now (card .entry))) (finished ps)) ⌝ }
+{
+    let n = ps.used as usize;
+    let mut i: usize = 0;
+    while i < n {
+        let p = ps.records[i];
+        card::release_chain(card, p.first, partitions::blocks_for(p.length));
         i += 1;
     }
 }

@@ -4,6 +4,7 @@ use Prim.Native.Nat.{_-_}
 use native.Mathlib.Omega.{arith}
 use borrow.Author.Needs.{needs}
 use lib.ListN.{length}
+use lib.Seq.{drop-cons}
 use Rattle.words.specs.Words.{words}
 use Rattle.outputs.proofs.Writing.{Writing, writing-start, writing-needs, writing-on, writing-end}
 use Rattle.outputs.proofs.write_words.Statement.{statement}
@@ -51,7 +52,7 @@ loop-again c =
     let put = c .before .before .put-next in (
       put .kept .0 ∙ a .loop .inv .0,
       writing-on (words (s .args .card .now)) (s .args .first) (s .args .n) (s .args .offset) (s .args .content .now) (words (a .loop .card)) (a .loop .p) (a .loop .i) (s .pre .2)
-          (a .loop .inv .1) (c .before .before .before .before .before .loop-test .taken) (words (put .last .0)) (put .result) (put .ensures .0) (put .ensures .1),
+          (a .loop .inv .1) (c .before .before .before .before .before .loop-test .taken) _ (drop-cons (s .args .content .now) (a .loop .i) 0 (c .before .before .before .before .before .loop-test .taken)) (words (put .last .0)) (put .result) (put .ensures .0) (put .ensures .1),
     )
 
 same-length : tie.Need-same-length Inv-loop μ-loop

@@ -1,0 +1,24 @@
+-- The words of the first postings of an array.
+use mathlib.Core.List.{List, _∷_, map}
+use mathlib.Core.Path.{_≡_, ap, _∙_}
+use Prim.Native.Nat.{ℕ, suc, _<_, _≤_}
+use native.Mathlib.Omega.{arith}
+use lib.ListN.{length, getD, take, drop, length-map, List·getD-map}
+use lib.Seq.{drop-cons, getD-take, length-take-le}
+use Rattle.postings.specs.declared.Posting.{Posting}
+use Rattle.state.specs.Views.{noPosting}
+use Rattle.partitions.specs.Layout.{wordOf}
+
+module _ (all : List Posting) (n : ℕ) where
+  -- one to a posting
+  pub length-words-of : n ≤ length all → length (map wordOf (take n all)) ≡ n
+  length-words-of fits = length-map (take n all) wordOf ∙ length-take-le n all fits
+
+  -- the word at place i
+  pub word-turn : (i : ℕ) → n ≤ length all → i < n
+      → drop i (map wordOf (take n all)) ≡ wordOf (getD all i noPosting) ∷ drop (suc i) (map wordOf (take n all))
+  word-turn i fits h =
+      let l = length-words-of fits in
+      let g : getD (map wordOf (take n all)) i (wordOf noPosting) ≡ wordOf (getD all i noPosting) =
+      List·getD-map wordOf (take n all) i noPosting ∙ ap wordOf (getD-take n all i noPosting h) in
+      drop-cons (map wordOf (take n all)) i (wordOf noPosting) (omega arith) ∙ ap (λ (w : ℕ). w ∷ drop (suc i) (map wordOf (take n all))) g

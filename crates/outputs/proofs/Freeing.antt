@@ -1,0 +1,119 @@
+-- The blocks of partitions freed, one partition after another.
+use mathlib.Core.Bool.{Bool, true, false, _&&_, not}
+use mathlib.Core.List.{List, [], _∷_, _++_, map}
+use mathlib.Core.Path.{_≡_, refl, sym, ap, _∙_}
+use Prim.Native.Nat.{ℕ, suc, _+_, _*_, _<_, _≤_}
+use native.Mathlib.Omega.{arith}
+use lib.ListN.{length, getD, take, drop, replicate}
+use lib.Seq.{sets}
+use Rattle.lists.specs.All.{AllOf}
+use Rattle.lists.specs.Lists.{every, elem, different, joined}
+use Rattle.lists.proofs.Bools.{and-left, and-right, and-both}
+use Rattle.lists.proofs.Runs.{apart as apartBy, apart-append, apart-none}
+use Rattle.lists.proofs.Tests.{every-append}
+use Rattle.lists.proofs.Turns.{used-turn, used-end}
+use Rattle.words.specs.Words.{allOnes}
+use Rattle.state.specs.declared.Partition.{Partition}
+use Rattle.card.specs.Chains.{blocksFor, chain}
+use Rattle.card.specs.Cursors.{InCard, Chained}
+use Rattle.card.specs.Writes.{release}
+use Rattle.card.proofs.Stores.{Agree, apart, length-release, chain-agree}
+use Rattle.partitions.specs.Reading.{chainOf}
+use Rattle.partitions.specs.Formed.{chainsOf}
+use Rattle.partitions.proofs.Kept.{AgreeAll, chains-kept, release-keeps}
+
+-- blocks freed after others
+pub release-append : (W a b : List ℕ) → release W (a ++ b) ≡ release (release W a) b
+unfolding release
+release-append W [] b = refl
+release-append W (d ∷ a) b = release-append (sets W (1024 * d) (replicate 1024 allOnes)) a b
+
+-- a list that has no number twice, in two parts: neither has one twice, and no number stands in both
+pub record Parted (a b : List ℕ) : Type 0 where
+  pub left : different a ≡ true
+  pub right : different b ≡ true
+  pub apart : every (λ d. not (elem d a)) b ≡ true
+
+pub different-parts : (a b : List ℕ) → different (a ++ b) ≡ true → Parted a b
+different-parts a b e =
+    let none : ℕ → Bool = λ k. false in
+    let d : (apartBy none a && apartBy (λ k. elem k a) b) ≡ true = sym (apart-append none (λ k. elem k a) a b (λ k. refl)) ∙ apart-none none (a ++ b) (λ k. refl) ∙ e in
+    let r = and-right (apartBy none a) _ d in
+    record {
+      left = sym (apart-none none a (λ k. refl)) ∙ and-left (apartBy none a) _ d;
+      right = and-left (different b) _ r;
+      apart = and-right (different b) _ r;
+    }
+
+-- a test of all of joined lists is a test of each
+every-joined : (t : ℕ → Bool) (f : Partition → List ℕ) (qs : List Partition) → every t (joined (map f qs)) ≡ true → every (λ q. every t (f q)) qs ≡ true
+every-joined t f [] e = refl
+every-joined t f (q ∷ qs) e =
+    let s = sym (every-append t (f q) (joined (map f qs))) ∙ e in
+    and-both (every t (f q)) _ (and-left (every t (f q)) _ s) (every-joined t f qs (and-right (every t (f q)) _ s))
+
+-- the blocks of each are blocks of the card
+abbrev pub AllChained : List ℕ → List Partition → Type 0
+AllChained W ps = AllOf (λ p. Chained W (p .first) (blocksFor (p .length))) ps
+
+in-released : (W bs l : List ℕ) → AllOf (InCard W) l → AllOf (InCard (release W bs)) l
+unfolding AllOf
+in-released W bs [] g = tt
+in-released W bs (d ∷ l) g = (record { few = g .0 .few; inside = omega (arith, length-release W bs, g .0 .inside) }, in-released W bs l (g .1))
+
+-- those that stand apart from freed blocks are chained as before
+all-chained : (W bs : List ℕ) (qs : List Partition) → AgreeAll (release W bs) W qs → AllChained W qs → AllChained (release W bs) qs
+unfolding AllOf
+all-chained W bs [] a g = tt
+all-chained W bs (q ∷ qs) a g =
+    (rw (chain-agree (release W bs) W (q .first) (blocksFor (q .length)) (a .0)) (in-released W bs (chainOf W q) (g .0)), all-chained W bs qs (a .1) (g .1))
+
+-- the blocks of the first i of n partitions are freed, and freeing the others' gives the whole
+pub record Freeing (W₀ : List ℕ) (all : List Partition) (n : ℕ) (W : List ℕ) (i : ℕ) : Type 0 where
+  pub chained : AllChained W (drop i (take n all))
+  pub apart : different (chainsOf W (drop i (take n all))) ≡ true
+  pub rest : release W₀ (chainsOf W₀ (take n all)) ≡ release W (chainsOf W (drop i (take n all)))
+
+module _ (W₀ : List ℕ) (all : List Partition) (n : ℕ) (fits : n ≤ length all) (W : List ℕ) (i : ℕ) (d : Partition) (w : Freeing W₀ all n W i) where
+  -- all are freed
+  pub freeing-end : n ≤ i → W ≡ release W₀ (chainsOf W₀ (take n all))
+  unfolding chainsOf release
+  freeing-end h = sym (used-end (λ (l : List Partition). release W (chainsOf W l)) all n i fits h (w .rest))
+
+  module _ (h : i < n) where
+    abbrev p : Partition
+    p = getD all i d
+
+    abbrev qs : List Partition
+    qs = drop (i + 1) (take n all)
+
+    turn : drop i (take n all) ≡ p ∷ qs
+    turn = used-turn (λ (l : List Partition). l) all n i d fits h refl
+
+    parts : Parted (chainOf W p) (chainsOf W qs)
+    unfolding chainsOf
+    parts = different-parts (chainOf W p) (chainsOf W qs) (rw turn at (w .apart))
+
+    -- the next one's blocks are different blocks of the card
+    pub freeing-chained : Chained W (p .first) (blocksFor (p .length))
+    unfolding AllOf
+    freeing-chained = (rw turn at (w .chained)) .0
+
+    pub freeing-different : different (chainOf W p) ≡ true
+    freeing-different = parts .left
+
+    keeps : AgreeAll (release W (chainOf W p)) W qs
+    unfolding chainsOf
+    keeps = release-keeps W (chainOf W p) qs (every-joined (λ d. not (elem d (chainOf W p))) (chainOf W) qs (parts .apart))
+
+    -- and they are freed
+    pub freeing-on : (W₁ : List ℕ) → W₁ ≡ release W (chainOf W p) → Freeing W₀ all n W₁ (i + 1)
+    unfolding AllOf chainsOf
+    freeing-on W₁ x =
+        let k = chains-kept (release W (chainOf W p)) W qs keeps in
+        rw x
+        (record {
+          chained = all-chained W (chainOf W p) qs keeps ((rw turn at (w .chained)) .1);
+          apart = rw k (parts .right);
+          rest = w .rest ∙ rw turn (release-append W (chainOf W p) (chainsOf W qs) ∙ rw k);
+        })

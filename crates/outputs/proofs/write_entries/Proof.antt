@@ -1,0 +1,114 @@
+-- `outputs::write_entries` meets its contract. The invariant: writing the entries of the identifiers from i on gives the whole. Assumes nothing.
+use mathlib.Core.Logic.{⊎-elim}
+use mathlib.Core.Path.{_≡_, refl, _∙_}
+use Prim.Native.Nat.{_-_, _<_, _≤_}
+use native.Mathlib.Omega.{arith}
+use borrow.Author.Needs.{needs}
+use lib.ListN.{length, getD}
+use mir.Syntax.{w16}
+use mir.Val.{Fits}
+use Rattle.words.specs.Words.{words}
+use Rattle.outputs.proofs.Entering.{Entering, entering-start, entering-end, entering-past, entering-room, entering-on}
+use Rattle.outputs.proofs.write_entries.Statement.{statement}
+use Rattle.outputs.proofs.write_entries.Tie as tie
+
+abbrev Inv-loop : tie.InvT-loop
+Inv-loop card₀ first n counts at₀ sum₀ i₀ card at sum i =
+    (length counts ≡ 1024) × (length card ≡ length card₀) × Entering (words card₀) first n counts (words card) at sum i
+
+abbrev μ-loop : tie.MeasureT-loop
+μ-loop card₀ first n counts at₀ sum₀ i₀ card at sum i = 1024 - i
+
+loop-holds : tie.Need-loop-holds Inv-loop μ-loop
+loop-holds c =
+    let s = c .before in
+    (search needs, refl, entering-start (words (s .args .card .now)) (s .args .first) (s .args .n) (s .args .t4) (s .pre .4) (s .pre .3))
+
+mul-count : tie.Need-mul-count Inv-loop μ-loop
+mul-count c = search needs
+
+array-read-count : tie.Need-array-read-count Inv-loop μ-loop
+array-read-count c = search needs
+
+cast-count : tie.Need-cast-count Inv-loop μ-loop
+cast-count c = search needs
+
+cast-t16 : tie.Need-cast-t16 Inv-loop μ-loop
+cast-t16 c = search needs
+
+slice-aggregate-write-words : tie.Need-slice-aggregate-write-words Inv-loop μ-loop
+slice-aggregate-write-words c = search needs
+
+write-words-requires : tie.Need-write-words-requires Inv-loop μ-loop
+write-words-requires c κs =
+    let a = c .before .before .before .before in
+    let s = a .before .before in
+    let h = c .before .before .before .loop-test .taken in
+    let r = entering-room (words (s .args .card .now)) (s .args .first) (s .args .n) (s .args .t4) (words (a .loop .card)) (a .loop .at) (a .loop .sum) (a .loop .i) (a .loop .inv .2) (omega (arith, a .loop .inv .0, h)) _ refl (c .before .before .if1 .taken) in
+    (omega (arith, a .loop .inv .1, s .pre .0), s .pre .1, r, a .loop .inv .2 .chained)
+
+add-at : tie.Need-add-at Inv-loop μ-loop
+add-at c =
+    let a = c .before .before .before .before .before .before .before in
+    let s = a .before .before in
+    let h = c .before .before .before .before .before .before .loop-test .taken in
+    let r = entering-room (words (s .args .card .now)) (s .args .first) (s .args .n) (s .args .t4) (words (a .loop .card)) (a .loop .at) (a .loop .sum) (a .loop .i) (a .loop .inv .2) (omega (arith, a .loop .inv .0, h)) _ refl (c .before .before .before .before .before .if1 .taken) in
+    omega (arith, r, s .pre .2)
+
+add-sum : tie.Need-add-sum Inv-loop μ-loop
+add-sum c =
+    let a = c .before .before .before .before .before .before .before in
+    let s = a .before .before in
+    let f : Fits w16 (getD (s .args .t4) (a .loop .i) 0) = search needs in
+    omega (arith, a .loop .inv .2 .sums, f)
+
+add-i : tie.Need-add-i Inv-loop μ-loop
+add-i c = search needs
+
+loop-less : tie.Need-loop-less Inv-loop μ-loop
+loop-less c = search needs
+
+loop-again : tie.Need-loop-again Inv-loop μ-loop
+loop-again c =
+    let a = c .before .before in
+    let s = a .before .before in
+    let h : a .loop .i < length (s .args .t4) = omega (arith, a .loop .inv .0, c .before .loop-test .taken) in
+    let f : Fits w16 (getD (s .args .t4) (a .loop .i) 0) = search needs in
+    ⊎-elim
+    (λ w. rw (w .6, w .7, w .8) (
+      a .loop .inv .0,
+      w .3 .kept .0 ∙ a .loop .inv .1,
+      entering-on (words (s .args .card .now)) (s .args .first) (s .args .n) (s .args .t4) (words (a .loop .card)) (a .loop .at) (a .loop .sum) (a .loop .i) (a .loop .inv .2) h _ refl (w .0 .taken) (words (w .3 .last .0)) (omega (arith, f)) (w .3 .ensures),
+    ))
+    (λ w. rw (w .1, w .2, w .3) (a .loop .inv .0, a .loop .inv .1, entering-past (words (s .args .card .now)) (s .args .first) (s .args .n) (s .args .t4) (words (a .loop .card)) (a .loop .at) (a .loop .sum) (a .loop .i) (a .loop .inv .2) h (w .0 .left)))
+    (c .if1 .came)
+
+same-length : tie.Need-same-length Inv-loop μ-loop
+same-length c = c .before .loop .inv .1
+
+returns : tie.Need-returns Inv-loop μ-loop
+returns c =
+    let a = c .before in
+    let s = a .before .before in
+    entering-end (words (s .args .card .now)) (s .args .first) (s .args .n) (s .args .t4) (words (a .loop .card)) (a .loop .at) (a .loop .sum) (a .loop .i) (a .loop .inv .2) (omega (arith, a .loop .inv .0, c .loop-test .left))
+
+pub write-entries-spec : {M : Type 1} → statement M
+write-entries-spec =
+    tie.close
+    (tie.spec
+    Inv-loop
+    μ-loop
+    loop-holds
+    mul-count
+    array-read-count
+    cast-count
+    cast-t16
+    slice-aggregate-write-words
+    write-words-requires
+    add-at
+    add-sum
+    add-i
+    loop-less
+    loop-again
+    same-length
+    returns)
