@@ -6,3 +6,4 @@ pub mod Linking
 pub mod Entering
 pub mod Freeing
 pub mod Batches
+pub mod Entries
