@@ -5,7 +5,7 @@ use mathlib.Core.Path.{_≡_, refl, sym, ap, ap₂, _∙_}
 use Prim.Native.Nat.{ℕ, zero, suc, _+_, _-_, _*_, _/_, _%_, _<_, _≤_}
 use native.Mathlib.Omega.{arith}
 use lib.Dec.{eqb, ltb}
-use lib.ListN.{length, getD, set, take, drop, replicate, length-append, length-set, length-replicate}
+use lib.ListN.{length, getD, set, take, drop, replicate, length-append, length-set, length-replicate, replicate-append-replicate}
 use lib.Seq.{sets, length-sets, getD-set-same, getD-set-other, drop-set-lt, ext-getD}
 use borrow.Author.Tests.{eqb-true, eqb-false, ltb-true, ltb-false, eq-eqb}
 use Rattle.lists.specs.Lists.{elem, different}
@@ -174,3 +174,41 @@ module _ (W bs : List ℕ) (n : ℕ) (long : length W ≡ 1024 * n) (b : Blocks 
       let e : length (c ++ (v ∷ [])) ≡ suc (length c) = omega (arith, length-append c (v ∷ [])) in
       let r = holds-past (set U (spotOf bs (length c)) v) (c ++ (v ∷ [])) vs (omega arith) (holds-add bs n b (length c) v (omega arith) W U c long g refl) in
       rw (e, append-assoc) at r
+
+  -- Stored content -----------------------------------------------------------------------------------------------------
+
+  -- words written past a stored content
+  pub store-past : (c vs : List ℕ) → length c + length vs ≤ 1023 * length bs → written (store W bs c) bs (length c) vs ≡ store W bs (c ++ vs)
+  store-past c vs room =
+      holds-store W bs n long b (c ++ vs) (written (store W bs c) bs (length c) vs) (omega (arith, length-append c vs))
+      (holds-past (store W bs c) c vs room (store-holds W bs n long b c (omega arith)))
+
+  -- words written over words of it
+  pub store-over : (c : List ℕ) (k : ℕ) (vs : List ℕ) → length c ≤ 1023 * length bs → k + length vs ≤ length c → written (store W bs c) bs k vs ≡ store W bs (sets c k vs)
+  store-over c k vs room h =
+      holds-store W bs n long b (sets c k vs) (written (store W bs c) bs k vs) (omega (arith, length-sets c k vs))
+      (holds-over (store W bs c) c k vs room h (store-holds W bs n long b c room))
+
+  -- all ones are as good as nothing
+  pub store-ones : (m : ℕ) → m ≤ 1023 * length bs → store W bs [] ≡ store W bs (replicate m allOnes)
+  store-ones m h =
+      let g = store-holds W bs n long b [] (omega arith) in
+      let l = length-replicate m allOnes in
+      holds-store W bs n long b (replicate m allOnes) (store W bs []) (omega arith)
+      (record {
+        long = g .long;
+        links = g .links;
+        rule = g .rule;
+        full = g .full
+            ∙ ap (λ (k : ℕ). replicate k allOnes) (let e : 1023 * length bs - 0 ≡ m + (1023 * length bs - length (replicate m allOnes)) = omega arith in e)
+            ∙ sym (replicate-append-replicate m (1023 * length bs - length (replicate m allOnes)) allOnes);
+        others = g .others;
+      })
+
+  -- what is stored over a stored content
+  pub store-twice : (c d : List ℕ) → length d ≤ 1023 * length bs → store (store W bs c) bs d ≡ store W bs d
+  store-twice c d room =
+      let l = length-store W bs c in
+      let g = store-holds (store W bs c) bs n (l ∙ long) b d room in
+      holds-store W bs n long b d (store (store W bs c) bs d) room
+      (record { long = g .long ∙ l; links = g .links; rule = g .rule; full = g .full; others = λ e m. g .others e m ∙ store-apart W bs c e m })

@@ -19,6 +19,7 @@ use Rattle.outputs.proofs.Writing.{written-append, chain-written, chain
 pub record Entering (W₀ : List ℕ) (first n : ℕ) (counts : List ℕ) (W : List ℕ) (at sum i : ℕ) : Type 0 where
   pub few : i ≤ length counts
   pub sums : sum ≤ 65535 * i
+  pub far : at ≤ 8 + 3 * i
   pub links : chain W first n ≡ chain W₀ first n
   pub chained : Chained W first n
   pub room : at + length (entriesBy i sum (drop i counts)) ≤ 1023 * n
@@ -27,7 +28,7 @@ pub record Entering (W₀ : List ℕ) (first n : ℕ) (counts : List ℕ) (W : L
 module _ (W₀ : List ℕ) (first n : ℕ) (counts : List ℕ) where
   -- none is written at first
   pub entering-start : Chained W₀ first n → 8 + length (entriesBy 0 0 counts) ≤ 1023 * n → Entering W₀ first n counts W₀ 8 0 0
-  entering-start g r = record { few = omega arith; sums = omega arith; links = refl; chained = g; room = r; rest = refl }
+  entering-start g r = record { few = omega arith; sums = omega arith; far = omega arith; links = refl; chained = g; room = r; rest = refl }
 
   module _ (W : List ℕ) (at sum i : ℕ) (w : Entering W₀ first n counts W at sum i) where
     -- all are written
@@ -44,7 +45,7 @@ module _ (W₀ : List ℕ) (first n : ℕ) (counts : List ℕ) where
       unfolding entriesBy
       entering-past e =
           let q : entriesBy i sum (drop i counts) ≡ entriesBy (i + 1) sum (drop (i + 1) counts) = rw (turn, eq-eqb (getD counts i 0) 0 e, add-one i) in
-          record { few = omega arith; sums = omega (arith, w .sums); links = w .links; chained = w .chained; room = rw q at (w .room); rest = w .rest ∙ rw q }
+          record { few = omega arith; sums = omega (arith, w .sums); far = omega (arith, w .far); links = w .links; chained = w .chained; room = rw q at (w .room); rest = w .rest ∙ rw q }
 
       module _ (c : ℕ) (s : c ≡ getD counts i 0) (e : c ≡ 0 → ⊥) where
         entry : entriesBy i sum (drop i counts) ≡ (i ∷ c ∷ sum ∷ []) ++ entriesBy (i + 1) (sum + c) (drop (i + 1) counts)
@@ -64,6 +65,7 @@ module _ (W₀ : List ℕ) (first n : ℕ) (counts : List ℕ) where
             record {
               few = omega arith;
               sums = omega (arith, w .sums);
+              far = omega (arith, w .far);
               links = rw y (chain-written bs W at vs first n ∙ w .links);
               chained = rw y (chained-written bs W at vs first n (w .chained));
               room = omega (arith, w .room, ap length entry, length-append vs (entriesBy (i + 1) (sum + c) (drop (i + 1) counts)));

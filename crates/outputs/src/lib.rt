@@ -20,7 +20,7 @@ ghost use Rattle.card.specs.Blocks.{freeBlocks};
 ghost use Rattle.card.specs.Chains.{blocksFor, chain};
 ghost use Rattle.card.specs.Cursors.{InCard, Chained, Good, ahead};
 ghost use Rattle.card.specs.Writes.{store, release};
-ghost use Rattle.partitions.specs.Layout.{header, wordOf};
+ghost use Rattle.partitions.specs.Layout.{totalLength, header, wordOf};
 ghost use Rattle.partitions.specs.Formed.{chainsOf, inRange};
 ghost use Rattle.outputs.specs.Contents.{written, At, nextPlace};
 ghost use Rattle.outputs.specs.Entries.{entriesBy};
@@ -82,7 +82,7 @@ fn write_words(card: &mut [u8], first: u16, n: u32, offset: u32, content: &[u32]
 
 // The header, at the beginning of the content of the n blocks from `first` on.
 pub fn write_header(card: &mut [u8], first: u16, n: u32, level: u16, terms: u16, count: u32)
-    requires { ⌜ (length (now card) % 4 ≡ 0) × (0 < n) × (n ≤ 4096) × (count ≤ 1023 * n) × Chained (wordsOf (now card)) first n ⌝ }
+    requires { ⌜ (length (now card) % 4 ≡ 0) × (0 < n) × (totalLength terms count < 4294967296) × Chained (wordsOf (now card)) first n ⌝ }
     ensures { λ r. ⌜ wordsOf (now (card .exit)) ≡ written (wordsOf (now (card .entry))) (chain (wordsOf (now (card .entry))) first n) 0 (header level terms count) ⌝ }
 {
     let t = terms as u32;
@@ -101,7 +101,7 @@ pub fn write_header(card: &mut [u8], first: u16, n: u32, level: u16, terms: u16,
 
 // The entries, from how many postings each identifier has.
 pub fn write_entries(card: &mut [u8], first: u16, n: u32, counts: [u16; 1024])
-    requires { ⌜ (length (now card) % 4 ≡ 0) × (0 < n) × (n ≤ 4096) × (8 + length (entriesBy 0 0 counts) ≤ 1023 * n) × Chained (wordsOf (now card)) first n ⌝ }
+    requires { ⌜ (length (now card) % 4 ≡ 0) × (0 < n) × (8 + length (entriesBy 0 0 counts) ≤ 1023 * n) × Chained (wordsOf (now card)) first n ⌝ }
     ensures { λ r. ⌜ wordsOf (now (card .exit)) ≡ written (wordsOf (now (card .entry))) (chain (wordsOf (now (card .entry))) first n) 8 (entriesBy 0 0 counts) ⌝ }
 {
     let mut at: u32 = 8;

@@ -22,7 +22,7 @@ abbrev μ-loop : tie.MeasureT-loop
 loop-holds : tie.Need-loop-holds Inv-loop μ-loop
 loop-holds c =
     let s = c .before in
-    (search needs, refl, entering-start (words (s .args .card .now)) (s .args .first) (s .args .n) (s .args .t4) (s .pre .4) (s .pre .3))
+    (search needs, refl, entering-start (words (s .args .card .now)) (s .args .first) (s .args .n) (s .args .t4) (s .pre .3) (s .pre .2))
 
 mul-count : tie.Need-mul-count Inv-loop μ-loop
 mul-count c = search needs
@@ -48,12 +48,7 @@ write-words-requires c κs =
     (omega (arith, a .loop .inv .1, s .pre .0), s .pre .1, r, a .loop .inv .2 .chained)
 
 add-at : tie.Need-add-at Inv-loop μ-loop
-add-at c =
-    let a = c .before .before .before .before .before .before .before in
-    let s = a .before .before in
-    let h = c .before .before .before .before .before .before .loop-test .taken in
-    let r = entering-room (words (s .args .card .now)) (s .args .first) (s .args .n) (s .args .t4) (words (a .loop .card)) (a .loop .at) (a .loop .sum) (a .loop .i) (a .loop .inv .2) (omega (arith, a .loop .inv .0, h)) _ refl (c .before .before .before .before .before .if1 .taken) in
-    omega (arith, r, s .pre .2)
+add-at c = let a = c .before .before .before .before .before .before .before in omega (arith, a .loop .inv .2 .far)
 
 add-sum : tie.Need-add-sum Inv-loop μ-loop
 add-sum c =
