@@ -1,0 +1,62 @@
+-- `merges::listing::output_level` meets its contract. Assumes nothing.
+use denote.Enum.Declared.{tagOf}
+use mathlib.Core.List.{[], _∷_, _++_}
+use mathlib.Core.Path.{_≡_, refl, sym, ap, _∙_}
+use Prim.Native.Nat.{_+_, _≤_}
+use native.Mathlib.Omega.{arith}
+use lib.ListN.{length, getD, take, drop}
+use lib.Seq.{length-take-le}
+use borrow.Author.Needs.{needs}
+use borrow.Author.Tests.{eq-eqb, ne-eqb}
+use Rattle.lists.proofs.Arrays.{unmapped}
+use Rattle.state.specs.Views.{finished, partitionsOf}
+use Rattle.state.specs.Levels.{dueAt, nextLevel, dueLevels, placeOf, oldest, replaced}
+use Rattle.state.proofs.Due.{the-type}
+use Rattle.merges.proofs.Choosing.{levelOf, due-is, due-none, due-low, due-within, due-inputs, due-level, due-replaced, due-some}
+use Rattle.merges.proofs.listing.output_level.Statement.{statement}
+use Rattle.merges.proofs.listing.output_level.Tie as tie
+
+due-level-requires : tie.Need-due-level-requires
+due-level-requires c κs = search needs
+
+enum-known-due : tie.Need-enum-known-due
+enum-known-due c = search needs
+
+returns : tie.Need-returns
+returns c =
+    let m = c .before .before .before .before in
+    let s = m .before in
+    let g = c .before .before .due .given in
+    let d = due-is (finished (s .args .p)) (g .0 .0) (sym (g .1) ∙ m .due-level .ensures) in
+    sym (due-level (finished (s .args .p)) (g .0 .0) d ∙ rw (eq-eqb _ _ (c .if1 .taken)))
+
+add-result : tie.Need-add-result
+add-result c =
+    let m = c .before .before .before .before in
+    let s = m .before in
+    let g = c .before .before .due .given in
+    let d = due-is (finished (s .args .p)) (g .0 .0) (sym (g .1) ∙ m .due-level .ensures) in
+    omega (arith, due-low (finished (s .args .p)) (g .0 .0) d)
+
+enum-told : tie.Need-enum-told
+enum-told c = search needs
+
+returns-2 : tie.Need-returns-2
+returns-2 c =
+    let m = c .before .before .before .before in
+    let s = m .before in
+    let g = c .before .before .due .given in
+    let d = due-is (finished (s .args .p)) (g .0 .0) (sym (g .1) ∙ m .due-level .ensures) in
+    sym (due-level (finished (s .args .p)) (g .0 .0) d ∙ rw (ne-eqb _ _ (c .if1 .left)) (omega arith))
+
+returns-3 : tie.Need-returns-3
+returns-3 c =
+    let m = c .before .before in
+    let s = m .before in
+    let e = due-none (tagOf the-type) (λ v. refl) (dueLevels levelOf (finished (s .args .p))) (ap (tagOf the-type) (sym (m .due-level .ensures)) ∙ c .before .match .keys2) in
+    rw e
+
+pub output-level-spec : {M : Type 1} → statement M
+output-level-spec =
+    tie.close
+    (tie.spec due-level-requires enum-known-due returns add-result enum-told returns-2 returns-3)
