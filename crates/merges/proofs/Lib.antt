@@ -1,3 +1,5 @@
 pub mod Refused
 pub mod Progress
 pub mod Choosing
+pub mod Merged
+pub mod Drafting

@@ -1,2 +1,3 @@
 pub mod Merging
 pub mod Step
+pub mod Acting

@@ -52,6 +52,11 @@ every-joined t f (q ∷ qs) e =
     let s = sym (every-append t (f q) (joined (map f qs))) ∙ e in
     and-both (every t (f q)) _ (and-left (every t (f q)) _ s) (every-joined t f qs (and-right (every t (f q)) _ s))
 
+-- so partitions whose blocks stand apart from others each do
+pub every-chains : (W bs : List ℕ) (qs : List Partition) → every (λ d. not (elem d bs)) (chainsOf W qs) ≡ true → every (λ q. apart (chainOf W q) bs) qs ≡ true
+unfolding chainsOf
+every-chains W bs qs e = every-joined (λ d. not (elem d bs)) (chainOf W) qs e
+
 -- the blocks of each are blocks of the card
 abbrev pub AllChained : List ℕ → List Partition → Type 0
 AllChained W ps = AllOf (λ p. Chained W (p .first) (blocksFor (p .length))) ps
@@ -103,8 +108,7 @@ module _ (W₀ : List ℕ) (all : List Partition) (n : ℕ) (fits : n ≤ length
     freeing-different = parts .left
 
     keeps : AgreeAll (release W (chainOf W p)) W qs
-    unfolding chainsOf
-    keeps = release-keeps W (chainOf W p) qs (every-joined (λ d. not (elem d (chainOf W p))) (chainOf W) qs (parts .apart))
+    keeps = release-keeps W (chainOf W p) qs (every-chains W (chainOf W p) qs (parts .apart))
 
     -- and they are freed
     pub freeing-on : (W₁ : List ℕ) → W₁ ≡ release W (chainOf W p) → Freeing W₀ all n W₁ (i + 1)

@@ -1,0 +1,257 @@
+-- The output on its blocks, from one step to the next.
+use mathlib.Core.Bool.{Bool, true, false, cond, not}
+use mathlib.Core.List.{List, [], _∷_, _++_, map}
+use mathlib.Core.Path.{_≡_, refl, sym, ap, _∙_}
+use Prim.Native.Nat.{ℕ, zero, suc, _+_, _-_, _*_, _<_, _≤_}
+use native.Mathlib.Omega.{arith}
+use lib.Dec.{leb, eqb}
+use lib.ListN.{length, getD, take, drop, replicate, length-append, length-map}
+use lib.Seq.{sets, length-sets, length-take-le}
+use borrow.Author.Tests.{eqb-true, eqb-false, ne-eqb}
+use Rattle.lists.specs.All.{AllOf}
+use Rattle.lists.specs.Lists.{every, elem, empty, joined, different}
+use Rattle.lists.proofs.Bools.{by-test, and-left, and-right}
+use Rattle.lists.proofs.Tests.{every-take, every-drop, every-keep}
+use Rattle.lists.proofs.Ranges.{length-joined}
+use Rattle.words.specs.Words.{allOnes}
+use Rattle.postings.specs.declared.Posting.{Posting}
+use Rattle.postings.specs.Order.{ordered}
+use Rattle.postings.specs.Merge.{counts, nonzero, pairs}
+use Rattle.postings.proofs.Merge.{pairs-ordered, nonzero-ordered}
+use Rattle.state.specs.declared.Partition.{Partition}
+use Rattle.state.specs.declared.Partitions.{Partitions}
+use Rattle.state.specs.declared.State.{State}
+use Rattle.state.specs.Views.{padded, blocks, finished, partitionsOf}
+use Rattle.card.specs.Blocks.{noBlock}
+use Rattle.card.specs.Chains.{blocksFor, chain, chainRule, content}
+use Rattle.card.specs.Cursors.{Chained}
+use Rattle.card.specs.Writes.{store, release}
+use Rattle.card.proofs.Chains.{chain-none}
+use Rattle.card.proofs.Links.{length-chain, rule-on}
+use Rattle.card.proofs.Seeking.{rule-chained}
+use Rattle.card.proofs.Stores.{apart}
+use Rattle.card.proofs.Stored.{chain-stored}
+use Rattle.partitions.specs.Layout.{identifiersOf, termCount, totalLength, lengthOf, header, entryOf, wordOf, encode}
+use Rattle.partitions.specs.Reading.{chainOf, inPartitions}
+use Rattle.partitions.specs.Formed.{partitionRule, partitionsFormed, chainsOf, inRange}
+use Rattle.partitions.specs.Terms.{Readable}
+use Rattle.partitions.proofs.Kept.{AgreeAll, chains-kept, store-keeps}
+use Rattle.inputs.specs.declared.Totals.{Totals}
+use Rattle.inputs.specs.declared.Batch.{Batch}
+use Rattle.inputs.specs.Judging.{totalsOf, Small, allInRange}
+use Rattle.inputs.specs.Ahead.{batched}
+use Rattle.outputs.specs.Contents.{written}
+use Rattle.outputs.specs.Entries.{entriesBy}
+use Rattle.outputs.proofs.Contents.{Blocks, Holds, holds-store, store-past, store-over}
+use Rattle.outputs.proofs.Entries.{entries-by, entries-length}
+use Rattle.outputs.proofs.Freeing.{Parted, different-parts, every-chains}
+use Rattle.outputs.proofs.Writing.{chain-written, chained-written}
+use Rattle.merges.specs.declared.Output.{Output}
+use Rattle.merges.specs.Merging.{dueIn, inputs, taking, result, outputBlocks, outputLevel, progress, isLast, outputContent}
+use Rattle.merges.specs.Step.{writtenOn}
+use Rattle.merges.specs.Acting.{Drafted, Judged, Acts}
+use Rattle.merges.proofs.Choosing.{levelOf}
+use Rattle.merges.proofs.Merged.{Part, oldest-part, part-all, part-every, part-different, all-readable, all-chained, chained-kept, agrees-self, numbered, pairs-numbered}
+use Rattle.merges.proofs.Progress.{front, progress-more, length-progress, result-room, progress-room, completed}
+
+-- a chain of at least one block begins with its first
+chain-first : (W : List ℕ) (b n : ℕ) → 0 < n → getD (chain W b n) 0 0 ≡ b
+unfolding chain
+chain-first W b zero h = absurd (omega arith)
+chain-first W b (suc n) h = refl
+
+-- where there are blocks there is something to write
+some-result : (ps : List Posting) → 0 < outputBlocks (result ps) → empty (result ps) ≡ false
+some-result ps h = by-test (empty (result ps)) (λ y. absurd (omega (arith, ap (λ (t : Bool). cond t 0 (blocksFor (lengthOf (result ps)))) y))) (λ f. f)
+
+-- The output as it stands ------------------------------------------------------------------------------------------------
+
+module _ (W : List ℕ) (s : State) (is : Partitions) (t : Totals) (g : Judged W s is t) where
+  abbrev fin : List Partition
+  fin = finished (s .partitions)
+
+  abbrev ps : List Posting
+  ps = taking W s
+
+  pub rules : every (partitionRule W (blocks s)) fin ≡ true
+  unfolding partitionsFormed
+  rules = and-left (every (partitionRule W (blocks s)) fin) _ (g .formed)
+
+  pub chains-apart : different (chainsOf W fin) ≡ true
+  unfolding partitionsFormed
+  chains-apart = and-right (every (partitionRule W (blocks s)) fin) _ (g .formed)
+
+  pub part : Part (inputs s) fin
+  part = oldest-part (dueIn s) fin
+
+  pub readable : AllOf (Readable W) (inputs s)
+  readable = part-all (inputs s) fin part (Readable W) (all-readable W (blocks s) (g .long) (g .few) fin rules)
+
+  ids-small : every numbered (result ps) ≡ true
+  unfolding taking
+  ids-small = pairs-numbered W (inputs s) readable
+
+  in-order : ordered (result ps) ≡ true
+  unfolding taking
+  in-order = nonzero-ordered (pairs (inPartitions W (inputs s))) (pairs-ordered (inPartitions W (inputs s)))
+
+  -- the entries by the totals are those of the layout
+  pub entries-told : entriesBy 0 0 (t .counts) ≡ joined (map (entryOf (result ps)) (identifiersOf (result ps)))
+  unfolding totalsOf
+  entries-told = entries-by (result ps) in-order ids-small (t .counts) (ap (λ (u : Totals). u .counts) (g .totals))
+
+  pub terms-told : t .terms ≡ termCount (result ps)
+  unfolding totalsOf
+  terms-told = ap (λ (u : Totals). u .terms) (g .totals)
+
+  pub postings-told : t .postings ≡ length (result ps)
+  unfolding totalsOf
+  postings-told = ap (λ (u : Totals). u .postings) (g .totals)
+
+  pub pairs-told : t .pairs ≡ length ps
+  unfolding totalsOf
+  pairs-told = ap (λ (u : Totals). u .pairs) (g .totals)
+
+  module _ (o : Output) (b : Batch) (a : Acts W s o b) where
+    abbrev bs : List ℕ
+    bs = chain W (o .first) (o .blocks)
+
+    abbrev j : ℕ
+    j = s .merge .steps
+
+    -- the sums of the step fit a posting
+    pub batch-range : every (λ p. inRange (p .count)) (batched b) ≡ true
+    unfolding nonzero
+    batch-range =
+        rw (a .batch)
+        (every-keep counts (λ p. inRange (p .count)) (take 16 (drop (16 * j) ps)) (every-take (λ p. inRange (p .count)) 16 (drop (16 * j) ps) (every-drop (λ p. inRange (p .count)) (16 * j) ps (g .range))))
+
+    module _ (h : 0 < o .blocks) where
+      d : Drafted W s ps (o .first) (o .blocks)
+      d = a .draft h
+
+      pub chained : Chained W (o .first) (o .blocks)
+      chained = rule-chained W (blocks s) (o .first) (o .blocks) (g .long) (g .few) (d .rule)
+
+      long-bs : length bs ≡ o .blocks
+      long-bs = length-chain W (o .first) (o .blocks)
+
+      parted : Parted bs (chainsOf W fin)
+      parted = different-parts bs (chainsOf W fin) (d .apart)
+
+      blocks-of : Blocks bs (blocks s)
+      blocks-of = record { on = rule-on W (blocks s) (o .first) (o .blocks) (d .rule); new = parted .left; some = omega (arith, long-bs) }
+
+      holds : Holds W W bs (progress ps j) (blocks s)
+      holds =
+          let f = chain-first W (o .first) (o .blocks) h in
+          record {
+            long = refl;
+            links = rw (f, long-bs);
+            rule = rw (f, long-bs) (d .rule);
+            full = rw long-bs (d .full);
+            others = λ e m. refl;
+          }
+
+      some : empty (result ps) ≡ false
+      some = some-result ps (omega (arith, a .blocks))
+
+      room : (i : ℕ) → length (progress ps i) ≤ 1023 * length bs
+      room i = omega (arith, progress-room ps (o .blocks) i (a .blocks) some, long-bs)
+
+      -- the card has the output's content stored
+      stands : W ≡ store W bs (progress ps j)
+      stands = holds-store W bs (blocks s) (g .long) blocks-of (progress ps j) W (room j) holds
+
+      offset : 8 + 3 * t .terms + o .written ≡ length (progress ps j)
+      offset = omega (arith, length-progress ps j, a .written, terms-told)
+
+      more : progress ps (suc j) ≡ progress ps j ++ map wordOf (batched b)
+      more = rw (a .batch) (progress-more ps j)
+
+      more-long : length (progress ps (suc j)) ≡ length (progress ps j) + length (batched b)
+      more-long = ap length more ∙ length-append (progress ps j) (map wordOf (batched b)) ∙ (omega (arith, length-map (batched b) wordOf))
+
+      -- room for the step
+      pub batch-room : length (b .pairs) ≡ 16 → 8 + 3 * t .terms + o .written + b .used ≤ 1023 * o .blocks
+      batch-room l = omega (arith, offset, more-long, room (suc j), long-bs, length-take-le (b .used) (b .pairs) (omega (arith, a .few)))
+
+      -- the step's sums are written
+      pub batch-stored : written W bs (8 + 3 * t .terms + o .written) (map wordOf (batched b)) ≡ store W bs (progress ps (suc j))
+      batch-stored =
+          ap (λ (k : ℕ). written W bs k (map wordOf (batched b))) offset
+          ∙ ap (λ (U : List ℕ). written U bs (length (progress ps j)) (map wordOf (batched b))) stands
+          ∙ store-past W bs (blocks s) (g .long) blocks-of (progress ps j) (map wordOf (batched b)) (omega (arith, more-long, room (suc j), length-map (batched b) wordOf))
+          ∙ ap (store W bs) (sym more)
+
+      -- header and entries have room
+      pub entries-room : 8 + length (entriesBy 0 0 (t .counts)) ≤ 1023 * o .blocks
+      entries-room =
+          omega (arith, ap length entries-told, length-joined (entryOf (result ps)) 3 (λ x. refl) (identifiersOf (result ps)), result-room ps (o .blocks) (a .blocks) some)
+
+      -- they are written, after the last step's sums
+      module _ (X : List ℕ) (x : X ≡ store W bs (progress ps (suc j))) where
+        pub links-kept : chain X (o .first) (o .blocks) ≡ bs
+        links-kept =
+            let f = chain-first W (o .first) (o .blocks) h in
+            rw x (rw (f, long-bs) at (chain-stored W bs (progress ps (suc j)) (blocks s) (g .long) (blocks-of .on) (blocks-of .new)))
+
+        pub still-chained : Chained X (o .first) (o .blocks)
+        still-chained =
+            let e : X ≡ written W bs (8 + 3 * t .terms + o .written) (map wordOf (batched b)) = x ∙ sym batch-stored in
+            rw e (chained-written bs W (8 + 3 * t .terms + o .written) (map wordOf (batched b)) (o .first) (o .blocks) chained)
+
+        pub whole-stored : (level : ℕ) → isLast ps (suc j) ≡ true
+            → written (written X (chain X (o .first) (o .blocks)) 0 (header level (t .terms) (t .postings))) (chain X (o .first) (o .blocks)) 8 (entriesBy 0 0 (t .counts))
+            ≡ store W bs (encode level (result ps))
+        whole-stored level e =
+            let r = result ps in
+            let c = progress ps (suc j) in
+            let hs = header level (termCount r) (length r) in
+            let es = joined (map (entryOf r) (identifiersOf r)) in
+            let le = length-joined (entryOf r) 3 (λ x. refl) (identifiersOf r) in
+            let lp = length-progress ps (suc j) in
+            rw (links-kept, x, terms-told, postings-told, entries-told)
+            (ap (λ (U : List ℕ). written U bs 8 es) (store-over W bs (blocks s) (g .long) blocks-of c 0 hs (room (suc j)) (omega arith))
+            ∙ store-over W bs (blocks s) (g .long) blocks-of (sets c 0 hs) 8 es (omega (arith, length-sets c 0 hs, room (suc j))) (omega (arith, length-sets c 0 hs))
+            ∙ ap (store W bs) (completed ps level (suc j) e))
+
+      -- storing to the output leaves the inputs
+      pub inputs-kept : (c : List ℕ) → AgreeAll (store W bs c) W (inputs s)
+      inputs-kept c = store-keeps W bs c (inputs s) (part-every (inputs s) fin part (λ q. apart (chainOf W q) bs) (every-chains W bs fin (parted .apart)))
+
+      -- and so the card is as the definition says
+      pub on-done : isLast ps (suc j) ≡ false → store W bs (progress ps (suc j)) ≡ writtenOn W s ps (suc j) bs
+      unfolding writtenOn outputContent
+      on-done e = rw e
+
+      pub on-last : isLast ps (suc j) ≡ true → release (store W bs (encode (outputLevel s) (result ps))) (chainsOf W (inputs s)) ≡ writtenOn W s ps (suc j) bs
+      unfolding writtenOn outputContent
+      on-last e = rw e
+
+    -- an output without blocks
+    module _ (z : o .blocks ≡ 0) where
+      none-bs : bs ≡ []
+      none-bs = chain-none W (o .first) (o .blocks) z
+
+      pub none-done : isLast ps (suc j) ≡ false → W ≡ writtenOn W s ps (suc j) bs
+      unfolding writtenOn store
+      none-done e = rw (none-bs, e)
+
+      pub none-last : isLast ps (suc j) ≡ true → release W (chainsOf W (inputs s)) ≡ writtenOn W s ps (suc j) bs
+      unfolding writtenOn store
+      none-last e = rw (none-bs, e)
+
+  -- Freeing the inputs -----------------------------------------------------------------------------------------------------
+
+  -- on a card that agrees on the inputs their blocks can be freed
+  pub inputs-free : (Y : List ℕ) → length Y ≡ length W → AgreeAll Y W (inputs s)
+      → AllOf (λ p. Chained Y (p .first) (blocksFor (p .length))) (inputs s) × (different (chainsOf Y (inputs s)) ≡ true) × (chainsOf Y (inputs s) ≡ chainsOf W (inputs s))
+  inputs-free Y l k =
+      let e = chains-kept Y W (inputs s) k in
+      (chained-kept Y W l (inputs s) k (part-all (inputs s) fin part (λ p. Chained W (p .first) (blocksFor (p .length))) (all-chained W (blocks s) (g .long) (g .few) fin rules)),
+      rw e (part-different (inputs s) fin part W chains-apart), e)
+
+  -- a card agrees with itself
+  pub same-agrees : AgreeAll W W (inputs s)
+  same-agrees = agrees-self W (inputs s)

@@ -1,0 +1,70 @@
+-- A step that is not refused: what is known before it writes, and the state that it leaves.
+use mathlib.Core.Bool.{Bool, true, cond}
+use mathlib.Core.List.{List, [], _∷_, _++_}
+use mathlib.Core.Path.{_≡_}
+use Prim.Native.Nat.{ℕ, suc, _+_, _*_, _<_, _≤_}
+use lib.Dec.{eqb, leb}
+use lib.ListN.{length, take, drop}
+use Rattle.lists.specs.Lists.{different}
+use Rattle.words.specs.Words.{allOnes}
+use Rattle.postings.specs.declared.Posting.{Posting}
+use Rattle.postings.specs.Merge.{nonzero}
+use Rattle.state.specs.declared.Partition.{Partition}
+use Rattle.state.specs.declared.Partitions.{Partitions}
+use Rattle.state.specs.declared.State.{State}
+use Rattle.state.specs.Views.{padded, noMerge, blocks, finished, partitionsOf, withPartitions, withTaken, withMerge}
+use Rattle.state.specs.Levels.{replaced}
+use Rattle.card.specs.Blocks.{noBlock}
+use Rattle.card.specs.Chains.{chain, chainRule, content}
+use Rattle.partitions.specs.Layout.{totalLength}
+use Rattle.partitions.specs.Formed.{partitionsFormed, chainsOf}
+use Rattle.inputs.specs.declared.Totals.{Totals}
+use Rattle.inputs.specs.declared.Batch.{Batch}
+use Rattle.inputs.specs.Judging.{totalsOf, Small, allInRange}
+use Rattle.inputs.specs.Ahead.{batched}
+use Rattle.merges.specs.declared.Output.{Output}
+use Rattle.merges.specs.Merging.{dueIn, inputs, taking, result, outputBlocks, outputLevel, progress}
+
+-- the output stands on n blocks from b on: they are a chain, in no finished partition, and hold what the steps done have written
+pub record Drafted (W : List ℕ) (s : State) (ps : List Posting) (b n : ℕ) : Type 0 where
+  pub rule : chainRule W (blocks s) b n ≡ true
+  pub apart : different (chain W b n ++ chainsOf W (finished (s .partitions))) ≡ true
+  pub full : content W (chain W b n) ≡ padded (1023 * n) allOnes (progress ps (s .merge .steps))
+
+-- the inputs as they are judged: on a card that fits the state, all finished partitions well formed, the sums in range, and their totals told
+pub record Judged (W : List ℕ) (s : State) (is : Partitions) (t : Totals) : Type 0 where
+  pub long : length W ≡ 1024 * blocks s
+  pub few : blocks s ≤ 4096
+  pub used : s .partitions .used ≤ 51
+  pub form : s .partitions ≡ partitionsOf (finished (s .partitions))
+  pub formed : partitionsFormed W (blocks s) (finished (s .partitions)) ≡ true
+  pub are : is ≡ partitionsOf (inputs s)
+  pub range : allInRange (taking W s) ≡ true
+  pub totals : t ≡ totalsOf (taking W s)
+  pub small : Small t
+
+-- what a step writes: the output's blocks, which stand there with what was written before, and the sums that come next
+pub record Acts (W : List ℕ) (s : State) (o : Output) (b : Batch) : Type 0 where
+  pub blocks : o .blocks ≡ outputBlocks (result (taking W s))
+  pub none : o .blocks ≡ 0 → o .first ≡ noBlock
+  pub draft : 0 < o .blocks → Drafted W s (taking W s) (o .first) (o .blocks)
+  pub written : o .written ≡ length (nonzero (take (16 * s .merge .steps) (taking W s)))
+  pub batch : batched b ≡ nonzero (take 16 (drop (16 * s .merge .steps) (taking W s)))
+  pub few : b .used ≤ 16
+
+-- the length of the output, by the totals
+abbrev pub lengthFrom : Totals → ℕ
+lengthFrom t = cond (eqb (t .postings) 0) 0 (totalLength (t .terms) (t .postings))
+
+-- the result as a partition, by the totals
+abbrev pub recordFrom : State → Totals → Output → List Partition
+recordFrom s t o = cond (eqb (t .postings) 0) [] (record { first = o .first; level = outputLevel s; length = lengthFrom t } ∷ [])
+
+-- the state after the step, by the totals
+unfoldable pub nextState : State → Totals → Output → State
+nextState s t o =
+    withTaken
+    (cond (leb (t .pairs) (16 * suc (s .merge .steps)))
+    (withMerge (withPartitions s (partitionsOf (replaced (λ (p : Partition). p .level) (dueIn s) (finished (s .partitions)) (recordFrom s t o)))) noMerge)
+    (withMerge s (record { first = o .first; length = lengthFrom t; steps = suc (s .merge .steps) })))
+    (o .taken)
