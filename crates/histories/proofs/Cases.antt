@@ -13,9 +13,9 @@ use Rattle.partitions.specs.Layout.{lengthOf}
 use Rattle.queries.specs.Hits.{frequency, score, matching, ranked}
 use Rattle.queries.specs.Query.{badQuery}
 use Rattle.engine.specs.Calls.{Call, Open, Event, Close, Remove, Flush, Step, Query, run}
-use Rattle.histories.specs.Account.{emptyAccount, takenFrom, blocksOf, blocksIn, inputsOf, merged, blocksAhead, completed, furthered, steppedAccount, flushedAccount, overflows, exceeds, addedTo, stepping, flushing, flushingIf}
-use Rattle.histories.specs.Ledger.{emptyLedger, live, existing, opens, closes, counts, removes}
-use Rattle.histories.specs.Books.{takenBack, books, expected}
+use Rattle.accounts.specs.Account.{emptyAccount, takenFrom, blocksOf, blocksIn, inputsOf, merged, blocksAhead, completed, furthered, steppedAccount, flushedAccount, overflows, exceeds, addedTo, stepping, flushing, flushingIf}
+use Rattle.accounts.specs.Ledger.{emptyLedger, live, existing, opens, closes, counts, removes}
+use Rattle.accounts.specs.Books.{takenBack, books, expected}
 
 abbrev pub hit : ℕ → ℕ → Hit
 hit w s = record { window = w; score = s }

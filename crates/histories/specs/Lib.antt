@@ -1,4 +1,1 @@
-pub mod Account
-pub mod Ledger
-pub mod Books
 pub mod Statement

@@ -7,7 +7,7 @@ use Rattle.answers.specs.Answers.{Answer}
 use Rattle.state.specs.Rules.{cardLength, registerLength}
 use Rattle.windows.specs.Calls.{fresh}
 use Rattle.engine.specs.Calls.{Call, probeCall, run}
-use Rattle.histories.specs.Books.{expected}
+use Rattle.accounts.specs.Books.{expected}
 
 -- the engine's answers to a list of calls on a fresh card of c bytes with a register of r
 unfoldable pub answers : ℕ → ℕ → List Call → List Answer

@@ -14,8 +14,8 @@ use Rattle.identifiers.specs.Names.{Name, badLength, among, numberOf, numbersOf
 use Rattle.queries.specs.Hits.{ranked}
 use Rattle.queries.specs.Query.{badQuery}
 use Rattle.engine.specs.Calls.{Call, Open, Event, Close, Remove, Flush, Step, Query, run}
-use Rattle.histories.specs.Account.{Account, emptyAccount, takenFrom, overflows, exceeds, addedTo, stepping, flushing, flushingIf}
-use Rattle.histories.specs.Ledger.{Ledger, emptyLedger, live, existing, opens, closes, counts, removes}
+use Rattle.accounts.specs.Account.{Account, emptyAccount, takenFrom, overflows, exceeds, addedTo, stepping, flushing, flushingIf}
+use Rattle.accounts.specs.Ledger.{Ledger, emptyLedger, live, existing, opens, closes, counts, removes}
 
 -- what an event stores: one count of its identifier, by number, in the open window
 abbrev pub once : Ledger → Name → Posting

@@ -1,0 +1,305 @@
+-- The engine on lists answers every call as ledger and account do, and leaves the lists that stand for what they leave.
+use mathlib.Core.Bool.{Bool, true, false, _||_, _&&_, not, cond, true≢false}
+use mathlib.Core.List.{List, [], _∷_, map}
+use mathlib.Core.Path.{_≡_, refl, sym, ap, ap₂, _∙_, fun-ext, subst}
+use Prim.Native.Nat.{ℕ, suc, _+_, _-_, _*_, _<_, _≤_}
+use native.Mathlib.Omega.{arith}
+use lib.Dec.{eqb, ltb, leb}
+use lib.IntN.{pos}
+use lib.ListN.{length, getD, length-map}
+use borrow.Author.Tests.{eqb-true, eqb-false, ne-eqb, ltb-true, ltb-false, le-ltb, lt-leb, not-false}
+use Rattle.lists.specs.Lists.{empty, down}
+use Rattle.lists.proofs.Bools.{by-test, and-left, and-right}
+use Rattle.postings.specs.declared.Posting.{Posting}
+use Rattle.postings.specs.Merge.{put, nonzero, negated}
+use Rattle.postings.specs.Sums.{above}
+use Rattle.answers.specs.Answers.{Answer, done, hits, Outcome, refuse, leave, refuseIf, choose}
+use Rattle.state.specs.declared.Windows.{Windows}
+use Rattle.state.specs.Views.{bufferOf}
+use Rattle.state.specs.Levels.{ofLevel}
+use Rattle.buffer.proofs.Canonical.{buffered-of}
+use Rattle.identifiers.specs.Names.{Name, badLength, among, numberOf, numbersOf}
+use Rattle.windows.proofs.Pairs.{pair-kept}
+use Rattle.queries.specs.Hits.{ranked}
+use Rattle.removals.specs.Removal.{countsOf, isLive}
+use Rattle.engine.specs.Calls.{Call, Open, Event, Close, Remove, Flush, Step, Query}
+use Rattle.accounts.specs.Account.{Account, storedIn, takenFrom, blocksIn, blocksAhead, steppedAccount, flushedAccount, overflows, exceeds, addedTo, stepping, flushing, flushingIf}
+use Rattle.accounts.specs.Ledger.{Ledger, live, existing, opens, closes, including, counts, removes}
+use Rattle.accounts.specs.Books.{once, takenBack, Books, books}
+use Rattle.accounts.specs.Lists.{Lists, isOpen, openedLists, closedLists, onceOf, countedLists, openCounted, removedLists, countOf, removingLists, pursued, listsCall}
+use Rattle.accounts.proofs.Stored.{levelOf}
+use Rattle.accounts.proofs.Shaped.{Roomed, asBefore, emptied, event-room, removal-room}
+use Rattle.accounts.proofs.Numbers.{new-is, noted-is, elem-numbers, numbers-including}
+use Rattle.accounts.proofs.Ranked.{ranked-windows, ranked-names}
+use Rattle.accounts.proofs.Live.{not-live, existing-opens, existing-closes, existing-counts, existing-removes, existing-two}
+use Rattle.accounts.proofs.Lawful.{Lawful}
+use Rattle.accounts.proofs.Held.{byNumber, counts-back, counts-live, counts-length, length-back}
+use Rattle.accounts.proofs.Kept.{Kept, kept-flushed, kept-stepped, kept-opens, kept-closes, kept-counts, kept-removes}
+use Rattle.accounts.proofs.Sound.{windowsOf, listsOf, current-open, current-shut, buffer-hold, rules-hold, call-formed}
+
+-- ---- the lists after each change
+
+-- lists that differ in no part are the same
+same-lists : {x y : Windows} {ms ns : List Name} {is js : List ℕ} {a b : Account} → x ≡ y → ms ≡ ns → is ≡ js → a ≡ b
+    → _≡_ {A = Lists} (record { windows = x; names = ms; listed = is; account = a }) (record { windows = y; names = ns; listed = js; account = b })
+same-lists p q r s = λ k. record { windows = p k; names = q k; listed = r k; account = s k }
+
+same-windows : {last live current events last′ live′ current′ events′ : ℕ} → last ≡ last′ → live ≡ live′ → current ≡ current′ → events ≡ events′
+    → _≡_ {A = Windows} (record { last = last; live = live; current = current; events = events }) (record { last = last′; live = live′; current = current′; events = events′ })
+same-windows p q r s = λ k. record { last = p k; live = q k; current = r k; events = s k }
+
+module _ (entries : ℕ) (l : Ledger) (s : Lawful entries l) (a : Account) where
+  -- a window is open in the lists where it is in the ledger
+  pub open-is : isOpen (listsOf l a) ≡ l .isOpen
+  open-is =
+      by-test (l .isOpen)
+      (λ o. ap not (ne-eqb (windowsOf l .current) 0 (λ z. omega (arith, s .given o, current-open l o))) ∙ sym o)
+      (λ n. ap (λ c. not (eqb c 0)) (current-shut l n) ∙ sym n)
+
+  open-same : l .isOpen ≡ false → openedLists (listsOf l a) ≡ listsOf (opens l) a
+  unfolding openedLists opens
+  open-same n =
+      same-lists
+      (same-windows refl (sym (existing-opens l (not-live l (suc (l .last)) (λ m. s .unborn m (suc (l .last)) (omega arith))))) refl refl)
+      refl (ap (map (numberOf (l .identifiers))) (s .shut n .1)) refl
+
+  close-same : l .isOpen ≡ true → closedLists (listsOf l a) ≡ listsOf (closes l) a
+  unfolding closedLists closes
+  close-same o =
+      same-lists
+      (same-windows refl (sym (existing-closes l (λ z. not-live l (l .last) (s .untouched o z)))) refl refl)
+      refl refl refl
+
+  -- N after an event
+  event-existing : (n : Name) → l .isOpen ≡ true → cond (eqb (l .events) 0) (suc (existing l)) (existing l) ≡ existing (counts l n)
+  event-existing n o =
+      by-test (eqb (l .events) 0)
+      (λ y. ap (λ t. cond t (suc (existing l)) (existing l)) y
+      ∙ sym (grown ∙ ap (λ t. cond t (existing l) (suc (existing l))) (not-live l (l .last) (s .untouched o (eqb-true (l .events) 0 y)))))
+      (λ z. let d = eqb-false (l .events) 0 z in
+      ap (λ t. cond t (suc (existing l)) (existing l)) z
+      ∙ sym (grown ∙ ap (λ t. cond t (existing l) (suc (existing l))) (s .touched o (omega arith))))
+    where
+      grown : existing (counts l n) ≡ cond (live l (l .last)) (existing l) (suc (existing l))
+      grown = existing-counts l n (s .given o) (λ v z. s .uncounted n v z)
+
+  -- what an event counts
+  once-is : (n : Name) → l .isOpen ≡ true → onceOf (listsOf l a) n ≡ once l n
+  once-is n o = ap (λ w. record { id = numberOf (l .identifiers) n; window = w; count = pos 1 }) (current-open l o)
+
+module _ (blocks entries : ℕ) (l : Ledger) (a : Account) (k : Kept blocks entries l a) where
+  -- the count of the open window's pair never comes to 0
+  added-is : (n : Name) → l .isOpen ≡ true → (x : Posting) → x ≡ once l n → record { buffer = put x (a .buffer); partitions = a .partitions; steps = a .steps } ≡ addedTo (once l n ∷ []) a
+  unfolding addedTo
+  added-is n o x e =
+      ap (λ b. record { buffer = b; partitions = a .partitions; steps = a .steps }) (ap (λ y. put y (a .buffer)) (e ∙ sym there) ∙ sym kept ∙ ap (λ y. nonzero (put y (a .buffer))) there)
+    where
+      mine : Posting
+      mine = record { id = numberOf (l .identifiers) n; window = windowsOf l .current; count = pos 1 }
+
+      there : mine ≡ once l n
+      there = ap (λ w. record { id = numberOf (l .identifiers) n; window = w; count = pos 1 }) (current-open l o)
+
+      kept : nonzero (put mine (a .buffer)) ≡ put mine (a .buffer)
+      kept = subst (λ b. nonzero (put mine b) ≡ put mine b) (buffered-of (a .buffer)) (pair-kept (windowsOf l) (bufferOf (a .buffer)) (numberOf (l .identifiers) n) (buffer-hold blocks entries l a k))
+
+  event-same : (n : Name) → l .isOpen ≡ true → (before : Account) → countedLists (listsOf l before) n a ≡ listsOf (counts l n) (addedTo (once l n ∷ []) a)
+  unfolding countedLists
+  event-same n o before =
+      same-lists (same-windows last-same (event-existing entries l (k .lawful) before n o) current-same events-same)
+      (noted-is (l .identifiers) n ∙ names-same)
+      (numbers-including (l .identifiers) (l .listed) n (k .lawful .listedIn) ∙ listed-same)
+      (added-is n o (onceOf (listsOf l before) n) (once-is entries l (k .lawful) before n o))
+    where
+      last-same : l .last ≡ counts l n .last
+      last-same = unfold counts in refl
+
+      current-same : windowsOf l .current ≡ windowsOf (counts l n) .current
+      current-same = unfold counts in refl
+
+      events-same : suc (l .events) ≡ counts l n .events
+      events-same = unfold counts in refl
+
+      names-same : including (l .identifiers) n ≡ counts l n .identifiers
+      names-same = unfold counts in refl
+
+      listed-same : map (numberOf (including (l .identifiers) n)) (including (l .listed) n) ≡ map (numberOf (counts l n .identifiers)) (counts l n .listed)
+      listed-same = unfold counts in refl
+
+  -- ---- a removal
+
+  module _ (w : ℕ) (other : (l .isOpen && eqb w (l .last)) ≡ false) where
+    -- a live window has a number that was given
+    live-given : live l w ≡ true → (1 ≤ w) × (w ≤ l .last)
+    live-given e = (by-test (eqb w 0) (λ y. absurd (true≢false (sym e ∙ not-live l w (λ n. ap (l .count n) (eqb-true w 0 y) ∙ k .lawful .nought n)))) (λ d. let z = eqb-false w 0 d in omega arith),
+      by-test (ltb (l .last) w) (λ y. absurd (true≢false (sym e ∙ not-live l w (λ n. k .lawful .unborn n w (ltb-true (l .last) w y))))) (λ d. ltb-false (l .last) w d))
+
+    -- one that is not open is counted beside the open one
+    beside : live l w ≡ true → openCounted (listsOf l a) < existing l
+    beside e =
+        let g = live-given e in
+        let some : 1 ≤ existing l = omega (arith, existing-removes l w (g .0) (g .1) e) in
+        by-test (isOpen (listsOf l a) && ltb 0 (l .events))
+        (λ y. let o : l .isOpen ≡ true = sym (open-is entries l (k .lawful) a) ∙ and-left (isOpen (listsOf l a)) _ y in
+        let d = eqb-false w (l .last) (ap (λ t. t && eqb w (l .last)) (sym o) ∙ other) in
+        let two = existing-two l w (g .0) (omega (arith, g .1)) e (k .lawful .touched o (ltb-true 0 (l .events) (and-right (isOpen (listsOf l a)) _ y))) in
+        omega (arith, two, ap {B = ℕ} (λ t. cond t 1 0) y))
+        (λ n. omega (arith, some, ap {B = ℕ} (λ t. cond t 1 0) n))
+
+    -- the test for refusal 7 is whether the window is live
+    seven-is : (cs : List Posting) → isLive cs ≡ live l w → (not (isLive cs) || (ltb (l .last) w || leb (existing l) (openCounted (listsOf l a)))) ≡ not (live l w)
+    seven-is cs same =
+        by-test (live l w)
+        (λ y. let g = live-given y in
+        ap₂ _||_ (ap not (same ∙ y)) (ap₂ _||_ (le-ltb (l .last) w (g .1)) (lt-leb (existing l) (openCounted (listsOf l a)) (beside y))) ∙ sym (ap not y))
+        (λ n. ap (λ t. not t || (ltb (l .last) w || leb (existing l) (openCounted (listsOf l a)))) (same ∙ n) ∙ sym (ap not n))
+
+    remove-same : (cs : List Posting) (b : Account) → negated cs ≡ takenBack l w → live l w ≡ true → removedLists (listsOf l a) cs b ≡ listsOf (removes l w) (addedTo (takenBack l w) b)
+    unfolding removedLists
+    remove-same cs b same e =
+        same-lists (same-windows last-same (one-less ∙ refl) current-same events-same) names-same listed-same (ap (λ ps. addedTo ps b) same)
+      where
+        last-same : l .last ≡ removes l w .last
+        last-same = unfold removes in refl
+
+        current-same : windowsOf l .current ≡ windowsOf (removes l w) .current
+        current-same = unfold removes in refl
+
+        events-same : l .events ≡ removes l w .events
+        events-same = unfold removes in refl
+
+        names-same : l .identifiers ≡ removes l w .identifiers
+        names-same = unfold removes in refl
+
+        listed-same : map (numberOf (l .identifiers)) (l .listed) ≡ map (numberOf (removes l w .identifiers)) (removes l w .listed)
+        listed-same = unfold removes in refl
+
+        one-less : existing l - 1 ≡ existing (removes l w)
+        one-less = let g = live-given e in omega (arith, existing-removes l w (g .0) (g .1) e)
+
+  -- ---- a query
+
+  counts-read : countOf a ≡ byNumber l
+  unfolding countOf
+  counts-read = fun-ext λ i. fun-ext λ w. ap above (k .sums i w)
+
+  pub query-same : (m : ℕ) (ns : List Name) → ranked (existing l) (countOf a) (down 65535) m (numbersOf (l .identifiers) ns) ≡ ranked (existing l) (l .count) (down (l .last)) m ns
+  query-same m ns =
+      ap (λ (c : ℕ → ℕ → ℕ). ranked (existing l) c (down 65535) m (numbersOf (l .identifiers) ns)) counts-read
+      ∙ ranked-windows (existing l) (byNumber l) (l .last) 65535 m (numbersOf (l .identifiers) ns) (k .lawful .lastFits) (λ i v h. k .lawful .unborn (getD (l .identifiers) i []) v h)
+      ∙ ranked-names (existing l) (l .count) (l .identifiers) ns (down (l .last)) m (λ n w z. k .lawful .uncounted n w z)
+
+-- ---- outcomes that are alike
+
+-- both refuse with one number, or both answer the same, and the lists stand for what ledger and account are, which keep the invariant
+pub data Alike (blocks entries : ℕ) : Outcome Lists → Outcome Books → Type 0 where
+  bothRefuse : {n : ℕ} → Alike blocks entries (refuse n) (refuse n)
+  bothLeave : {x : Answer} {e : Lists} {l : Ledger} {a : Account} → e ≡ listsOf l a → Kept blocks entries l a → Alike blocks entries (leave x e) (leave x (record { ledger = l; account = a }))
+
+module _ (blocks entries : ℕ) where
+  refusing : (t u : Bool) (n : ℕ) (o : Outcome Lists) (q : Outcome Books) → t ≡ u → (u ≡ false → Alike blocks entries o q) → Alike blocks entries (refuseIf t n o) (refuseIf u n q)
+  refusing t u n o q e h = subst (λ v. Alike blocks entries (refuseIf v n o) (refuseIf u n q)) (sym e) (go u h)
+    where
+      go : (u : Bool) → (u ≡ false → Alike blocks entries o q) → Alike blocks entries (refuseIf u n o) (refuseIf u n q)
+      go true h = unfold refuseIf in bothRefuse
+      go false h = unfold refuseIf in (h refl)
+
+  module _ (l : Ledger) (a : Account) (k : Kept blocks entries l a) (f : Account → Outcome Lists) (g : Account → Outcome Books) where
+    flush-alike : ((b : Account) → Kept blocks entries l b → b .buffer ≡ [] → Alike blocks entries (f b) (g b)) → Alike blocks entries (flushing blocks a f) (flushing blocks a g)
+    unfolding flushing choose
+    flush-alike h = go (empty (a .buffer)) refl
+      where
+        none : (m : List Posting) → empty m ≡ true → m ≡ []
+        none [] e = refl
+        none (p ∷ m) e = cc
+
+        emptied-flush : flushedAccount a .buffer ≡ []
+        emptied-flush = unfold flushedAccount in refl
+
+        go : (t : Bool) → empty (a .buffer) ≡ t
+            → Alike blocks entries
+            (choose t (f a) (refuseIf (leb 16 (ofLevel levelOf 0 (a .partitions))) 10 (refuseIf (ltb blocks (2 * suc (blocksIn a))) 11 (refuseIf (ltb blocks (suc (blocksIn a + blocksAhead a))) 12 (f (flushedAccount a))))))
+            (choose t (g a) (refuseIf (leb 16 (ofLevel levelOf 0 (a .partitions))) 10 (refuseIf (ltb blocks (2 * suc (blocksIn a))) 11 (refuseIf (ltb blocks (suc (blocksIn a + blocksAhead a))) 12 (g (flushedAccount a))))))
+        go true e = h a k (none (a .buffer) e)
+        go false e =
+            refusing _ _ 10 _ _ refl λ ten. refusing _ _ 11 _ _ refl λ eleven. refusing _ _ 12 _ _ refl λ twelve.
+            h (flushedAccount a) (kept-flushed blocks entries l a k e ten twelve) emptied-flush
+
+    flushIf-alike : (t : Bool) → ((b : Account) → Kept blocks entries l b → Roomed t a b → Alike blocks entries (f b) (g b)) → Alike blocks entries (flushingIf blocks t a f) (flushingIf blocks t a g)
+    unfolding flushingIf choose
+    flushIf-alike true h = flush-alike (λ b q e. h b q (emptied e))
+    flushIf-alike false h = h a k (asBefore refl)
+
+    step-alike : ((b : Account) → Kept blocks entries l b → Alike blocks entries (f b) (g b)) → Alike blocks entries (stepping blocks a f) (stepping blocks a g)
+    unfolding stepping
+    step-alike h = refusing _ _ 12 _ _ refl λ twelve. refusing _ _ 13 _ _ refl λ _. h (steppedAccount a) (kept-stepped blocks entries l a k twelve)
+
+  -- ---- every call
+
+  module _ (small : entries ≤ 1024) (l : Ledger) (a : Account) (k : Kept blocks entries l a) where
+    opened-is : isOpen (listsOf l a) ≡ l .isOpen
+    opened-is = open-is entries l (k .lawful) a
+
+    event-alike : (n : Name) → badLength n ≡ false → l .isOpen ≡ true → leb 32767 (l .events) ≡ false
+        → (not (among n (l .identifiers)) && leb entries (length (l .identifiers))) ≡ false → (not (among n (l .listed)) && leb 64 (length (l .listed))) ≡ false
+        → Alike blocks entries
+        (flushingIf blocks (overflows (onceOf (listsOf l a) n) a) a (λ b. leave done (countedLists (listsOf l a) n b)))
+        (flushingIf blocks (overflows (once l n) a) a (λ b. leave done (record { ledger = counts l n; account = addedTo (once l n ∷ []) b })))
+    event-alike n four o six eight nine =
+        subst (λ x. Alike blocks entries (flushingIf blocks (overflows x a) a (λ b. leave done (countedLists (listsOf l a) n b))) (flushingIf blocks (overflows (once l n) a) a (λ b. leave done (record { ledger = counts l n; account = addedTo (once l n ∷ []) b }))))
+        (sym (once-is entries l (k .lawful) a n o))
+        (flushIf-alike l a k _ _ (overflows (once l n) a)
+        (λ b q r. bothLeave (event-same blocks entries l b q n o a)
+        (kept-counts blocks entries l b q small n (ap not four) o six eight nine (event-room (once l n) a b (q .shaped) r))))
+
+    remove-alike : (w : ℕ) → Alike blocks entries (removingLists blocks entries (listsOf l a) w (countsOf w (storedIn a))) (books blocks entries l a (Remove w))
+    unfolding removingLists books
+    remove-alike w =
+        refusing _ _ 5 _ _ (named (l .isOpen) refl) λ other.
+        refusing _ _ 7 _ _ (seven-is blocks entries l a k w other (countsOf w (storedIn a)) (counts-live entries l (k .lawful) a (k .sums) w)) λ seven.
+        subst (λ t. Alike blocks entries (flushingIf blocks t a (λ b. leave done (removedLists (listsOf l a) (countsOf w (storedIn a)) b))) (flushingIf blocks (exceeds (takenBack l w) a) a (λ b. leave done (record { ledger = removes l w; account = addedTo (takenBack l w) b }))))
+        exceeding
+        (flushIf-alike l a k _ _ (exceeds (takenBack l w) a)
+        (λ b q r. bothLeave (remove-same blocks entries l a k w other (countsOf w (storedIn a)) b (counts-back entries l (k .lawful) a (k .sums) w) (not-false _ seven))
+        (kept-removes blocks entries l b q w other (removal-room (takenBack l w) a b few r))))
+      where
+        named : (t : Bool) → l .isOpen ≡ t → (isOpen (listsOf l a) && eqb w (windowsOf l .current)) ≡ (l .isOpen && eqb w (l .last))
+        named true o = ap₂ (λ s c. s && eqb w c) opened-is (current-open l o)
+        named false n = ap (λ s. s && eqb w (windowsOf l .current)) (opened-is ∙ n) ∙ sym (ap (λ s. s && eqb w (l .last)) n)
+
+        exceeding : exceeds (takenBack l w) a ≡ exceeds (countsOf w (storedIn a)) a
+        exceeding = unfold exceeds in ap (λ m. ltb 128 (length (a .buffer) + m)) (length-back entries l (k .lawful) a (k .sums) w)
+
+        few : length (takenBack l w) ≤ 64
+        few = omega (arith, length-back entries l (k .lawful) a (k .sums) w, counts-length entries l (k .lawful) a (k .sums) w, k .lawful .held w)
+
+    pursued-alike : (c : Call) → Alike blocks entries (pursued blocks entries (listsOf l a) c) (books blocks entries l a c)
+    unfolding pursued books
+    pursued-alike Open =
+        refusing _ _ 5 _ _ opened-is λ n. refusing _ _ 6 _ _ refl λ room.
+        bothLeave (open-same entries l (k .lawful) a n) (kept-opens blocks entries l a k room)
+    pursued-alike (Event n) =
+        refusing _ _ 4 _ _ refl λ four.
+        refusing _ _ 5 _ _ (ap not opened-is) λ five.
+        refusing _ _ 6 _ _ refl λ six.
+        refusing _ _ 8 _ _ (ap (λ t. t && leb entries (length (l .identifiers))) (new-is (l .identifiers) n)) λ eight.
+        refusing _ _ 9 _ _ (ap₂ (λ t m. not t && leb 64 m) (elem-numbers (l .identifiers) (l .listed) n (k .lawful .listedIn)) (length-map (l .listed) (numberOf (l .identifiers)))) λ nine.
+        event-alike n four (not-false _ five) six eight nine
+    pursued-alike Close =
+        refusing _ _ 5 _ _ (ap not opened-is) λ five.
+        bothLeave (close-same entries l (k .lawful) a (not-false _ five)) (kept-closes blocks entries l a k (not-false _ five))
+    pursued-alike (Remove w) = remove-alike w
+    pursued-alike Flush = flush-alike l a k _ _ λ b q e. bothLeave refl q
+    pursued-alike Step = step-alike l a k _ _ λ b q. bothLeave refl q
+    pursued-alike (Query m ns) =
+        refusing _ _ 4 _ _ refl λ _. refusing _ _ 14 _ _ refl λ _.
+        subst (λ hs. Alike blocks entries (leave (hits hs (takenFrom (numbersOf (l .identifiers) ns) a)) (listsOf l a)) (leave (hits (ranked (existing l) (l .count) (down (l .last)) m ns) (takenFrom (numbersOf (l .identifiers) ns) a)) (record { ledger = l; account = a })))
+        (sym (query-same blocks entries l a k m ns)) (bothLeave refl k)
+
+    -- refusals 1 and 3 are not given
+    pub unrefused : (c : Call) → listsCall blocks entries (listsOf l a) c ≡ pursued blocks entries (listsOf l a) c
+    unfolding listsCall refuseIf
+    unrefused c = rw (rules-hold blocks entries l a k small, call-formed blocks entries l a k c)
+
+    pub call-alike : (c : Call) → Alike blocks entries (listsCall blocks entries (listsOf l a) c) (books blocks entries l a c)
+    call-alike c = subst (λ o. Alike blocks entries o (books blocks entries l a c)) (sym (unrefused c)) (pursued-alike c)

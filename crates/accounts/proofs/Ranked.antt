@@ -1,0 +1,70 @@
+-- A query by number and by name, over all windows and over those given, finds the same.
+use mathlib.Core.Bool.{Bool, false, _||_, cond}
+use mathlib.Core.List.{List, [], _∷_, foldr, map}
+use mathlib.Core.Path.{_≡_, refl, sym, ap, ap₂, _∙_, fun-ext}
+use Prim.Native.Nat.{ℕ, zero, suc, _+_, _*_, _-_, _<_, _≤_}
+use native.Mathlib.Omega.{arith}
+use lib.Dec.{ltb}
+use lib.ListN.{length, getD, take}
+use Rattle.lists.specs.Lists.{keep, any, totalBy, down}
+use Rattle.lists.proofs.Bools.{by-test}
+use Rattle.lists.proofs.Tests.{any-none}
+use Rattle.weights.specs.Weights.{tfWeight, idfWeight}
+use Rattle.identifiers.specs.Names.{Name, among, numbersOf}
+use Rattle.identifiers.proofs.Names.{number-at}
+use Rattle.queries.specs.Hits.{place, frequency, score, matching, ranked}
+use Rattle.accounts.proofs.Numbers.{known-is}
+
+-- ---- windows above the last one given do not matter
+
+keep-more : (t : ℕ → Bool) (m d : ℕ) → ((v : ℕ) → m < v → t v ≡ false) → keep t (down (d + m)) ≡ keep t (down m)
+unfolding down
+keep-more t m zero h = ap (λ n. keep t (down n)) (none m)
+  where
+    none : (m : ℕ) → zero + m ≡ m
+    none m = omega arith
+keep-more t m (suc d) h = ap (λ n. keep t (down n)) (one d m) ∙ rw (h (suc (d + m)) (omega arith)) (keep-more t m d h)
+  where
+    one : (d m : ℕ) → suc d + m ≡ suc (d + m)
+    one d m = omega arith
+
+pub keep-up : (t : ℕ → Bool) (m n : ℕ) → m ≤ n → ((v : ℕ) → m < v → t v ≡ false) → keep t (down n) ≡ keep t (down m)
+keep-up t m n h k = ap (λ x. keep t (down x)) (sym split) ∙ keep-more t m (n - m) k
+  where
+    split : n - m + m ≡ n
+    split = omega arith
+
+pub ranked-windows : {I : Type 0} (n : ℕ) (count : I → ℕ → ℕ) (m M k : ℕ) (is : List I) → m ≤ M → ((i : I) (v : ℕ) → m < v → count i v ≡ 0)
+    → ranked n count (down M) k is ≡ ranked n count (down m) k is
+unfolding ranked matching score frequency
+ranked-windows {I} n count m M k is h z =
+    ap₂ (λ (fr : I → ℕ) (fo : List ℕ). take k (foldr place [] (map (λ w. record { window = w; score = totalBy (λ i. cond (ltb 0 (count i w)) (tfWeight (count i w) * idfWeight n (fr i)) 0) is }) fo)))
+    (fun-ext λ i. ap length (keep-up (λ w. ltb 0 (count i w)) m M h (λ v l. ap (ltb 0) (z i v l))))
+    (keep-up (λ w. any (λ i. ltb 0 (count i w)) is) m M h (λ v l. any-none (λ i. ltb 0 (count i v)) (λ i. ap (ltb 0) (z i v l)) is))
+
+-- ---- identifiers that the register does not have add nothing
+
+any-query : (t : Name → Bool) (ms ns : List Name) → ((n : Name) → among n ms ≡ false → t n ≡ false) → any (λ i. t (getD ms i [])) (numbersOf ms ns) ≡ any t ns
+unfolding numbersOf
+any-query t ms [] z = refl
+any-query t ms (n ∷ ns) z =
+    by-test (among n ms)
+    (λ y. rw (known-is ms n, y) (ap₂ _||_ (ap t (number-at ms n y)) (any-query t ms ns z)))
+    (λ e. rw (known-is ms n, e, z n e) (any-query t ms ns z))
+
+total-query : (g : Name → ℕ) (ms ns : List Name) → ((n : Name) → among n ms ≡ false → g n ≡ 0) → totalBy (λ i. g (getD ms i [])) (numbersOf ms ns) ≡ totalBy g ns
+unfolding numbersOf
+total-query g ms [] z = refl
+total-query g ms (n ∷ ns) z =
+    by-test (among n ms)
+    (λ y. rw (known-is ms n, y) (ap₂ _+_ (ap g (number-at ms n y)) (total-query g ms ns z)))
+    (λ e. rw (known-is ms n, e, z n e) (total-query g ms ns z ∙ omega arith))
+
+pub ranked-names : (N : ℕ) (count : Name → ℕ → ℕ) (ms ns : List Name) (windows : List ℕ) (k : ℕ) → ((n : Name) (w : ℕ) → among n ms ≡ false → count n w ≡ 0)
+    → ranked N (λ i w. count (getD ms i []) w) windows k (numbersOf ms ns) ≡ ranked N count windows k ns
+unfolding ranked matching score frequency
+ranked-names N count ms ns windows k z =
+    ap₂ (λ (sc : ℕ → ℕ) (fo : List ℕ). take k (foldr place [] (map (λ w. record { window = w; score = sc w }) fo)))
+    (fun-ext λ w. total-query (λ n. cond (ltb 0 (count n w)) (tfWeight (count n w) * idfWeight N (length (keep (λ v. ltb 0 (count n v)) windows))) 0) ms ns
+    (λ n h. ap (λ c. cond (ltb 0 c) (tfWeight c * idfWeight N (length (keep (λ v. ltb 0 (count n v)) windows))) 0) (z n w h)))
+    (ap (λ t. keep t windows) (fun-ext λ w. any-query (λ n. ltb 0 (count n w)) ms ns (λ n h. ap (ltb 0) (z n w h))))

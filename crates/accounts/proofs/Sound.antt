@@ -1,0 +1,279 @@
+-- Lists that stand for a ledger and its account keep every rule of the state, and what a call uses of them is well formed: refusals 1 and 3 have no
+-- cause.
+use mathlib.Core.Bool.{Bool, true, false, _||_, _&&_, not, cond}
+use mathlib.Core.List.{List, [], _∷_, map, List·Memᴰ}
+use mathlib.Core.Logic.{_⊎_, inl, inr}
+use mathlib.Core.Path.{_≡_, refl, sym, ap, ap₂, _∙_}
+use Prim.Native.Nat.{ℕ, zero, suc, _+_, _*_, _<_, _≤_}
+use native.Mathlib.Omega.{arith}
+use lib.Dec.{eqb, leb}
+use lib.IntN.{pos, natAbs, _+ℤ_}
+use lib.ListN.{length, getD, length-map}
+use borrow.Author.Tests.{eqb-false, le-leb, lt-leb, leb-true, not-true}
+use Rattle.lists.specs.Lists.{keep, every, empty, totalBy, down}
+use Rattle.lists.proofs.Bools.{by-test, and-left, and-right, and-both}
+use Rattle.lists.proofs.Tests.{every-from, every-keep, every-mem, length-keep}
+use Rattle.lists.proofs.Ranges.{every-map}
+use Rattle.postings.specs.declared.Posting.{Posting}
+use Rattle.postings.specs.Order.{ordered}
+use Rattle.postings.specs.Merge.{isZero, counts, pairs}
+use Rattle.postings.specs.Sums.{sum, under, above}
+use Rattle.postings.proofs.Order.{keep-ordered}
+use Rattle.postings.proofs.Merge.{ordered-sum}
+use Rattle.state.specs.declared.Windows.{Windows}
+use Rattle.state.specs.declared.Partition.{Partition}
+use Rattle.state.specs.Views.{listedOf, bufferOf, partitionsOf}
+use Rattle.state.specs.Levels.{levelLimit, levels, ofLevel}
+use Rattle.state.specs.Rules.{windowsRule, listedRule, postingRule, bufferRule, recordRule, neverRise, partitionsRule}
+use Rattle.state.proofs.Forms.{listed-rule, buffer-rule, partitions-rule}
+use Rattle.state.proofs.Kept.{Shut, Opened, windows-rule, PostingKept, posting-rule, record-rule}
+use Rattle.state.proofs.Runs.{falls}
+use Rattle.state.proofs.Replaced.{at-levels, levels-room}
+use Rattle.identifiers.specs.Names.{numberOf, numbersOf}
+use Rattle.partitions.specs.Layout.{lengthOf}
+use Rattle.partitions.specs.Formed.{listRule, inRange, sumsInRange}
+use Rattle.removals.specs.Removal.{countsOf}
+use Rattle.merges.specs.Merging.{isLast}
+use Rattle.engine.specs.Calls.{Call, Open, Event, Close, Remove, Flush, Step, Query}
+use Rattle.accounts.specs.Account.{Portion, Account, postingsIn, storedIn, blocksOf, blocksIn, blocksAhead, dueOf, inputsOf}
+use Rattle.accounts.specs.Ledger.{Ledger, live, existing}
+use Rattle.accounts.specs.Lists.{Lists, recordOf, listsRule, identifierRule, windowRule, inputsRule, callRule}
+use Rattle.accounts.proofs.Members.{members-every}
+use Rattle.accounts.proofs.Parts.{sums-in-range, window-in-range, identifier-in-range}
+use Rattle.accounts.proofs.Stored.{levelOf, sum-stored}
+use Rattle.accounts.proofs.Steps.{progress-due}
+use Rattle.accounts.proofs.Prefixes.{small-abs, whole-small, inputs-small, buffer-small}
+use Rattle.accounts.proofs.Shaped.{portionRule}
+use Rattle.accounts.proofs.Fits.{Fits, cost, lengths-fit}
+use Rattle.accounts.proofs.Numbers.{numbers-different, numbers-small}
+use Rattle.accounts.proofs.Live.{not-live, existing-removes}
+use Rattle.accounts.proofs.Lawful.{Lawful}
+use Rattle.accounts.proofs.Held.{byNumber, counts-length}
+use Rattle.accounts.proofs.Ranged.{storedRule, stored-kept, ranged-partitions, ranged-buffer, every-portion, every-oldest}
+use Rattle.accounts.proofs.Behind.{top, top-le, rest}
+use Rattle.accounts.proofs.Kept.{Kept, stored-small}
+
+-- the ledger's numbers as the state has them
+abbrev pub windowsOf : Ledger → Windows
+windowsOf l = record { last = l .last; live = existing l; current = cond (l .isOpen) (l .last) 0; events = l .events }
+
+-- the lists that stand for a ledger and an account
+abbrev pub listsOf : Ledger → Account → Lists
+listsOf l a = record { windows = windowsOf l; names = l .identifiers; listed = map (numberOf (l .identifiers)) (l .listed); account = a }
+
+-- ---- windows
+
+-- the open window's number
+pub current-open : (l : Ledger) → l .isOpen ≡ true → windowsOf l .current ≡ l .last
+current-open l o = ap (λ t. cond t (l .last) 0) o
+
+pub current-shut : (l : Ledger) → l .isOpen ≡ false → windowsOf l .current ≡ 0
+current-shut l n = ap (λ t. cond t (l .last) 0) n
+
+length-down : (m : ℕ) → length (down m) ≡ m
+unfolding down
+length-down zero = refl
+length-down (suc m) = ap suc (length-down m)
+
+existing-most : (l : Ledger) → existing l ≤ l .last
+unfolding existing
+existing-most l = omega (arith, length-keep (live l) (down (l .last)), length-down (l .last))
+
+module _ (entries : ℕ) (l : Ledger) (s : Lawful entries l) where
+  -- an open window without events is not counted
+  uncounted-open : l .isOpen ≡ true → l .events ≡ 0 → existing l < l .last
+  unfolding existing down
+  uncounted-open o z = below (l .last) (s .given o) (not-live l (l .last) (s .untouched o z))
+    where
+      below : (m : ℕ) → 1 ≤ m → live l m ≡ false → length (keep (live l) (down m)) < m
+      below zero h e = absurd (omega arith)
+      below (suc m) h e = rw e (omega (arith, length-keep (live l) (down m), length-down m))
+
+  -- one with events is
+  counted-open : l .isOpen ≡ true → 1 ≤ l .events → 1 ≤ existing l
+  counted-open o h = omega (arith, existing-removes l (l .last) (s .given o) (omega arith) (s .touched o h))
+
+  windows-hold : windowsRule (windowsOf l) ≡ true
+  windows-hold = windows-rule (windowsOf l) (record { live = existing-most l; window = by-test (l .isOpen) opened shut })
+    where
+      shut : l .isOpen ≡ false → Shut (windowsOf l) ⊎ Opened (windowsOf l)
+      shut n = inl (record { number = current-shut l n; events = s .shut n .0 })
+
+      opened : l .isOpen ≡ true → Shut (windowsOf l) ⊎ Opened (windowsOf l)
+      opened o = inr (record {
+        some = omega (arith, current-open l o, s .given o);
+        number = current-open l o;
+        events = s .eventsFit;
+        uncounted = λ z. omega (arith, current-open l o, uncounted-open o z);
+        counted = counted-open o;
+      })
+
+  listed-holds : entries ≤ 1024 → listedRule (windowsOf l) (listedOf (map (numberOf (l .identifiers)) (l .listed))) ≡ true
+  listed-holds small =
+      listed-rule (windowsOf l) (map (numberOf (l .identifiers)) (l .listed))
+      (rw (length-map (l .listed) (numberOf (l .identifiers))) (s .listedFit))
+      (numbers-small (l .identifiers) (l .listed) 1023 (omega (arith, s .fits)) (s .listedIn))
+      (numbers-different (l .identifiers) (l .listed) (s .listedIn) (s .listedOnce))
+      (λ z. by-test (l .isOpen) (λ o. absurd (omega (arith, s .given o, current-open l o))) (λ n. ap (λ ms. length (map (numberOf (l .identifiers)) ms)) (s .shut n .1)))
+
+-- ---- partitions
+
+-- the part of a well-formed list that one identifier has is well formed
+part-formed : (i : ℕ) (m : List Posting) → listRule m ≡ true → listRule (under i m) ≡ true
+unfolding listRule
+part-formed i m x =
+    and-both (ordered (under i m)) _ (keep-ordered (λ q. eqb (q .id) i) m (and-left (ordered m) _ x))
+    (every-keep (λ q. eqb (q .id) i) (λ q. leb 1 (q .window) && not (isZero (q .count))) m (and-right (ordered m) _ x))
+
+-- a partition's record has its level
+level-records : (v : ℕ) (ps : List Portion) → ofLevel (λ (q : Partition). q .level) v (map recordOf ps) ≡ ofLevel levelOf v ps
+level-records v [] = refl
+level-records v (p ∷ ps) = by-test (eqb (levelOf p) v) (λ y. rw y (ap suc (level-records v ps))) (λ n. rw n (level-records v ps))
+
+rise-records : (ps : List Portion) → neverRise (map recordOf ps) ≡ falls levelOf ps
+rise-records [] = refl
+rise-records (p ∷ ps) = ap₂ _&&_ (every-map (λ (q : Partition). leb (q .level) (levelOf p)) recordOf ps) (rise-records ps)
+
+module _ (blocks entries : ℕ) (l : Ledger) (a : Account) (k : Kept blocks entries l a) where
+  -- at most 16 of level 0, so at most 51 in all
+  partitions-few : length (a .partitions) ≤ 51
+  partitions-few = omega (arith, levels-room levelOf (a .partitions) (k .shaped .low) (k .shaped .limits), zero-room)
+    where
+      zero-room : ofLevel levelOf 0 (a .partitions) ≤ 16
+      zero-room = leb-true _ _ (at-levels (λ u. leb (ofLevel levelOf u (a .partitions)) (levelLimit u)) (k .shaped .limits) 0 (omega arith))
+
+  records-hold : every (recordRule blocks) (map recordOf (a .partitions)) ≡ true
+  records-hold =
+      every-map (recordRule blocks) recordOf (a .partitions)
+      ∙ every-from (λ p. leb (levelOf p) 5) (λ (p : Portion). leb (lengthOf (p .postings)) (4092 * blocks)) (λ p. recordRule blocks (recordOf p))
+      (λ p x y. record-rule blocks (recordOf p) (record { level = leb-true _ _ x; length = leb-true _ _ y })) (a .partitions) (k .shaped .low)
+      (lengths-fit blocks (a .partitions) (k .shaped .parts) room)
+    where
+      room : cost (a .partitions) ≤ blocks
+      room = omega (arith, all)
+        where
+          all : cost (a .partitions) + blocksAhead a ≤ blocks
+          all = unfold cost in (within (k .fits))
+            where
+              within : Fits blocks a → totalBy (λ (p : Portion). blocksOf (p .postings)) (a .partitions) + blocksAhead a ≤ blocks
+              within h = unfold Fits blocksIn in h
+
+  partitions-hold : partitionsRule blocks (partitionsOf (map recordOf (a .partitions))) ≡ true
+  partitions-hold =
+      partitions-rule blocks (map recordOf (a .partitions)) (rw (length-map (a .partitions) recordOf) partitions-few) records-hold
+      (rise-records (a .partitions) ∙ k .shaped .fall)
+      (every-from within within (λ v. leb (ofLevel (λ (q : Partition). q .level) v (map recordOf (a .partitions))) (levelLimit v)) (λ v x y. rw (level-records v (a .partitions)) x) levels (k .shaped .limits) (k .shaped .limits))
+    where
+      within : ℕ → Bool
+      within v = leb (ofLevel levelOf v (a .partitions)) (levelLimit v)
+
+  -- ---- the buffer
+
+  pub buffer-hold : bufferRule (windowsOf l) (bufferOf (a .buffer)) ≡ true
+  buffer-hold =
+      buffer-rule (windowsOf l) (a .buffer) (k .shaped .room) (k .shaped .order)
+      (members-every (postingRule (windowsOf l)) (a .buffer) (λ p m. posting-rule (windowsOf l) p (kept p m)))
+    where
+      kept : (p : Posting) → List·Memᴰ p (a .buffer) → PostingKept (windowsOf l) p
+      kept p m =
+          let r = stored-kept (top l) p (every-mem (storedRule (top l)) (a .buffer) (ranged-buffer (top l) a (k .ranged)) m) in
+          let one : sum (a .buffer) (p .id) (p .window) ≡ p .count = ordered-sum (a .buffer) (k .shaped .order) m in
+          let some : isZero (p .count) ≡ false = not-true _ (every-mem counts (a .buffer) (k .shaped .counted) m) in
+          record {
+            id = r .id;
+            some = r .some;
+            given = omega (arith, r .most, top-le l);
+            counts = some;
+            small = rw (← one) (buffer-small a (k .shaped .prefixes) (stored-small blocks entries l a k) (p .id) (p .window));
+            own = λ q. by-test (l .isOpen) (λ o. own p o (q ∙ current-open l o) one some) (λ n. absurd (omega (arith, r .some, q, current-shut l n)));
+          }
+        where
+          own : (p : Posting) → l .isOpen ≡ true → p .window ≡ l .last → sum (a .buffer) (p .id) (p .window) ≡ p .count → isZero (p .count) ≡ false → (1 ≤ above (p .count)) × (above (p .count) ≤ l .events)
+          own p o q one some =
+              let b = k .behind o (p .id) in
+              let whole : pos (byNumber l (p .id) (l .last)) ≡ pos (b .size) +ℤ p .count
+              = sym (k .sums (p .id) (l .last)) ∙ sum-stored (p .id) (l .last) a ∙ ap₂ _+ℤ_ (b .is) (ap (sum (a .buffer) (p .id)) (sym q) ∙ one) in
+              let m = rest (b .size) (byNumber l (p .id) (l .last)) (p .count) whole (b .le) some in
+              rw (m .1) (m .2, omega (arith, m .3, k .lawful .within o (getD (l .identifiers) (p .id) [])))
+
+  -- ---- refusal 1
+
+  merge-holds : (eqb (a .steps) 0 || not (empty (dueOf a))) ≡ true
+  merge-holds =
+      by-test (eqb (a .steps) 0) (λ y. rw y)
+      (λ n. let d = eqb-false (a .steps) 0 n in
+      rw n (by-test (empty (dueOf a)) (λ e. absurd (progress-due a (k .shaped .progress) (omega arith) (none (dueOf a) e))) (λ e. rw e)))
+    where
+      none : (vs : List ℕ) → empty vs ≡ true → vs ≡ []
+      none [] e = refl
+      none (v ∷ vs) e = cc
+
+  pub rules-hold : entries ≤ 1024 → listsRule blocks (listsOf l a) ≡ true
+  unfolding listsRule
+  rules-hold small = rw (windows-hold entries l (k .lawful), listed-holds entries l (k .lawful) small, buffer-hold, partitions-hold) merge-holds
+
+  -- ---- refusal 3
+
+  -- every list of every partition is well formed
+  pub lists-formed : every (λ (p : Portion). listRule (p .postings)) (a .partitions) ≡ true
+  lists-formed =
+      every-from portionRule (λ (p : Portion). every (storedRule (top l)) (p .postings)) (λ (p : Portion). listRule (p .postings))
+      (λ p x y. unfold listRule in formed (p .postings) (and-right (not (empty (p .postings))) _ x) y)
+      (a .partitions) (k .shaped .parts) (sym (every-portion (storedRule (top l)) (a .partitions)) ∙ ranged-partitions (top l) a (k .ranged))
+    where
+      formed : (m : List Posting) → (ordered m && every counts m) ≡ true → every (storedRule (top l)) m ≡ true → (ordered m && every (λ q. leb 1 (q .window) && not (isZero (q .count))) m) ≡ true
+      formed m x y =
+          and-both (ordered m) _ (and-left (ordered m) _ x)
+          (every-from counts (storedRule (top l)) (λ q. leb 1 (q .window) && not (isZero (q .count)))
+          (λ q c r. and-both (leb 1 (q .window)) _ (le-leb _ _ (stored-kept (top l) q r .some)) c) m (and-right (ordered m) _ x) y)
+
+  -- and so is the part of it that one identifier has
+  under-formed : (i : ℕ) → every (λ (p : Portion). listRule (under i (p .postings))) (a .partitions) ≡ true
+  under-formed i =
+      every-from (λ (p : Portion). listRule (p .postings)) (λ (p : Portion). listRule (p .postings)) (λ (p : Portion). listRule (under i (p .postings)))
+      (λ p x y. part-formed i (p .postings) x) (a .partitions) lists-formed lists-formed
+
+  -- sums over the partitions and with the buffer fit
+  partitions-small : (i w : ℕ) → natAbs (sum (postingsIn (a .partitions)) i w) ≤ 32767
+  partitions-small i w = small-abs (whole-small (a .partitions) (k .shaped .prefixes) i w)
+
+  all-small : (i w : ℕ) → natAbs (sum (storedIn a) i w) ≤ 32767
+  all-small i w = small-abs (stored-small blocks entries l a k i w)
+
+  pub identifier-formed : (i : ℕ) → identifierRule a i ≡ true
+  unfolding identifierRule
+  identifier-formed i =
+      rw (under-formed i, identifier-in-range i (postingsIn (a .partitions)) partitions-small, identifier-in-range i (storedIn a) all-small)
+
+  pub window-formed : (w : ℕ) → windowRule a w ≡ true
+  unfolding windowRule
+  window-formed w =
+      rw (lists-formed, window-in-range w (postingsIn (a .partitions)) partitions-small, window-in-range w (storedIn a) all-small)
+      (le-leb (length (countsOf w (storedIn a))) 64 (rw (counts-length entries l (k .lawful) a (k .sums) w) (k .lawful .held w)))
+
+  pub inputs-formed : inputsRule a ≡ true
+  unfolding inputsRule
+  inputs-formed =
+      rw (every-oldest (λ (p : Portion). listRule (p .postings)) (dueOf a) (a .partitions) lists-formed, fit) left
+    where
+      fit : every (λ p. inRange (p .count)) (pairs (inputsOf a)) ≡ true
+      fit = unfold sumsInRange in sums-in-range (inputsOf a) (inputs-small a (k .shaped .prefixes))
+
+      left : (eqb (a .steps) 0 || not (isLast (pairs (inputsOf a)) (a .steps))) ≡ true
+      left =
+          by-test (eqb (a .steps) 0) (λ y. rw y)
+          (λ n. let d = eqb-false (a .steps) 0 n in rw (n, lt-leb (length (pairs (inputsOf a))) (16 * a .steps) (k .shaped .progress (omega arith))))
+
+  pub call-formed : (c : Call) → callRule (listsOf l a) c ≡ true
+  unfolding callRule
+  call-formed Open = refl
+  call-formed (Event n) = refl
+  call-formed Close = refl
+  call-formed (Remove w) = window-formed w
+  call-formed Flush = refl
+  call-formed Step = inputs-formed
+  call-formed (Query m ns) = all (numbersOf (l .identifiers) ns)
+    where
+      all : (is : List ℕ) → every (identifierRule a) is ≡ true
+      all [] = refl
+      all (i ∷ is) = and-both (identifierRule a i) _ (identifier-formed i) (all is)

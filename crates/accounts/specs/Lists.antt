@@ -1,0 +1,190 @@
+-- The engine on lists: what the probe remembers and what its buffers decode to, and what each call comes to. It is the engine on bytes with card
+-- and register seen as the postings and identifiers that they hold.
+use mathlib.Core.Bool.{Bool, true, _||_, _&&_, not, cond}
+use mathlib.Core.List.{List, [], _∷_, _++_, map}
+use Prim.Native.Nat.{ℕ, suc, _-_}
+use lib.Dec.{eqb, ltb, leb}
+use lib.IntN.{pos}
+use lib.ListN.{length}
+use Rattle.lists.specs.Lists.{any, every, empty, elem, down}
+use Rattle.postings.specs.declared.Posting.{Posting}
+use Rattle.postings.specs.Merge.{put, pairs, negated}
+use Rattle.postings.specs.Sums.{sum, under, above}
+use Rattle.answers.specs.Answers.{Answer, done, number, hits, Outcome, leave, refuseIf}
+use Rattle.state.specs.declared.Windows.{Windows}
+use Rattle.state.specs.declared.Partition.{Partition}
+use Rattle.state.specs.Views.{listedOf, bufferOf, partitionsOf}
+use Rattle.state.specs.Levels.{oldest}
+use Rattle.state.specs.Rules.{windowsRule, listedRule, bufferRule, partitionsRule}
+use Rattle.identifiers.specs.Names.{Name, badLength, numberOf, numbersOf}
+use Rattle.partitions.specs.Layout.{lengthOf}
+use Rattle.partitions.specs.Formed.{listRule, inRange, sumsInRange}
+use Rattle.queries.specs.Hits.{ranked}
+use Rattle.queries.specs.Query.{badQuery}
+use Rattle.removals.specs.Removal.{ofWindow, countsOf, isLive}
+use Rattle.merges.specs.Merging.{isLast}
+use Rattle.engine.specs.Calls.{Call, Open, Event, Close, Remove, Flush, Step, Query, run}
+use Rattle.accounts.specs.Account.{Portion, Account, emptyAccount, postingsIn, storedIn, takenFrom, dueOf, inputsOf, overflows, exceeds, addedTo, stepping, flushing, flushingIf}
+
+-- the state's window numbers; the register's identifiers, by number; the numbers of the open window's identifiers, in order of first count; the
+-- postings in buffer and partitions, with the steps of the merge in progress
+pub record Lists : Type 0 where
+  pub windows : Windows
+  pub names : List Name
+  pub listed : List ℕ
+  pub account : Account
+
+-- what a fresh card holds
+unfoldable pub noLists : Lists
+noLists = record { windows = record { last = 0; live = 0; current = 0; events = 0 }; names = []; listed = []; account = emptyAccount }
+
+-- is a window open
+abbrev pub isOpen : Lists → Bool
+isOpen e = not (eqb (e .windows .current) 0)
+
+-- ---- refusal 1
+
+-- a partition's record, but for its first block, of which no rule of the state says anything
+abbrev pub recordOf : Portion → Partition
+recordOf p = record { first = 0; level = p .level; length = lengthOf (p .postings) }
+
+-- every rule of the state that concerns what is listed here, on a card of so many blocks
+unfoldable pub listsRule : ℕ → Lists → Bool
+listsRule blocks e =
+    windowsRule (e .windows)
+    && (listedRule (e .windows) (listedOf (e .listed))
+    && (bufferRule (e .windows) (bufferOf (e .account .buffer))
+    && (partitionsRule blocks (partitionsOf (map recordOf (e .account .partitions)))
+    && (eqb (e .account .steps) 0 || not (empty (dueOf (e .account)))))))
+
+-- ---- refusal 3: the lists and sums that a call uses
+
+-- of one identifier: its lists in the partitions, and the sums of its pairs, over the partitions and with the buffer
+unfoldable pub identifierRule : Account → ℕ → Bool
+identifierRule a i =
+    every (λ (p : Portion). listRule (under i (p .postings))) (a .partitions)
+    && (sumsInRange (under i (postingsIn (a .partitions))) && sumsInRange (under i (storedIn a)))
+
+-- of a window to be removed: all lists, its sums over the partitions and with the buffer, and no more than 64 of them
+unfoldable pub windowRule : Account → ℕ → Bool
+windowRule a w =
+    every (λ (p : Portion). listRule (p .postings)) (a .partitions)
+    && (sumsInRange (ofWindow w (postingsIn (a .partitions)))
+    && (sumsInRange (ofWindow w (storedIn a)) && leb (length (countsOf w (storedIn a))) 64))
+
+-- of a step: the inputs' lists and the sums of their pairs, and pairs are left to take where a merge is in progress
+unfoldable pub inputsRule : Account → Bool
+inputsRule a =
+    every (λ (p : Portion). listRule (p .postings)) (oldest (λ (p : Portion). p .level) (dueOf a) (a .partitions))
+    && (every (λ p. inRange (p .count)) (pairs (inputsOf a)) && (eqb (a .steps) 0 || not (isLast (pairs (inputsOf a)) (a .steps))))
+
+-- of each call
+unfoldable pub callRule : Lists → Call → Bool
+callRule e Open = true
+callRule e (Event n) = true
+callRule e Close = true
+callRule e (Remove w) = windowRule (e .account) w
+callRule e Flush = true
+callRule e Step = inputsRule (e .account)
+callRule e (Query k ns) = every (identifierRule (e .account)) (numbersOf (e .names) ns)
+
+-- ---- what the calls leave
+
+-- the next number is given, and its window has no events yet
+unfoldable pub openedLists : Lists → Lists
+openedLists e = record {
+  windows = record { last = suc (e .windows .last); live = e .windows .live; current = suc (e .windows .last); events = 0 };
+  names = e .names;
+  listed = e .listed;
+  account = e .account;
+}
+
+-- no window is open; one without events gives its number back
+unfoldable pub closedLists : Lists → Lists
+closedLists e = record {
+  windows = record { last = cond (eqb (e .windows .events) 0) (e .windows .last - 1) (e .windows .last); live = e .windows .live; current = 0; events = 0 };
+  names = e .names;
+  listed = [];
+  account = e .account;
+}
+
+-- is an identifier new to the register
+abbrev pub isNew : Lists → Name → Bool
+isNew e n = leb (length (e .names)) (numberOf (e .names) n)
+
+-- one count of an identifier in the open window
+abbrev pub onceOf : Lists → Name → Posting
+onceOf e n = record { id = numberOf (e .names) n; window = e .windows .current; count = pos 1 }
+
+-- the event is counted, with a as it is after a flush or without one: N moves at the window's first, the identifier is listed at its first, and
+-- the pair's buffered count grows by 1
+unfoldable pub countedLists : Lists → Name → Account → Lists
+countedLists e n a = record {
+  windows =
+    record { last = e .windows .last; live = cond (eqb (e .windows .events) 0) (suc (e .windows .live)) (e .windows .live); current = e .windows .current; events = suc (e .windows .events) };
+  names = cond (isNew e n) (e .names ++ (n ∷ [])) (e .names);
+  listed = cond (elem (numberOf (e .names) n) (e .listed)) (e .listed) (e .listed ++ (numberOf (e .names) n ∷ []));
+  account = record { buffer = put (onceOf e n) (a .buffer); partitions = a .partitions; steps = a .steps };
+}
+
+-- 1 where the open window is counted in N
+abbrev pub openCounted : Lists → ℕ
+openCounted e = cond (isOpen e && ltb 0 (e .windows .events)) 1 0
+
+-- each of the window's counts is buffered negated, with a as it is after a flush or without one, and N is one less
+unfoldable pub removedLists : Lists → List Posting → Account → Lists
+removedLists e counts a = record {
+  windows = record { last = e .windows .last; live = e .windows .live - 1; current = e .windows .current; events = e .windows .events };
+  names = e .names;
+  listed = e .listed;
+  account = addedTo (negated counts) a;
+}
+
+-- the same with another account
+abbrev pub withAccount : Lists → Account → Lists
+withAccount e a = record { windows = e .windows; names = e .names; listed = e .listed; account = a }
+
+-- the count of a pair: the sum of what is stored, and nothing where that is not above 0
+unfoldable pub countOf : Account → ℕ → ℕ → ℕ
+countOf a i w = above (sum (storedIn a) i w)
+
+-- ---- what the calls come to, on a card of so many blocks and a register of so many entries
+
+module _ (blocks entries : ℕ) where
+  -- a removal, where these are the window's counts
+  unfoldable pub removingLists : Lists → ℕ → List Posting → Outcome Lists
+  removingLists e w counts =
+      refuseIf (isOpen e && eqb w (e .windows .current)) 5
+      (refuseIf (not (isLive counts) || (ltb (e .windows .last) w || leb (e .windows .live) (openCounted e))) 7
+      (flushingIf blocks (exceeds counts (e .account)) (e .account) (λ a. leave done (removedLists e counts a))))
+
+  -- what follows refusals 1 to 3
+  unfoldable pub pursued : Lists → Call → Outcome Lists
+  pursued e Open =
+      refuseIf (isOpen e) 5
+      (refuseIf (leb 65535 (e .windows .last)) 6
+      (leave (number (suc (e .windows .last))) (openedLists e)))
+  pursued e (Event n) =
+      refuseIf (badLength n) 4
+      (refuseIf (not (isOpen e)) 5
+      (refuseIf (leb 32767 (e .windows .events)) 6
+      (refuseIf (isNew e n && leb entries (length (e .names))) 8
+      (refuseIf (not (elem (numberOf (e .names) n) (e .listed)) && leb 64 (length (e .listed))) 9
+      (flushingIf blocks (overflows (onceOf e n) (e .account)) (e .account) (λ a. leave done (countedLists e n a)))))))
+  pursued e Close =
+      refuseIf (not (isOpen e)) 5
+      (leave done (closedLists e))
+  pursued e (Remove w) = removingLists e w (countsOf w (storedIn (e .account)))
+  pursued e Flush = flushing blocks (e .account) (λ a. leave done (withAccount e a))
+  pursued e Step = stepping blocks (e .account) (λ a. leave done (withAccount e a))
+  pursued e (Query k ns) =
+      refuseIf (any badLength ns) 4
+      (refuseIf (badQuery k ns) 14
+      (leave (hits (ranked (e .windows .live) (countOf (e .account)) (down 65535) k (numbersOf (e .names) ns)) (takenFrom (numbersOf (e .names) ns) (e .account))) e))
+
+  unfoldable pub listsCall : Lists → Call → Outcome Lists
+  listsCall e c = refuseIf (not (listsRule blocks e)) 1 (refuseIf (not (callRule e c)) 3 (pursued e c))
+
+  -- the answers to a list of calls, from a fresh card
+  unfoldable pub listsAnswers : List Call → List Answer
+  listsAnswers cs = run listsCall noLists cs

@@ -1,0 +1,1 @@
+// Ledger and account, and the engine on lists of postings, which answers as they do.
