@@ -131,8 +131,10 @@ module _ (blocks entries : ℕ) (l : Ledger) (a : Account) (k : Kept blocks entr
   module _ (w : ℕ) (other : (l .isOpen && eqb w (l .last)) ≡ false) where
     -- a live window has a number that was given
     live-given : live l w ≡ true → (1 ≤ w) × (w ≤ l .last)
-    live-given e = (by-test (eqb w 0) (λ y. absurd (true≢false (sym e ∙ not-live l w (λ n. ap (l .count n) (eqb-true w 0 y) ∙ k .lawful .nought n)))) (λ d. let z = eqb-false w 0 d in omega arith),
-      by-test (ltb (l .last) w) (λ y. absurd (true≢false (sym e ∙ not-live l w (λ n. k .lawful .unborn n w (ltb-true (l .last) w y))))) (λ d. ltb-false (l .last) w d))
+    live-given e = (
+      by-test (eqb w 0) (λ y. absurd (true≢false (sym e ∙ not-live l w (λ n. ap (l .count n) (eqb-true w 0 y) ∙ k .lawful .nought n)))) (λ d. let z = eqb-false w 0 d in omega arith),
+      by-test (ltb (l .last) w) (λ y. absurd (true≢false (sym e ∙ not-live l w (λ n. k .lawful .unborn n w (ltb-true (l .last) w y))))) (λ d. ltb-false (l .last) w d),
+    )
 
     -- one that is not open is counted beside the open one
     beside : live l w ≡ true → openCounted (listsOf l a) < existing l

@@ -126,14 +126,14 @@ module _ (entries : ℕ) (l : Ledger) (s : Lawful entries l) (n : Name) (good : 
     good = unfold counts in every-including goodLength (l .identifiers) n (s .good) good;
     once = unfold counts in distinct-including (l .identifiers) n (s .once);
     uncounted = unfold counts in (λ m w e.
-      let d = or-none (among m (l .identifiers)) _ (sym (among-including (l .identifiers) n m) ∙ e) in
-      more-other l n m w (rw (d .1)) ∙ s .uncounted m w (d .0));
+        let d = or-none (among m (l .identifiers)) _ (sym (among-including (l .identifiers) n m) ∙ e) in
+        more-other l n m w (rw (d .1)) ∙ s .uncounted m w (d .0));
     unborn = unfold counts in (λ m w h. more-elsewhere l n m w (λ q. omega arith) ∙ s .unborn m w h);
     nought = unfold counts in (λ m. more-elsewhere l n m 0 (λ q. omega (arith, s .given o)) ∙ s .nought m);
     bounded = unfold counts in bound;
     held = λ w. by-test (eqb (l .last) w)
-      (λ y. rw (← eqb-true (l .last) w y, counted-here) listed-fit)
-      (λ z. rw (counted-elsewhere w (eqb-false (l .last) w z)) (s .held w));
+        (λ y. rw (← eqb-true (l .last) w y, counted-here) listed-fit)
+        (λ z. rw (counted-elsewhere w (eqb-false (l .last) w z)) (s .held w));
     shut = unfold counts in (λ p. absurd (true≢false (sym o ∙ p)));
     untouched = unfold counts in (λ p e. absurd (omega arith));
     touched = touch;

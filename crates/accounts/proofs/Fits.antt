@@ -49,12 +49,14 @@ cost-replaced (v ∷ vs) ps R =
     let k = placeOf levelOf v ps in
     let ins = take (dueAt v) (drop k ps) in
     let back = drop (dueAt v) (drop k ps) in
-    omega (arith,
-    cost-append (take k ps) (R ++ back),
-    cost-append R back,
-    cost-append (take k ps) (ins ++ back),
-    cost-append ins back,
-    ap cost (parted levelOf v ps))
+    omega (
+      arith,
+      cost-append (take k ps) (R ++ back),
+      cost-append R back,
+      cost-append (take k ps) (ins ++ back),
+      cost-append ins back,
+      ap cost (parted levelOf v ps),
+    )
 
 -- ---- the card is never overfull
 

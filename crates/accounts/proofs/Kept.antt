@@ -108,8 +108,12 @@ module _ (blocks entries : ℕ) where
       -- the event's number is one of the register's
       pub event-number : numberOf (l .identifiers) n < entries
       event-number =
-          omega (arith, identifiers-fit entries l (k .lawful) n good o six eight nine,
-          number-there (including (l .identifiers) n) n (among-itself (l .identifiers) n), number-including (l .identifiers) n)
+          omega (
+            arith,
+            identifiers-fit entries l (k .lawful) n good o six eight nine,
+            number-there (including (l .identifiers) n) n (among-itself (l .identifiers) n),
+            number-including (l .identifiers) n,
+          )
 
       event-ranged : every (storedRule (top (counts l n))) (once l n ∷ []) ≡ true
       event-ranged =
@@ -119,11 +123,11 @@ module _ (blocks entries : ℕ) where
       kept-counts room = record {
         lawful = lawful-counts entries l (k .lawful) n good o six eight nine;
         sums = λ i v. sum-added (once l n ∷ []) a i v ∙ ap (λ z. sum (once l n ∷ []) i v +ℤ z) (k .sums i v)
-          ∙ one-more i v ∙ ap pos (sym (number-counts entries l (k .lawful) n good i v));
+            ∙ one-more i v ∙ ap pos (sym (number-counts entries l (k .lawful) n good i v));
         shaped = shaped-added (once l n ∷ []) a (k .shaped) room;
         fits = fits-added blocks (once l n ∷ []) a (k .fits);
         ranged = ranged-added (top (counts l n)) (once l n ∷ []) a event-ranged
-          (ranged-up (top l) (top (counts l n)) (omega (arith, top-le l, top-counts l n)) (storedIn a) (k .ranged));
+            (ranged-up (top l) (top (counts l n)) (omega (arith, top-le l, top-counts l n)) (storedIn a) (k .ranged));
         behind = behind-counts entries l (k .lawful) n good a (once l n ∷ []) (k .behind);
       }
         where
@@ -140,7 +144,7 @@ module _ (blocks entries : ℕ) where
     kept-removes w other room = record {
       lawful = lawful-removes entries l (k .lawful) w other;
       sums = λ i v. ap (λ ps. sum (storedIn (addedTo ps a)) i v) (sym back) ∙ sum-removed w a a (λ j u. refl) i v
-        ∙ ap (λ z. cond (eqb w v) (pos 0) z) (k .sums i v) ∙ out (eqb w v) (byNumber l i v) ∙ ap pos (sym (number-removes l w i v));
+          ∙ ap (λ z. cond (eqb w v) (pos 0) z) (k .sums i v) ∙ out (eqb w v) (byNumber l i v) ∙ ap pos (sym (number-removes l w i v));
       shaped = shaped-added (takenBack l w) a (k .shaped) room;
       fits = fits-added blocks (takenBack l w) a (k .fits);
       ranged = rw (top-removes l w) (ranged-added (top l) (takenBack l w) a (subst (λ ps. every (storedRule (top l)) ps ≡ true) back (ranged-back (top l) w (storedIn a) (k .ranged))) (k .ranged));

@@ -119,10 +119,11 @@ module _ (a : Account) (s : Shaped a) where
       let same = portion-level a v vs e in
       let low : every (λ p. leb (levelOf p) 5) (portionOf a) ≡ true =
       every-from (λ p. eqb (levelOf p) (nextLevel v)) (λ p. eqb (levelOf p) (nextLevel v)) (λ p. leb (levelOf p) 5)
-      (λ p y z. let q = eqb-true (levelOf p) (nextLevel v) y in le-leb (levelOf p) 5 (omega (arith, next-low v (f .0)))) (portionOf a) same same in
-      (every-replaced levelOf (λ p. leb (levelOf p) 5) (dueOf a) (a .partitions) (portionOf a) (s .low) low,
-      subst (λ us. withinLimits (replaced levelOf us (a .partitions) (portionOf a)) ≡ true) (sym e) (replaced-limits levelOf v vs (a .partitions) (portionOf a) (s .fall) e (portion-one a) same (s .limits)),
-      subst (λ us. falls levelOf (replaced levelOf us (a .partitions) (portionOf a)) ≡ true) (sym e) (replaced-falls levelOf v vs (a .partitions) (portionOf a) (s .fall) (f .1) (portion-one a) same))
+      (λ p y z. let q = eqb-true (levelOf p) (nextLevel v) y in le-leb (levelOf p) 5 (omega (arith, next-low v (f .0)))) (portionOf a) same same in (
+        every-replaced levelOf (λ p. leb (levelOf p) 5) (dueOf a) (a .partitions) (portionOf a) (s .low) low,
+        subst (λ us. withinLimits (replaced levelOf us (a .partitions) (portionOf a)) ≡ true) (sym e) (replaced-limits levelOf v vs (a .partitions) (portionOf a) (s .fall) e (portion-one a) same (s .limits)),
+        subst (λ us. falls levelOf (replaced levelOf us (a .partitions) (portionOf a)) ≡ true) (sym e) (replaced-falls levelOf v vs (a .partitions) (portionOf a) (s .fall) (f .1) (portion-one a) same),
+      )
 
   pub shaped-stepped : Shaped (steppedAccount a)
   shaped-stepped = record {

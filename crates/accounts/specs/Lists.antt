@@ -121,7 +121,7 @@ onceOf e n = record { id = numberOf (e .names) n; window = e .windows .current; 
 unfoldable pub countedLists : Lists → Name → Account → Lists
 countedLists e n a = record {
   windows =
-    record { last = e .windows .last; live = cond (eqb (e .windows .events) 0) (suc (e .windows .live)) (e .windows .live); current = e .windows .current; events = suc (e .windows .events) };
+      record { last = e .windows .last; live = cond (eqb (e .windows .events) 0) (suc (e .windows .live)) (e .windows .live); current = e .windows .current; events = suc (e .windows .events) };
   names = cond (isNew e n) (e .names ++ (n ∷ [])) (e .names);
   listed = cond (elem (numberOf (e .names) n) (e .listed)) (e .listed) (e .listed ++ (numberOf (e .names) n ∷ []));
   account = record { buffer = put (onceOf e n) (a .buffer); partitions = a .partitions; steps = a .steps };

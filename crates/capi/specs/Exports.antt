@@ -15,6 +15,7 @@ use Rattle.state.specs.Probe.{Store, Probe}
 use Rattle.identifiers.specs.Names.{Name}
 use Rattle.windows.specs.Promises.{storeOf, probeOf}
 use Rattle.windows.specs.Calls.{startOf, unstarted, openOf, closeOf, eventOf, flushOf}
+use Rattle.removals.specs.Removal.{removeOf}
 use Rattle.images.specs.Images.{imageOf, stateIn, imageRule}
 
 -- the bytes that a call is lent: a state's image with a card, or with both buffers
@@ -80,6 +81,9 @@ eventOn l n = refuseIf (not (imageRule (l .image))) 1 (carry imagedProbe (eventO
 
 unfoldable pub flushOn : Carded → Outcome Carded
 flushOn l = refuseIf (not (imageRule (l .image))) 1 (carry imagedStore (flushOf (storeOf (stateOn (l .image)) (l .card))))
+
+unfoldable pub removeOn : Carded → ℕ → Outcome Carded
+removeOn l w = refuseIf (not (imageRule (l .image))) 1 (carry imagedStore (removeOf (storeOf (stateOn (l .image)) (l .card)) w))
 
 -- the image after a call: the new state's where it is done, else as it was
 abbrev pub settledOn : Reply → State → List ℕ → List ℕ

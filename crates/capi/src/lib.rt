@@ -1,17 +1,24 @@
 // The engine's functions for callers in C and Rust: numbers and byte slices alone. A state is lent as its byte image.
+use answers::Found;
 use answers::Opened;
 use answers::Refusal;
 use answers::Reply;
+use queries::Top;
 use state::State;
 ghost use mathlib.Core.Bool.{cond, _&&_};
+ghost use mathlib.Core.List.{List, map};
 ghost use mathlib.Core.Path.{_≡_};
-ghost use Prim.Native.Nat.{_≤_};
+ghost use Prim.Native.Nat.{ℕ, _*_, _≤_};
 ghost use lib.Dec.{leb};
 ghost use lib.ListN.{length};
-ghost use Rattle.answers.specs.Numbers.{refusalNumber, replied, openedAs};
+ghost use Rattle.words.specs.Words.{words as wordsOf};
+ghost use Rattle.answers.specs.declared.Found.the-variants as found;
+ghost use Rattle.answers.specs.Numbers.{refusalNumber, replied, openedAs, foundAs};
 ghost use Rattle.identifiers.specs.Register.{registerRule};
 ghost use Rattle.windows.specs.Promises.{Gives};
-ghost use Rattle.capi.specs.Exports.{cardedOf, lentOf, repliedBy, openedBy, startOn, unstartedOn, openOn, closeOn, eventOn, flushOn, settledOn, openedOn};
+ghost use Rattle.queries.specs.Top.{listedHits};
+ghost use Rattle.capi.specs.Exports.{cardedOf, lentOf, repliedBy, openedBy, startOn, unstartedOn, openOn, closeOn, eventOn, flushOn, removeOn, settledOn, openedOn};
+ghost use Rattle.capi.specs.Queries.{hitsIn, hitBytes, foundBy, queryOn};
 
 // Is a register well formed? 1 where it is; 0 where it is not, or has more than 1,024 entries.
 #[no_mangle]
@@ -157,6 +164,69 @@ pub extern "C" fn gemsilver_flush(image: &mut [u8], card: &mut [u8]) -> u32
     }
     let s = images::read_state(image);
     let r = engine::flush(s, card);
+    let reply = r.reply;
+    settle(image, reply, r.state)
+}
+
+// The hits into lent bytes, two words each.
+fn put_hits(hits: &mut [u8], t: Top)
+    requires { ⌜ (t .used ≤ 32) × (8 * t .used ≤ length (now hits)) ⌝ }
+    ensures { λ r. ⌜ (now (hits .exit) ≡ hitBytes (now (hits .entry)) (listedHits t)) × (length (t .hits) ≡ 32) ⌝ }
+{
+    let n = t.used as usize;
+    let mut i: usize = 0;
+    while i < n {
+        let h = t.hits[i];
+        words::put_word(hits, 2 * i, h.window as u32);
+        words::put_word(hits, 2 * i + 1, h.score);
+        i += 1;
+    }
+}
+
+// The number of a query's answer.
+fn found_number(answer: Found) -> u64
+    requires { ⌜ ((n taken : ℕ) → answer ≡ found.Hits n taken → n ≤ 32) ⌝ }
+    ensures { λ r. ⌜ ((lent : List ℕ) → foundBy r lent ≡ foundAs answer (hitsIn (wordsOf lent))) ⌝ }
+{
+    match answer {
+        Found::Refused(why) => number_of(why) as u64,
+        Found::Hits(n, taken) => 256 * n as u64 + 65536 * taken as u64,
+    }
+}
+
+// The windows that match best, in the lent bytes. A refusal's number, or 256 times how many there are and 65,536 times the postings taken.
+#[no_mangle]
+pub extern "C" fn gemsilver_query(
+    image: &[u8],
+    card: &[u8],
+    register: &[u8],
+    ids: &[&[u8]],
+    hits: &mut [u8],
+) -> u64
+    ensures { λ r. ⌜ Gives (now (hits .entry)) (queryOn (lentOf (now (image .entry)) (now (card .entry)) (now (register .entry))) (map now (now (ids .entry))) (now (hits .entry)))
+        (foundBy r (now (hits .exit))) (now (hits .exit)) ⌝ }
+{
+    if !images::image_ok(image) {
+        return 1;
+    }
+    let s = images::read_state(image);
+    let r = queries::search(s, card, register, ids, hits.len() / 8);
+    put_hits(hits, r.top);
+    let answer = r.answer;
+    found_number(answer)
+}
+
+// A window is removed.
+#[no_mangle]
+pub extern "C" fn gemsilver_remove(image: &mut [u8], card: &mut [u8], window: u32) -> u32
+    ensures { λ r. ⌜ Gives (cardedOf (now (image .entry)) (now (card .entry))) (removeOn (cardedOf (now (image .entry)) (now (card .entry))) window)
+        (repliedBy r) (cardedOf (now (image .exit)) (now (card .exit))) ⌝ }
+{
+    if !images::image_ok(image) {
+        return 1;
+    }
+    let s = images::read_state(image);
+    let r = removals::remove(s, card, window);
     let reply = r.reply;
     settle(image, reply, r.state)
 }

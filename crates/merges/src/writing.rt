@@ -1,6 +1,6 @@
 // What a step that is not refused writes, and the state that it leaves.
-use super::listing;
 use super::Output;
+use super::listing;
 use inputs::Batch;
 use inputs::Totals;
 use state::MergeJob;

@@ -82,12 +82,13 @@ returns c =
     let head = c .before .before .before .before .before .before .before .before .before .seek in
     let space = c .before .before .before .before .before .before .before .before .rest-free .ensures in
     let rest = c .before .before .before .before .rest-free2 .ensures in
-    let b = c .before .before .before .sixteen .ensures in
-    (c .before .both2 .ensures ∙ ap₂ _&&_ (c .before .before .both .ensures ∙ ap₂ _&&_ space refl) rest
-    ∙ draft-read W (s .args .first) (s .args .n) (s .args .front) (s .args .passed) ps (s .pre .3) (s .pre .5) (ahead W (head .result)) (ahead W (out .result)) (ahead W (p .result .out)) (p .result .same) (head .ensures .0) (out .ensures .0) m,
-    ap (λ k. 1023 * s .args .n - s .args .front - k) (sym (length-ahead W (p .result .out))) ∙ w .1,
-    b .0 ∙ ap (λ l. nonzero (take 16 l)) (p .ensures .1 ∙ ap (drop (s .args .passed)) e),
-    b .2)
+    let b = c .before .before .before .sixteen .ensures in (
+      c .before .both2 .ensures ∙ ap₂ _&&_ (c .before .before .both .ensures ∙ ap₂ _&&_ space refl) rest
+          ∙ draft-read W (s .args .first) (s .args .n) (s .args .front) (s .args .passed) ps (s .pre .3) (s .pre .5) (ahead W (head .result)) (ahead W (out .result)) (ahead W (p .result .out)) (p .result .same) (head .ensures .0) (out .ensures .0) m,
+      ap (λ k. 1023 * s .args .n - s .args .front - k) (sym (length-ahead W (p .result .out))) ∙ w .1,
+      b .0 ∙ ap (λ l. nonzero (take 16 l)) (p .ensures .1 ∙ ap (drop (s .args .passed)) e),
+      b .2,
+    )
 
 pub read-draft-spec : {M : Type 1} → statement M
 read-draft-spec =

@@ -1,0 +1,225 @@
+-- A lent list of hits as bytes: filling its first places.
+use mathlib.Core.Bool.{Bool, true, false}
+use mathlib.Core.List.{List, [], _∷_, _++_, map, append-assoc, append-nil, map-append}
+use mathlib.Core.Path.{_≡_, refl, sym, ap, ap₂, _∙_}
+use Prim.Native.Nat.{ℕ, zero, suc, _+_, _*_, _/_, _%_, _<_, _≤_}
+use native.Mathlib.Nat.{zero-add}
+use native.Mathlib.Numerals.{add-one}
+use native.Mathlib.Omega.{arith}
+use lib.ListN.{length, getD, set, take, drop, length-append, length-drop, drop-of-length-le}
+use lib.Seq.{sets, sets-eq, take-all, take-at, drop-drop, drop-cons, length-take-le}
+use Rattle.lists.specs.Lists.{joined}
+use Rattle.lists.proofs.Ranges.{length-joined}
+use Rattle.lists.proofs.Stores.{joined-append}
+use Rattle.words.specs.Words.{joined4, words, bytes, Below}
+use Rattle.words.proofs.Views.{apart, length-words, length-bytes, words-drop, words-append, words-bytes}
+use Rattle.answers.specs.declared.Hit.{Hit}
+use Rattle.answers.specs.declared.Refusal.{Refusal}
+use Rattle.answers.specs.declared.Refusal.the-variants.{BrokenState, WrongLength, Malformed, BadIdentifier, OutOfTurn, Exhausted, NotLive, RegisterFull, WindowFull, LevelFull, HalfFull, TooFewFree, NothingDue, BadQuery}
+use Rattle.answers.specs.declared.Found.{Found}
+use Rattle.answers.specs.declared.Found.the-variants as found
+use Rattle.answers.specs.Answers.{hits, refused, carry}
+use Rattle.answers.specs.Numbers.{refusalNumber, foundAs}
+use Rattle.state.specs.Probe.{Probe}
+use Rattle.identifiers.specs.Names.{Name}
+use Rattle.windows.specs.Promises.{Gives}
+use Rattle.queries.specs.declared.Top.{Top}
+use Rattle.queries.specs.Query.{fill, queryOf}
+use Rattle.queries.specs.Top.{listedHits}
+use Rattle.queries.specs.Finds.{Finds}
+use Rattle.queries.proofs.Outcomes.{found-filled}
+use Rattle.capi.specs.Queries.{hitWords, hitsIn, hitBytes, foundBy}
+use Rattle.capi.proofs.Carried.{carried}
+
+-- Bytes --------------------------------------------------------------------------------------------------------------
+
+-- bytes of words one after another
+bytes-append : (a b : List ℕ) → bytes (a ++ b) ≡ bytes a ++ bytes b
+unfolding bytes
+bytes-append [] b = refl
+bytes-append (w ∷ a) b = rw (bytes-append a b)
+
+-- the bytes of the first words of a list, and the bytes past them, are the list
+pub part : (n : ℕ) (b : List ℕ) → Below 256 b → n ≤ length (words b) → bytes (take n (words b)) ++ drop (4 * n) b ≡ b
+unfolding words bytes
+part zero b h l = refl
+part (suc n) [] h l = absurd (omega arith)
+part (suc n) (x ∷ []) h l = absurd (omega arith)
+part (suc n) (x ∷ y ∷ []) h l = absurd (omega arith)
+part (suc n) (x ∷ y ∷ z ∷ []) h l = absurd (omega arith)
+part (suc n) (x ∷ y ∷ z ∷ w ∷ r) h l =
+    let e = apart x y z w (h 0) (h 1) (h 2) (h 3) in
+    let k : 4 * suc n ≡ suc (suc (suc (suc (4 * n)))) = omega arith in
+    rw (k, e .0, e .1, e .2, e .3, part n r (λ i. h (suc (suc (suc (suc i))))) (omega arith))
+
+-- so are the bytes of all words, and the up to three past them
+pub whole : (b : List ℕ) → Below 256 b → bytes (words b) ++ drop (4 * length (words b)) b ≡ b
+whole b h = rw (take-all (length (words b)) (words b) (omega arith)) at (part (length (words b)) b h (omega arith))
+
+below-drop : (n : ℕ) (b : List ℕ) → Below 256 b → Below 256 (drop n b)
+below-drop zero b h = h
+below-drop (suc n) [] h = h
+below-drop (suc n) (x ∷ b) h = below-drop n b (λ i. h (suc i))
+
+-- Hits ---------------------------------------------------------------------------------------------------------------
+
+-- how many hits words hold
+pub length-hits : (ws : List ℕ) → length (hitsIn ws) ≡ length ws / 2
+length-hits [] = refl
+length-hits (w ∷ []) = refl
+length-hits (w ∷ s ∷ ws) = let h = length-hits ws in omega arith
+
+-- hits past the first n
+hits-drop : (n : ℕ) (ws : List ℕ) → drop n (hitsIn ws) ≡ hitsIn (drop (2 * n) ws)
+hits-drop zero ws = refl
+hits-drop (suc n) [] = let k : 2 * suc n ≡ suc (suc (2 * n)) = omega arith in rw k
+hits-drop (suc n) (w ∷ []) = let k : 2 * suc n ≡ suc (suc (2 * n)) = omega arith in rw k
+hits-drop (suc n) (w ∷ s ∷ ws) = let k : 2 * suc n ≡ suc (suc (2 * n)) = omega arith in rw k (hits-drop n ws)
+
+-- the words of the hits of words
+hits-words : (ws : List ℕ) → joined (map hitWords (hitsIn ws)) ≡ take (2 * length (hitsIn ws)) ws
+hits-words [] = refl
+hits-words (w ∷ []) = refl
+hits-words (w ∷ s ∷ ws) =
+    let k : 2 * suc (length (hitsIn ws)) ≡ suc (suc (2 * length (hitsIn ws))) = omega arith in
+    rw k (rw (hits-words ws))
+
+-- hits read from words that hits were written to
+pub hits-written : (hs : List Hit) (ws : List ℕ) → hitsIn (joined (map hitWords hs) ++ ws) ≡ hs ++ hitsIn ws
+hits-written [] ws = refl
+hits-written (h ∷ hs) ws = rw (hits-written hs ws)
+
+-- the hits that bytes hold, as bytes with what is past them, are these bytes
+pub hits-back : (b : List ℕ) → Below 256 b → hitBytes b (hitsIn (words b)) ≡ b
+unfolding hitBytes
+hits-back b h =
+    let k = length (hitsIn (words b)) in
+    let e : 8 * k ≡ 4 * (2 * k) = omega arith in
+    rw (e, hits-words (words b)) (part (2 * k) b h (omega (arith, length-hits (words b))))
+
+-- the words past the places of n hits
+words-past : (n : ℕ) (b : List ℕ) → words (drop (8 * n) b) ≡ drop (2 * n) (words b)
+words-past n b = let e : 8 * n ≡ 4 * (2 * n) = omega arith in rw e (words-drop (2 * n) b)
+
+-- a list filled from its beginning has the hits there and its own places after them
+pub filled-bytes : (b : List ℕ) → Below 256 b → (hs : List Hit) → 8 * length hs ≤ length b → hitBytes b (fill hs (hitsIn (words b))) ≡ hitBytes b hs
+unfolding hitBytes
+filled-bytes b h hs l =
+    let u = length hs in
+    let c = drop (8 * u) b in
+    let X = drop u (hitsIn (words b)) in
+    let same : X ≡ hitsIn (words c) = hits-drop u (words b) ∙ ap hitsIn (sym (words-past u b)) in
+    let k : 8 * length (hs ++ X) ≡ 8 * u + 8 * length X = omega (arith, length-append hs X) in
+    let past : drop (8 * u + 8 * length X) b ≡ drop (8 * length X) c = sym (drop-drop (8 * length X) (8 * u) b) in
+    let back : bytes (joined (map hitWords X)) ++ drop (8 * length X) c ≡ c = rw same (hits-back c (below-drop (8 * u) b h)) in
+    rw (joined-append hitWords hs X, bytes-append (joined (map hitWords hs)) (joined (map hitWords X)), k, past)
+    (append-assoc (bytes (joined (map hitWords hs))) (bytes (joined (map hitWords X))) (drop (8 * length X) c)
+    ∙ ap (λ (r : List ℕ). bytes (joined (map hitWords hs)) ++ r) back)
+
+-- hits take two words each
+pub length-written : (hs : List Hit) → length (joined (map hitWords hs)) ≡ 2 * length hs
+length-written hs = length-joined hitWords 2 (λ h. refl) hs
+
+-- words set from the first on are these and then the words past them
+sets-front : (ws xs : List ℕ) → length xs ≤ length ws → sets ws 0 xs ≡ xs ++ drop (length xs) ws
+sets-front ws xs l = sets-eq xs ws 0 (omega arith) ∙ ap (λ (k : ℕ). xs ++ drop k ws) (zero-add (length xs))
+
+-- words set from the first on, with the same bytes past the last word, are the bytes of a filled list
+pub put-bytes : (b c : List ℕ) → Below 256 b → Below 256 c → (hs : List Hit) → 8 * length hs ≤ length b → length c ≡ length b
+    → words c ≡ sets (words b) 0 (joined (map hitWords hs)) → drop (4 * length (words b)) c ≡ drop (4 * length (words b)) b → c ≡ hitBytes b hs
+unfolding hitBytes
+put-bytes b c hb hc hs l e s r =
+    let u = length hs in
+    let H = joined (map hitWords hs) in
+    let d = drop (8 * u) b in
+    let n = length (words b) in
+    let lw : length (words c) ≡ n = omega (arith, length-words c, length-words b) in
+    let lh : length H ≡ 2 * u = length-written hs in
+    let ws : words c ≡ H ++ words d = s ∙ sets-front (words b) H (omega (arith, length-words b)) ∙ ap (λ (k : ℕ). H ++ drop k (words b)) lh ∙ ap (λ (y : List ℕ). H ++ y) (sym (words-past u b)) in
+    let on : 4 * n ≡ 8 * u + 4 * length (words d) = omega (arith, length-words b, length-words d, length-drop (8 * u) b) in
+    let past : drop (4 * n) b ≡ drop (4 * length (words d)) d =
+    ap (λ (k : ℕ). drop k b) on ∙ sym (drop-drop (4 * length (words d)) (8 * u) b) in
+    sym (whole c hc)
+    ∙ ap₂ (λ (x : List ℕ) (y : List ℕ). x ++ y) (ap bytes ws ∙ bytes-append H (words d)) (ap (λ (k : ℕ). drop (4 * k) c) lw ∙ r ∙ past)
+    ∙ append-assoc (bytes H) (bytes (words d)) (drop (4 * length (words d)) d)
+    ∙ ap (λ (y : List ℕ). bytes H ++ y) (whole d (below-drop (8 * u) b hb))
+
+-- Written one after another -------------------------------------------------------------------------------------------
+
+-- one hit more
+pub hits-turn : (W : List ℕ) (hs : List Hit) (i : ℕ) (d : Hit) → i < length hs
+    → sets W (2 * i) (joined (map hitWords (drop i hs))) ≡ sets (set (set W (2 * i) (getD hs i d .window)) (2 * i + 1) (getD hs i d .score)) (2 * (i + 1)) (joined (map hitWords (drop (i + 1) hs)))
+hits-turn W hs i d l =
+    let b : 2 * suc i ≡ suc (suc (2 * i)) = omega arith in
+    rw (drop-cons hs i d l, add-one i, add-one (2 * i), b)
+
+-- none is left
+pub hits-end : (W : List ℕ) (hs : List Hit) (i : ℕ) → length hs ≤ i → sets W (2 * i) (joined (map hitWords (drop i hs))) ≡ W
+hits-end W hs i l = rw (drop-of-length-le hs l)
+
+-- The query ----------------------------------------------------------------------------------------------------------
+
+-- the places of lent bytes
+pub places-of : (b : List ℕ) → length (hitsIn (words b)) ≡ length b / 8
+places-of b = omega (arith, length-hits (words b), length-words b)
+
+-- the number of an answer, whatever the list is
+pub number-hits : (n taken : ℕ) (l : List ℕ) → n ≤ 32 → foundBy (256 * n + 65536 * taken) l ≡ hits (take n (hitsIn (words l))) taken
+number-hits n taken l h =
+    let a : (256 * n + 65536 * taken) % 256 ≡ 0 = omega arith in
+    let d : (256 * n + 65536 * taken) / 256 ≡ n + 256 * taken = omega arith in
+    let b : (256 * n + 65536 * taken) / 256 % 256 ≡ n = rw d (omega arith) in
+    let c : (256 * n + 65536 * taken) / 65536 ≡ taken = omega arith in
+    rw (a, b, c)
+
+pub number-refusal : (why : Refusal) (l : List ℕ) → foundBy (refusalNumber why) l ≡ refused (refusalNumber why)
+number-refusal BrokenState l = refl
+number-refusal WrongLength l = refl
+number-refusal Malformed l = refl
+number-refusal BadIdentifier l = refl
+number-refusal OutOfTurn l = refl
+number-refusal Exhausted l = refl
+number-refusal NotLive l = refl
+number-refusal RegisterFull l = refl
+number-refusal WindowFull l = refl
+number-refusal LevelFull l = refl
+number-refusal HalfFull l = refl
+number-refusal TooFewFree l = refl
+number-refusal NothingDue l = refl
+number-refusal BadQuery l = refl
+
+-- the words of filled bytes
+words-filled : (b : List ℕ) (hs : List Hit) → words (hitBytes b hs) ≡ joined (map hitWords hs) ++ words (drop (8 * length hs) b)
+unfolding hitBytes
+words-filled b hs =
+    let H = joined (map hitWords hs) in
+    words-append (bytes H) (drop (8 * length hs) b) (omega (arith, length-bytes H)) ∙ ap (λ (w : List ℕ). w ++ words (drop (8 * length hs) b)) (words-bytes H)
+
+-- what is listed of filled bytes is what was filled in
+pub listed-back : (b : List ℕ) (hs : List Hit) → take (length hs) (hitsIn (words (hitBytes b hs))) ≡ hs
+listed-back b hs =
+    rw (words-filled b hs, hits-written hs (words (drop (8 * length hs) b))) (take-at hs (hitsIn (words (drop (8 * length hs) b))) (length hs) refl)
+
+-- the answer of filled bytes is that of the hits beside it
+found-same : (p : Probe) (ns : List Name) (k : ℕ) (a : Found) (t : Top) (b : List ℕ) → length (t .hits) ≡ 32 → Finds p ns k a t
+    → foundAs a (hitsIn (words (hitBytes b (listedHits t)))) ≡ foundAs a (t .hits)
+found-same p ns k (found.Refused why) t b long v = refl
+found-same p ns k (found.Hits n taken) t b long v =
+    let e : n ≡ t .used = v .used n taken refl in
+    let l : length (listedHits t) ≡ t .used = length-take-le (t .used) (t .hits) (omega (arith, v .most)) in
+    let m : n ≡ length (listedHits t) = e ∙ sym l in
+    let x : take n (hitsIn (words (hitBytes b (listedHits t)))) ≡ listedHits t = ap (λ (j : ℕ). take j (hitsIn (words (hitBytes b (listedHits t))))) m ∙ listed-back b (listedHits t) in
+    let y : take n (t .hits) ≡ listedHits t = ap (λ (j : ℕ). take j (t .hits)) e in
+    ap (λ (h : List Hit). hits h taken) (x ∙ sym y)
+
+-- a search promises the exported query
+pub on-query : (p : Probe) (ns : List Name) (b : List ℕ) → Below 256 b → (a : Found) (t : Top) → length (t .hits) ≡ 32 → Finds p ns (length b / 8) a t
+    → Gives b (carry (hitBytes b) (queryOf p ns (hitsIn (words b)))) (foundAs a (hitsIn (words (hitBytes b (listedHits t))))) (hitBytes b (listedHits t))
+on-query p ns b h a t long v =
+    let places = hitsIn (words b) in
+    let w : Finds p ns (length places) a t = rw (places-of b) v in
+    let f = found-filled p ns places a t w in
+    let l : length (listedHits t) ≡ t .used = length-take-le (t .used) (t .hits) (omega (arith, v .most)) in
+    let same = filled-bytes b h (listedHits t) (omega (arith, v .fits)) in
+    rw (found-same p ns (length b / 8) a t b long v, ← same)
+    (carried (hitBytes b) places b (hits-back b h) (queryOf p ns places) (foundAs a (t .hits)) (fill (listedHits t) places) (record { answer = f .0; left = f .1 }))

@@ -1,0 +1,61 @@
+-- `capi::gemsilver_query` meets its contract. Assumes nothing.
+use mathlib.Core.Bool.{not}
+use mathlib.Core.List.{map}
+use mathlib.Core.Path.{sym, ap, _∙_}
+use native.Mathlib.Omega.{arith}
+use borrow.Author.Tests.{not-false}
+use denote.Ref.{now}
+use Rattle.windows.specs.Promises.{probeOf}
+use Rattle.windows.proofs.Outcomes.{stopped, passed}
+use Rattle.capi.specs.Exports.{stateOn}
+use Rattle.capi.specs.Queries.{queryOn}
+use Rattle.capi.proofs.Places.{on-query}
+use borrow.Author.Needs.{needs}
+use Rattle.capi.proofs.gemsilver_query.Statement.{statement}
+use Rattle.capi.proofs.gemsilver_query.Tie as tie
+
+image-ok-requires : tie.Need-image-ok-requires
+image-ok-requires c κs = search needs
+
+returns : tie.Need-returns
+unfolding queryOn
+returns c = stopped _ 1 _ (ap not (sym (c .before .image-ok .ensures)) ∙ c .if1 .taken)
+
+read-state-requires : tie.Need-read-state-requires
+read-state-requires c κs = sym (c .before .image-ok .ensures) ∙ not-false _ (c .if1 .left)
+
+search-requires : tie.Need-search-requires
+search-requires c κs = search needs
+
+put-hits-requires : tie.Need-put-hits-requires
+put-hits-requires c κs = search needs
+
+found-number-requires : tie.Need-found-number-requires
+found-number-requires c κs = λ n taken e. let v = c .before .before .before .before .search .ensures in omega (arith, v .used n taken e, v .most)
+
+same-length : tie.Need-same-length
+same-length c = search needs
+
+returns-2 : tie.Need-returns-2
+unfolding queryOn
+returns-2 c =
+    let s = c .before .before .before .before .before .before .before .before .before .before .before .before .before .args in
+    let read = c .before .before .before .before .before .before .read-state .ensures in
+    let r = c .before .before .before .before .before .search in
+    let w = c .before .before .before .put-hits .ensures in
+    let g = on-query (probeOf (stateOn (s .image .now)) (s .card .now) (s .register .now)) (map now (now (s .ids))) (s .hits .now) (λ i. omega (arith, c .before .before .before .before .before .before .before .before .before .slice-known .given i)) (r .result .answer) (r .result .top) (w .1) (rw read at (r .ensures)) in
+    passed _ 1 _ (ap not (sym (c .before .before .before .before .before .before .before .before .image-ok .ensures)) ∙ c .before .before .before .before .before .before .before .if1 .left)
+    (rw (c .found-number .ensures (c .before .before .before .put-hits .last .0), w .0) g)
+
+pub gemsilver-query-spec : {M : Type 1} → statement M
+gemsilver-query-spec =
+    tie.close
+    (tie.spec
+    image-ok-requires
+    returns
+    read-state-requires
+    search-requires
+    put-hits-requires
+    found-number-requires
+    same-length
+    returns-2)
