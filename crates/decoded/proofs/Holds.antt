@@ -1,0 +1,110 @@
+-- What a state and the words of its card hold: lists of postings, window numbers, and the steps of the merge in progress.
+use mathlib.Core.Bool.{Bool, true, false, _||_, _&&_, not, cond}
+use mathlib.Core.List.{List, [], _∷_, _++_, map}
+use mathlib.Core.Path.{_≡_, refl, sym, ap, ap₂, _∙_, subst}
+use Prim.Native.Nat.{ℕ, zero, suc, _+_, _*_, _<_, _≤_}
+use native.Mathlib.Omega.{arith}
+use lib.Dec.{eqb, ltb, leb}
+use lib.ListN.{length}
+use borrow.Author.Tests.{eqb-true}
+use Rattle.lists.specs.Lists.{every, elem, joined}
+use Rattle.lists.proofs.Bools.{by-test, and-left, and-right}
+use Rattle.words.specs.Words.{words}
+use Rattle.postings.specs.declared.Posting.{Posting}
+use Rattle.postings.specs.Merge.{pairs}
+use Rattle.state.specs.declared.Partition.{Partition}
+use Rattle.state.specs.declared.State.{State}
+use Rattle.state.specs.Views.{noMerge, blocks, buffered, finished, listedOf, bufferOf, partitionsOf}
+use Rattle.state.specs.Levels.{dueLevels, oldest}
+use Rattle.state.specs.Rules.{lengthsRule}
+use Rattle.state.specs.Probe.{Probe}
+use Rattle.state.proofs.Forms.{held}
+use Rattle.identifiers.specs.Register.{names, registerRule}
+use Rattle.card.specs.Blocks.{isFree}
+use Rattle.partitions.specs.Layout.{lengthOf}
+use Rattle.partitions.specs.Reading.{postingsOf, inPartitions, stored}
+use Rattle.partitions.specs.Formed.{chainsOf, partitionsFormed}
+use Rattle.merges.specs.Merging.{dueIn, inputs, taking}
+use Rattle.merges.specs.Step.{inProgress, outputChain, outputRule}
+use Rattle.accounts.specs.Account.{Portion, Account, postingsIn, storedIn, dueOf, inputsOf}
+use Rattle.accounts.specs.Lists.{Lists}
+use Rattle.accounts.proofs.Stored.{levelOf}
+use Rattle.decoded.proofs.Maps.{map-map, due-map, oldest-map}
+
+-- a finished partition as it is read from the card's words
+abbrev pub portionOn : List ℕ → Partition → Portion
+portionOn W p = record { level = p .level; postings = postingsOf W p }
+
+-- the blocks of the output in progress
+unfoldable pub outputOf : List ℕ → State → List ℕ
+outputOf W s = cond (inProgress s) (outputChain W s (taking W s)) []
+
+-- the blocks that are not free: of the output in progress and of finished partitions
+abbrev pub occupied : List ℕ → State → List ℕ
+occupied W s = outputOf W s ++ chainsOf W (finished (s .partitions))
+
+pub record Holds (s : State) (W : List ℕ) (e : Lists) : Type 0 where
+  -- the buffers' lengths
+  pub lengths : lengthsRule (s .lengths) ≡ true
+  pub long : length W ≡ 1024 * blocks s
+  -- the state's parts
+  pub windows : s .windows ≡ e .windows
+  pub listed : s .listed ≡ listedOf (e .listed)
+  pub buffer : s .buffer ≡ bufferOf (e .account .buffer)
+  pub partitions : s .partitions ≡ partitionsOf (finished (s .partitions))
+  pub taken : s .taken < blocks s
+  pub steps : s .merge .steps ≡ e .account .steps
+  pub idle : s .merge .steps ≡ 0 → s .merge ≡ noMerge
+  -- what finished partitions decode to
+  pub portions : map (portionOn W) (finished (s .partitions)) ≡ e .account .partitions
+  pub sizes : every (λ p. eqb (p .length) (lengthOf (postingsOf W p))) (finished (s .partitions)) ≡ true
+  pub formed : partitionsFormed W (blocks s) (finished (s .partitions)) ≡ true
+  -- the output in progress, and all other blocks
+  pub output : inProgress s ≡ true → outputRule W s (taking W s) ≡ true
+  pub free : (b : ℕ) → b < blocks s → isFree W b ≡ not (elem b (occupied W s))
+
+-- with the register
+pub record Stored (p : Probe) (e : Lists) : Type 0 where
+  pub holds : Holds (p .state) (words (p .card)) e
+  pub card : length (p .card) ≡ p .state .lengths .card
+  pub register : length (p .register) ≡ p .state .lengths .register
+  pub rule : registerRule (p .register) ≡ true
+  pub names : names (p .register) ≡ e .names
+
+-- ---- what is read, where the finished partitions decode to the account's
+
+module _ (s : State) (W : List ℕ) (a : Account) (portions : map (portionOn W) (finished (s .partitions)) ≡ a .partitions) where
+  -- the postings of finished partitions
+  pub partitions-is : inPartitions W (finished (s .partitions)) ≡ postingsIn (a .partitions)
+  unfolding inPartitions
+  partitions-is = ap joined (sym (map-map (λ (p : Portion). p .postings) (portionOn W) (finished (s .partitions)))) ∙ ap postingsIn portions
+
+  -- the due levels
+  pub due-is : dueIn s ≡ dueOf a
+  due-is = sym (due-map (portionOn W) levelOf (finished (s .partitions))) ∙ ap (dueLevels levelOf) portions
+
+  -- the inputs of a merge, partition by partition
+  pub inputs-are : map (portionOn W) (inputs s) ≡ oldest levelOf (dueOf a) (a .partitions)
+  inputs-are =
+      ap (λ vs. map (portionOn W) (oldest (λ (p : Partition). p .level) vs (finished (s .partitions)))) due-is
+      ∙ sym (oldest-map (portionOn W) levelOf (dueOf a) (finished (s .partitions)))
+      ∙ ap (oldest levelOf (dueOf a)) portions
+
+  -- their postings
+  pub inputs-is : inPartitions W (inputs s) ≡ inputsOf a
+  unfolding inPartitions inputsOf
+  inputs-is = ap joined (sym (map-map (λ (p : Portion). p .postings) (portionOn W) (inputs s))) ∙ ap postingsIn inputs-are
+
+  -- and pairs
+  pub taking-is : taking W s ≡ pairs (inputsOf a)
+  unfolding taking
+  taking-is = ap pairs inputs-is
+
+module _ (s : State) (W : List ℕ) (e : Lists) (h : Holds s W e) where
+  pub buffer-is : buffered (s .buffer) ≡ e .account .buffer
+  buffer-is = ap buffered (h .buffer) ∙ held 128 _ (e .account .buffer)
+
+  -- all that is stored
+  pub stored-is : stored W s ≡ storedIn (e .account)
+  unfolding stored
+  stored-is = ap₂ (λ (x y : List Posting). x ++ y) (partitions-is s W (e .account) (h .portions)) buffer-is

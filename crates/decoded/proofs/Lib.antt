@@ -1,0 +1,10 @@
+pub mod Maps
+pub mod Holds
+pub mod Ruled
+pub mod Unused
+pub mod Flushed
+pub mod Flushing
+pub mod Fronts
+pub mod WindowCalls
+pub mod Readings
+pub mod Fresh

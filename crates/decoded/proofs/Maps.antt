@@ -1,0 +1,56 @@
+-- Partitions of one kind seen as another that has the same levels: due levels, oldest and replaced are seen the same.
+use mathlib.Core.Bool.{Bool, true, false, cond}
+use mathlib.Core.List.{List, [], _∷_, _++_, map}
+use mathlib.Core.Path.{_≡_, refl, sym, ap, ap₂, _∙_, fun-ext}
+use Prim.Native.Nat.{ℕ, zero, suc}
+use lib.Dec.{eqb, leb}
+use lib.ListN.{length, take, drop}
+use Rattle.lists.specs.Lists.{keep}
+use Rattle.lists.proofs.Bools.{by-test}
+use Rattle.state.specs.Levels.{dueAt, levels, ofLevel, dueLevels, placeOf, oldest, replaced}
+
+pub map-append : {A B : Type 0} (f : A → B) (xs ys : List A) → map f (xs ++ ys) ≡ map f xs ++ map f ys
+map-append f [] ys = refl
+map-append f (x ∷ xs) ys = ap (λ l. f x ∷ l) (map-append f xs ys)
+
+pub map-take : {A B : Type 0} (f : A → B) (n : ℕ) (l : List A) → map f (take n l) ≡ take n (map f l)
+map-take f zero l = refl
+map-take f (suc n) [] = refl
+map-take f (suc n) (x ∷ l) = ap (λ r. f x ∷ r) (map-take f n l)
+
+pub map-drop : {A B : Type 0} (f : A → B) (n : ℕ) (l : List A) → map f (drop n l) ≡ drop n (map f l)
+map-drop f zero l = refl
+map-drop f (suc n) [] = refl
+map-drop f (suc n) (x ∷ l) = map-drop f n l
+
+pub map-map : {A B C : Type 0} (g : B → C) (f : A → B) (l : List A) → map g (map f l) ≡ map (λ x. g (f x)) l
+map-map g f [] = refl
+map-map g f (x ∷ l) = ap (λ r. g (f x) ∷ r) (map-map g f l)
+
+module _ {P Q : Type 0} (f : P → Q) (level : Q → ℕ) where
+  pub count-map : (v : ℕ) (ps : List P) → ofLevel level v (map f ps) ≡ ofLevel (λ p. level (f p)) v ps
+  count-map v [] = refl
+  count-map v (p ∷ ps) = by-test (eqb (level (f p)) v) (λ y. rw y (ap suc (count-map v ps))) (λ n. rw n (count-map v ps))
+
+  pub due-map : (ps : List P) → dueLevels level (map f ps) ≡ dueLevels (λ p. level (f p)) ps
+  due-map ps = ap (λ (t : ℕ → Bool). keep t levels) (fun-ext λ v. ap (leb (dueAt v)) (count-map v ps))
+
+  pub place-map : (v : ℕ) (ps : List P) → placeOf level v (map f ps) ≡ placeOf (λ p. level (f p)) v ps
+  place-map v [] = refl
+  place-map v (p ∷ ps) = ap (λ n. cond (eqb (level (f p)) v) 0 (suc n)) (place-map v ps)
+
+  pub oldest-map : (vs : List ℕ) (ps : List P) → oldest level vs (map f ps) ≡ map f (oldest (λ p. level (f p)) vs ps)
+  oldest-map [] ps = refl
+  oldest-map (v ∷ vs) ps =
+      let k = placeOf (λ p. level (f p)) v ps in
+      ap (λ n. take (dueAt v) (drop n (map f ps))) (place-map v ps)
+      ∙ sym (map-take f (dueAt v) (drop k ps) ∙ ap (take (dueAt v)) (map-drop f k ps))
+
+  pub replaced-map : (vs : List ℕ) (ps R : List P) → replaced level vs (map f ps) (map f R) ≡ map f (replaced (λ p. level (f p)) vs ps R)
+  replaced-map [] ps R = refl
+  replaced-map (v ∷ vs) ps R =
+      let k = placeOf (λ p. level (f p)) v ps in
+      let back = drop (dueAt v) (drop k ps) in
+      ap (λ n. take n (map f ps) ++ (map f R ++ drop (dueAt v) (drop n (map f ps)))) (place-map v ps)
+      ∙ sym (map-append f (take k ps) (R ++ back) ∙ ap₂ (λ (x y : List Q). x ++ y) (map-take f k ps)
+      (map-append f R back ∙ ap (λ l. map f R ++ l) (map-drop f (dueAt v) (drop k ps) ∙ ap (drop (dueAt v)) (map-drop f k ps))))

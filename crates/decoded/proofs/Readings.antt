@@ -1,0 +1,177 @@
+-- Query and removal on bytes are those on lists.
+use mathlib.Core.Bool.{Bool, true, false, _||_, _&&_, not, cond}
+use mathlib.Core.List.{List, [], _∷_, _++_, map, foldr}
+use mathlib.Core.Path.{_≡_, refl, sym, ap, ap₂, _∙_, subst, fun-ext}
+use Prim.Native.Nat.{ℕ, zero, suc, _+_, _-_, _*_, _<_, _≤_}
+use lib.Dec.{eqb, ltb, leb}
+use lib.ListN.{length, replicate, length-replicate}
+use Rattle.lists.specs.Lists.{keep, any, every, elem, down}
+use Rattle.lists.proofs.Bools.{by-test, and-both}
+use Rattle.lists.proofs.Ranges.{every-map}
+use Rattle.words.specs.Words.{words}
+use Rattle.postings.specs.declared.Posting.{Posting}
+use Rattle.postings.specs.Merge.{put, nonzero, negated}
+use Rattle.postings.specs.Sums.{sum, under, above}
+use Rattle.answers.specs.Answers.{Answer, done, hits, Outcome, refuse, leave, refuseIf, carry}
+use Rattle.answers.specs.declared.Hit.{Hit}
+use Rattle.state.specs.declared.Lengths.{Lengths}
+use Rattle.state.specs.declared.Windows.{Windows}
+use Rattle.state.specs.declared.Partition.{Partition}
+use Rattle.state.specs.declared.State.{State}
+use Rattle.state.specs.Views.{blocks, entries, buffered, finished, bufferOf}
+use Rattle.state.specs.Probe.{Store, Probe}
+use Rattle.identifiers.specs.Names.{Name, badLength, numbersOf}
+use Rattle.identifiers.specs.Register.{names, registerRule}
+use Rattle.partitions.specs.Reading.{postingsOf, inPartitions, stored}
+use Rattle.partitions.specs.Formed.{partitionsFormed, listRule, sumsInRange, identifierFormed}
+use Rattle.windows.specs.Flush.{flushingIf}
+use Rattle.queries.specs.Hits.{ranked}
+use Rattle.queries.specs.Query.{countIn, takenUp, numbers, queryFormed, badQuery, hitsOf, querying, queryOf, fill}
+use Rattle.removals.specs.Removal.{ofWindow, countsOf, isLive, removalFormed, removalFlushes, removed, removing, removeOf, openCounted}
+use Rattle.engine.specs.Calls.{Call, Remove, Query, noHit, storeOf, withStore, probeCall}
+use Rattle.accounts.specs.Account.{Portion, Account, postingsIn, storedIn, takenFrom, exceeds, addedTo, flushingIf as accountFlushingIf}
+use Rattle.accounts.specs.Lists.{Lists, identifierRule, windowRule, callRule, countOf, removedLists, removingLists, withAccount, pursued, isOpen as isOpenIn, openCounted as openCountedIn}
+use Rattle.decoded.proofs.Holds.{portionOn, Holds, Stored, partitions-is, buffer-is, stored-is}
+use Rattle.decoded.proofs.Fronts.{holds-fronted}
+use Rattle.decoded.proofs.Flushing.{Same, bothRefuse, bothLeave, same-carry, refusing, passing, Fine, flushIf-same}
+use Rattle.decoded.proofs.WindowCalls.{stored-store, no-first, no-second, no-second-both, opened-is}
+
+module _ (p : Probe) (e : Lists) (k : Stored p e) (fine : Fine (blocks (p .state)) e) where
+  abbrev s : State
+  s = p .state
+
+  abbrev W : List ℕ
+  W = words (p .card)
+
+  abbrev h : Holds s W e
+  h = k .holds
+
+  -- a test of every partition's postings
+  pub every-partition : (t : List Posting → Bool) → every (λ (q : Partition). t (postingsOf W q)) (finished (s .partitions)) ≡ every (λ (q : Portion). t (q .postings)) (e .account .partitions)
+  every-partition t = sym (every-map (λ (q : Portion). t (q .postings)) (portionOn W) (finished (s .partitions))) ∙ ap (every (λ (q : Portion). t (q .postings))) (h .portions)
+
+  partitions-same : inPartitions W (finished (s .partitions)) ≡ postingsIn (e .account .partitions)
+  partitions-same = partitions-is s W (e .account) (h .portions)
+
+  stored-same : stored W s ≡ storedIn (e .account)
+  stored-same = stored-is s W e h
+
+  -- ---- query
+
+  -- what is read of one identifier
+  identifier-same : (i : ℕ) → identifierFormed W s i ≡ identifierRule (e .account) i
+  unfolding identifierFormed identifierRule
+  identifier-same i =
+      ap₂ _&&_ (every-partition (λ l. listRule (under i l)))
+      (ap₂ _&&_ (ap (λ l. sumsInRange (under i l)) partitions-same) (ap (λ l. sumsInRange (under i l)) stored-same))
+
+  numbers-same : (ns : List Name) → numbers (p .register) ns ≡ numbersOf (e .names) ns
+  numbers-same ns = ap (λ ms. numbersOf ms ns) (k .names)
+
+  counts-same : countIn W s ≡ countOf (e .account)
+  unfolding countIn countOf
+  counts-same = fun-ext λ i. fun-ext λ w. ap (λ l. above (sum l i w)) stored-same
+
+  hits-same : (m : ℕ) (ns : List Name) → hitsOf W s m (numbers (p .register) ns) ≡ ranked (e .windows .live) (countOf (e .account)) (down 65535) m (numbersOf (e .names) ns)
+  unfolding hitsOf
+  hits-same m ns =
+      ap (λ (w : Windows). ranked (w .live) (countIn W s) (down 65535) m (numbers (p .register) ns)) (h .windows)
+      ∙ ap₂ (λ (c : ℕ → ℕ → ℕ) (is : List ℕ). ranked (e .windows .live) c (down 65535) m is) counts-same (numbers-same ns)
+
+  taken-same : (ns : List Name) → takenUp W s (numbers (p .register) ns) ≡ takenFrom (numbersOf (e .names) ns) (e .account)
+  unfolding takenUp takenFrom
+  taken-same ns = ap₂ (λ (is : List ℕ) (l : List Posting). length (keep (λ q. elem (q .id) is) l)) (numbers-same ns) stored-same
+
+  pub query-same : (m : ℕ) (ns : List Name) → callRule e (Query m ns) ≡ true → Same Stored (probeCall p (Query m ns)) (pursued (blocks s) (entries s) e (Query m ns))
+  unfolding probeCall queryOf querying pursued
+  query-same m ns rule =
+      same-carry R Stored (λ (l : List Hit). p) (λ l e′ r. r)
+      (passing R _ 1 _ _ (no-first p e k fine)
+      (passing R _ 2 _ _ (no-second-both p e k fine)
+      (passing R _ 3 _ _ (ap not well)
+      (refusing R _ _ 4 _ _ refl λ _.
+      refusing R _ _ 14 _ _ (ap (λ n. badQuery n ns) places) λ _.
+      subst (λ (x : Answer). Same R (leave x (fill found (replicate m noHit))) (leave answer e)) (sym said) (bothLeave k)))))
+    where
+      R : List Hit → Lists → Type 0
+      R l e′ = Stored p e′
+
+      places : length (replicate m noHit) ≡ m
+      places = length-replicate m noHit
+
+      found : List Hit
+      found = hitsOf W s (length (replicate m noHit)) (numbers (p .register) ns)
+
+      answer : Answer
+      answer = hits (ranked (e .windows .live) (countOf (e .account)) (down 65535) m (numbersOf (e .names) ns)) (takenFrom (numbersOf (e .names) ns) (e .account))
+
+      said : hits found (takenUp W s (numbers (p .register) ns)) ≡ answer
+      said = ap₂ hits (ap (λ n. hitsOf W s n (numbers (p .register) ns)) places ∙ hits-same m ns) (taken-same ns)
+
+      asked : every (identifierRule (e .account)) (numbersOf (e .names) ns) ≡ true
+      asked = unfold callRule in rule
+
+      well : queryFormed W s (p .register) (numbers (p .register) ns) ≡ true
+      well = unfold queryFormed in
+          and-both (registerRule (p .register)) _ (k .rule)
+          (and-both (partitionsFormed W (blocks s) (finished (s .partitions))) _ (h .formed)
+          (ap₂ (λ (t : ℕ → Bool) (is : List ℕ). every t is) (fun-ext identifier-same) (numbers-same ns) ∙ asked))
+
+  -- ---- removal
+
+  window-same : (w : ℕ) → windowRule (e .account) w ≡ true → removalFormed W s w ≡ true
+  unfolding removalFormed windowRule
+  window-same w rule =
+      and-both (partitionsFormed W (blocks s) (finished (s .partitions))) _ (h .formed)
+      (ap₂ _&&_ (every-partition listRule)
+      (ap₂ _&&_ (ap (λ l. sumsInRange (ofWindow w l)) partitions-same)
+      (ap (λ l. sumsInRange (ofWindow w l) && leb (length (countsOf w l)) 64) stored-same))
+      ∙ rule)
+
+  -- the state with the window's counts taken back, after a flush or without one
+  holds-removed : (t : State) (X : List ℕ) (a : Account) (cs : List Posting) → Holds t X (withAccount e a) → Holds (removed t cs) X (removedLists e cs a)
+  unfolding removed removedLists addedTo
+  holds-removed t X a cs g =
+      holds-fronted t X (withAccount e a) (removedLists e cs a) g
+      (record { last = t .windows .last; live = t .windows .live - 1; current = t .windows .current; events = t .windows .events }) (t .listed)
+      (bufferOf (nonzero (foldr put (buffered (t .buffer)) (negated cs))))
+      (ap (λ (w : Windows). record { last = w .last; live = w .live - 1; current = w .current; events = w .events }) (g .windows)) (g .listed)
+      (ap (λ l. bufferOf (nonzero (foldr put l (negated cs)))) (buffer-is t X (withAccount e a) g)) refl refl
+
+  counted-is : openCounted s ≡ openCountedIn e
+  counted-is = ap (λ (w : Windows). cond (not (eqb (w .current) 0) && ltb 0 (w .events)) 1 0) (h .windows)
+
+  removing-same : (w : ℕ) (cs : List Posting) → Same (λ q e′. Stored (withStore p q) e′) (removing s (p .card) w cs) (removingLists (blocks s) (entries s) e w cs)
+  unfolding removing removingLists
+  removing-same w cs =
+      refusing R _ _ 5 _ _ (ap (λ (x : Windows). not (eqb (x .current) 0) && eqb w (x .current)) (h .windows)) λ _.
+      refusing R _ _ 7 _ _ (ap (λ (x : Windows). not (isLive cs) || (ltb (x .last) w || leb (x .live) (cond (not (eqb (x .current) 0) && ltb 0 (x .events)) 1 0))) (h .windows)) λ _.
+      subst (λ t. Same R (flushingIf t s (p .card) (λ u c. leave done (record { state = removed u cs; card = c }))) (accountFlushingIf (blocks s) (exceeds cs (e .account)) (e .account) (λ a. leave done (removedLists e cs a)))) (sym flushes)
+      (flushIf-same s (p .card) e h fine R (λ u c. leave done (record { state = removed u cs; card = c })) (λ a. leave done (removedLists e cs a)) (exceeds cs (e .account))
+      (λ u c a g same long. bothLeave (stored-store p e (removedLists e cs a) (record { state = removed u cs; card = c }) k (holds-removed u (words c) a cs g) (lengths-same u ∙ same) long (names-same a)))
+      (k .card))
+    where
+      R : Store → Lists → Type 0
+      R q e′ = Stored (withStore p q) e′
+
+      flushes : removalFlushes s cs ≡ exceeds cs (e .account)
+      flushes = unfold removalFlushes exceeds in ap (λ l. ltb 128 (length l + length cs)) (buffer-is s W e h)
+
+      lengths-same : (u : State) → removed u cs .lengths ≡ u .lengths
+      lengths-same u = unfold removed in refl
+
+      names-same : (a : Account) → removedLists e cs a .names ≡ e .names
+      names-same a = unfold removedLists in refl
+
+  pub remove-same : (w : ℕ) → callRule e (Remove w) ≡ true → Same Stored (probeCall p (Remove w)) (pursued (blocks s) (entries s) e (Remove w))
+  unfolding probeCall removeOf pursued
+  remove-same w rule =
+      same-carry R Stored (withStore p) (λ q e′ r. r)
+      (passing R _ 1 _ _ (no-first p e k fine)
+      (passing R _ 2 _ _ (no-second p e k fine)
+      (passing R _ 3 _ _ (ap not (window-same w (unfold callRule in rule)))
+      (subst (λ l. Same R (removing s (p .card) w (countsOf w l)) (removingLists (blocks s) (entries s) e w (countsOf w (storedIn (e .account))))) (sym stored-same)
+      (removing-same w (countsOf w (storedIn (e .account))))))))
+    where
+      R : Store → Lists → Type 0
+      R q e′ = Stored (withStore p q) e′

@@ -1,0 +1,120 @@
+-- A state that holds lists keeps its rules where the lists keep theirs: refusals 1 and 2 have no cause.
+use mathlib.Core.Bool.{Bool, true, false, _||_, _&&_, not, cond}
+use mathlib.Core.List.{List, [], _∷_, map}
+use mathlib.Core.Path.{_≡_, refl, sym, ap, ap₂, _∙_, subst}
+use Prim.Native.Nat.{ℕ, suc, _+_, _*_, _<_, _≤_}
+use native.Mathlib.Omega.{arith}
+use lib.Dec.{eqb, ltb, leb}
+use lib.ListN.{length, length-map}
+use borrow.Author.Tests.{eqb-true, eq-eqb}
+use Rattle.lists.specs.Lists.{every, empty}
+use Rattle.lists.proofs.Bools.{by-test, and-left, and-right, and-both}
+use Rattle.lists.proofs.Tests.{every-from}
+use Rattle.lists.proofs.Ranges.{map-where, every-map}
+use Rattle.state.specs.declared.Partition.{Partition}
+use Rattle.state.specs.declared.Partitions.{Partitions}
+use Rattle.state.specs.declared.MergeJob.{MergeJob}
+use Rattle.state.specs.declared.State.{State}
+use Rattle.state.specs.Views.{noPartition, noMerge, blocks, finished, listedOf, bufferOf, partitionsOf}
+use Rattle.state.specs.Levels.{levelLimit, levels, ofLevel, dueLevels}
+use Rattle.state.specs.Rules.{windowsRule, listedRule, bufferRule, recordRule, neverRise, partitionsRule, mergeRule, stateRule}
+use Rattle.state.specs.Probe.{sameLength}
+use Rattle.state.proofs.Forms.{held, partitions-rule}
+use Rattle.state.proofs.Kept.{partitions-kept, state-rule}
+use Rattle.partitions.specs.Layout.{lengthOf}
+use Rattle.partitions.specs.Reading.{postingsOf}
+use Rattle.merges.specs.Merging.{dueIn}
+use Rattle.accounts.specs.Account.{Portion, dueOf}
+use Rattle.accounts.specs.Lists.{Lists, recordOf, listsRule}
+use Rattle.decoded.proofs.Maps.{map-map, count-map}
+use Rattle.decoded.proofs.Holds.{portionOn, Holds, due-is}
+
+-- a record without its first block, of which no rule says anything
+abbrev blank : Partition → Partition
+blank p = record { first = 0; level = p .level; length = p .length }
+
+rise-blank : (ps : List Partition) → neverRise (map blank ps) ≡ neverRise ps
+rise-blank [] = refl
+rise-blank (p ∷ ps) = ap₂ _&&_ (every-map (λ (q : Partition). leb (q .level) (p .level)) blank ps) (rise-blank ps)
+
+partitions-blank : (n : ℕ) (ps : List Partition) → partitionsRule n (partitionsOf (map blank ps)) ≡ true → partitionsRule n (partitionsOf ps) ≡ true
+unfolding recordRule
+partitions-blank n ps e =
+    let k = partitions-kept n (partitionsOf (map blank ps)) e in
+    let same : finished (partitionsOf (map blank ps)) ≡ map blank ps = held 51 noPartition (map blank ps) in
+    partitions-rule n ps (subst (λ m. m ≤ 51) (length-map ps blank) (k .used))
+    (sym (every-map (recordRule n) blank ps) ∙ ap (every (recordRule n)) (sym same) ∙ k .rules)
+    (sym (rise-blank ps) ∙ ap neverRise (sym same) ∙ k .fall)
+    (every-from (limited (map blank ps)) (limited (map blank ps)) (limited ps) (λ v x y. subst (λ m. leb m (levelLimit v) ≡ true) (count-map blank (λ (q : Partition). q .level) v ps) x) levels
+    (ap (λ l. every (limited l) levels) (sym same) ∙ k .limits) (ap (λ l. every (limited l) levels) (sym same) ∙ k .limits))
+  where
+    limited : List Partition → ℕ → Bool
+    limited l v = leb (ofLevel (λ (q : Partition). q .level) v l) (levelLimit v)
+
+module _ (s : State) (W : List ℕ) (e : Lists) (h : Holds s W e) (rule : listsRule (blocks s) e ≡ true) where
+  -- the parts of the lists' rule
+  record Parts : Type 0 where
+    windows : windowsRule (e .windows) ≡ true
+    listed : listedRule (e .windows) (listedOf (e .listed)) ≡ true
+    buffer : bufferRule (e .windows) (bufferOf (e .account .buffer)) ≡ true
+    partitions : partitionsRule (blocks s) (partitionsOf (map recordOf (e .account .partitions))) ≡ true
+    merge : (eqb (e .account .steps) 0 || not (empty (dueOf (e .account)))) ≡ true
+
+  parts : Parts
+  unfolding listsRule
+  parts =
+      let a = and-right (windowsRule (e .windows)) _ rule in
+      let b = and-right (listedRule (e .windows) (listedOf (e .listed))) _ a in
+      let c = and-right (bufferRule (e .windows) (bufferOf (e .account .buffer))) _ b in
+      record {
+        windows = and-left (windowsRule (e .windows)) _ rule;
+        listed = and-left (listedRule (e .windows) (listedOf (e .listed))) _ a;
+        buffer = and-left (bufferRule (e .windows) (bufferOf (e .account .buffer))) _ b;
+        partitions = and-left (partitionsRule (blocks s) (partitionsOf (map recordOf (e .account .partitions)))) _ c;
+        merge = and-right (partitionsRule (blocks s) (partitionsOf (map recordOf (e .account .partitions)))) _ c;
+      }
+
+  -- the records say what the partitions hold
+  records-are : map recordOf (e .account .partitions) ≡ map blank (finished (s .partitions))
+  records-are =
+      ap (map recordOf) (sym (h .portions))
+      ∙ map-map recordOf (portionOn W) (finished (s .partitions))
+      ∙ map-where (λ p. eqb (p .length) (lengthOf (postingsOf W p))) (λ p. recordOf (portionOn W p)) blank
+      (λ p y. ap (λ n. record { first = 0; level = p .level; length = n }) (sym (eqb-true (p .length) (lengthOf (postingsOf W p)) y)))
+      (finished (s .partitions)) (h .sizes)
+
+  partitions-ruled : partitionsRule (blocks s) (s .partitions) ≡ true
+  partitions-ruled =
+      ap (partitionsRule (blocks s)) (h .partitions)
+      ∙ partitions-blank (blocks s) (finished (s .partitions)) (ap (λ l. partitionsRule (blocks s) (partitionsOf l)) (sym records-are) ∙ parts .partitions)
+
+  merge-ruled : mergeRule (s .partitions) (s .merge) ≡ true
+  merge-ruled =
+      by-test (eqb (s .merge .steps) 0)
+      (λ y. ap (mergeRule (s .partitions)) (h .idle (eqb-true (s .merge .steps) 0 y)) ∙ nothing)
+      (λ n. going n (sym (ap (λ m. eqb m 0) (h .steps)) ∙ n))
+    where
+      nothing : mergeRule (s .partitions) noMerge ≡ true
+      nothing = unfold mergeRule in refl
+
+      due : eqb (e .account .steps) 0 ≡ false → not (empty (dueOf (e .account))) ≡ true
+      due m = sym (ap (λ t. t || not (empty (dueOf (e .account)))) m) ∙ parts .merge
+
+      going : eqb (s .merge .steps) 0 ≡ false → eqb (e .account .steps) 0 ≡ false → mergeRule (s .partitions) (s .merge) ≡ true
+      going n m = unfold mergeRule in (ap (λ t. cond t (eqb (s .merge .first) 0 && eqb (s .merge .length) 0) (not (empty (dueIn s)))) n ∙ ap (λ vs. not (empty vs)) (due-is s W (e .account) (h .portions)) ∙ due m)
+
+  -- every rule of the state holds
+  pub ruled : stateRule s ≡ true
+  ruled = state-rule s (record {
+    lengths = h .lengths;
+    windows = ap windowsRule (h .windows) ∙ parts .windows;
+    listed = ap₂ listedRule (h .windows) (h .listed) ∙ parts .listed;
+    buffer = ap₂ bufferRule (h .windows) (h .buffer) ∙ parts .buffer;
+    partitions = partitions-ruled;
+    taken = h .taken;
+    merge = merge-ruled;
+  })
+
+-- a buffer of the length given at the start
+pub same-length : (l : List ℕ) (n : ℕ) → length l ≡ n → sameLength l n ≡ true
+same-length l n e = eq-eqb (length l) n e
