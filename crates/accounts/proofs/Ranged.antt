@@ -100,6 +100,11 @@ ranged-inputs t a e =
     every-portion (storedRule t) (oldest levelOf (dueOf a) (a .partitions))
     ∙ every-oldest (λ (p : Portion). every (storedRule t) (p .postings)) (dueOf a) (a .partitions) (sym (every-portion (storedRule t) (a .partitions)) ∙ e)
 
+-- so is its result
+pub merged-ranged : (t : ℕ) (a : Account) → every (storedRule t) (postingsIn (a .partitions)) ≡ true → every (storedRule t) (merged a) ≡ true
+unfolding merged pairs
+merged-ranged t a e = ranged-merged t (inputsOf a) [] (ranged-inputs t a e) refl
+
 pub ranged-stepped : (t : ℕ) (a : Account) → Ranged t a → Ranged t (steppedAccount a)
 ranged-stepped t a e =
     by-test (leb (pairCount a) (16 * suc (a .steps)))
@@ -110,7 +115,7 @@ ranged-stepped t a e =
     parts = sym (every-portion (storedRule t) (a .partitions)) ∙ ranged-partitions t a e
 
     result : every (storedRule t) (merged a) ≡ true
-    result = unfold merged pairs in ranged-merged t (inputsOf a) [] (ranged-inputs t a (ranged-partitions t a e)) refl
+    result = merged-ranged t a (ranged-partitions t a e)
 
     done : every (storedRule t) (postingsIn (completed a .partitions)) ≡ true
     done = unfold completed in

@@ -2,16 +2,16 @@
 use mathlib.Core.Bool.{Bool, true, false, _||_, _&&_, not, cond, true≢false, or-false}
 use mathlib.Core.List.{List, [], _∷_, _++_, map, append-nil, append-assoc}
 use mathlib.Core.Path.{_≡_, refl, sym, ap, ap₂, _∙_, subst}
-use Prim.Native.Nat.{ℕ, zero, suc, _+_, _*_, _<_, _≤_}
+use Prim.Native.Nat.{ℕ, _*_, _<_, _≤_}
 use native.Mathlib.Omega.{arith}
-use lib.Dec.{eqb, ltb, leb}
+use lib.Dec.{eqb}
 use lib.ListN.{length}
 use borrow.Author.Tests.{eqb-true, eqb-false, eq-eqb, ne-eqb, not-true}
 use Rattle.lists.specs.All.{AllOf}
-use Rattle.lists.specs.Lists.{every, any, empty, elem, different, joined, same}
+use Rattle.lists.specs.Lists.{every, empty, elem, different, same}
 use Rattle.lists.proofs.Bools.{by-test, and-left, and-right, and-both, or-none, or-right}
 use Rattle.lists.proofs.Tests.{every-append, any-append}
-use Rattle.lists.proofs.Sets.{every-elem, elem-every, different-insert}
+use Rattle.lists.proofs.Sets.{elem-every, different-insert}
 use Rattle.lists.proofs.Stores.{joined-append}
 use Rattle.words.specs.Words.{allOnes}
 use Rattle.postings.specs.declared.Posting.{Posting}
@@ -19,13 +19,11 @@ use Rattle.postings.specs.Merge.{pairs}
 use Rattle.state.specs.declared.Partition.{Partition}
 use Rattle.state.specs.declared.MergeJob.{MergeJob}
 use Rattle.state.specs.declared.State.{State}
-use Rattle.state.specs.Views.{padded, noPartition, blocks, buffered, finished, bufferOf, partitionsOf}
+use Rattle.state.specs.Views.{padded, noPartition, blocks, buffered, finished, partitionsOf}
 use Rattle.state.proofs.Forms.{held}
 use Rattle.state.proofs.Kept.{lengths-kept}
 use Rattle.card.specs.Blocks.{noBlock, isFree}
 use Rattle.card.specs.Chains.{blocksFor, chain, chainRule, content}
-use Rattle.card.specs.Writes.{store}
-use Rattle.card.proofs.Links.{onCard}
 use Rattle.card.proofs.Stores.{Agree, apart, store-agrees, length-store, chain-agree, rule-agree, content-agree}
 use Rattle.card.proofs.FreeBlocks.{store-other, chain-taken}
 use Rattle.partitions.specs.Layout.{lengthOf, encode}
@@ -37,7 +35,7 @@ use Rattle.flushes.proofs.Flushed.{flushRecord, flushCard, flush-chain, flush-r
 use Rattle.windows.specs.Flush.{flushedTo, flushedCard}
 use Rattle.merges.specs.Merging.{taking, result, outputLength, outputBlocks, progress, isLast}
 use Rattle.merges.specs.Step.{inProgress, outputChain, outputRule}
-use Rattle.accounts.specs.Account.{Portion, Account, dueOf, inputsOf, flushedAccount}
+use Rattle.accounts.specs.Account.{Portion, dueOf, inputsOf, flushedAccount}
 use Rattle.accounts.specs.Lists.{Lists, withAccount}
 use Rattle.accounts.proofs.Steps.{Progress, progress-due, inputs-flushed}
 use Rattle.decoded.proofs.Maps.{map-append}

@@ -1,31 +1,30 @@
 -- A flush on bytes comes to what a flush on lists comes to, with whatever follows it.
-use mathlib.Core.Bool.{Bool, true, false, _||_, _&&_, not, cond, true≢false}
-use mathlib.Core.List.{List, [], _∷_, _++_, map}
-use mathlib.Core.Path.{_≡_, refl, sym, ap, ap₂, _∙_, subst}
-use Prim.Native.Nat.{ℕ, zero, suc, _+_, _*_, _<_, _≤_}
+use mathlib.Core.Bool.{Bool, true, false, true≢false}
+use mathlib.Core.List.{List, [], _∷_}
+use mathlib.Core.Path.{_≡_, refl, sym, ap, _∙_, subst}
+use Prim.Native.Nat.{ℕ, suc, _+_, _*_, _<_, _≤_}
 use native.Mathlib.Omega.{arith}
-use lib.Dec.{eqb, ltb, leb}
-use lib.ListN.{length, getD}
+use lib.Dec.{ltb, leb}
+use lib.ListN.{length}
 use Rattle.lists.specs.Lists.{every, empty}
-use Rattle.lists.proofs.Bools.{by-test}
 use Rattle.lists.proofs.Padding.{length-padded}
 use Rattle.words.specs.Words.{words, bytes}
 use Rattle.words.proofs.Views.{words-bytes, length-bytes}
 use Rattle.postings.specs.declared.Posting.{Posting}
 use Rattle.answers.specs.Answers.{Answer, Outcome, refuse, leave, refuseIf, choose, carry}
-use Rattle.state.specs.declared.Lengths.{Lengths}
 use Rattle.state.specs.declared.Buffer.{Buffer}
 use Rattle.state.specs.declared.Partition.{Partition}
 use Rattle.state.specs.declared.State.{State}
-use Rattle.state.specs.Views.{noPosting, blocks, buffered, finished, bufferOf}
+use Rattle.state.specs.Views.{noPosting, blocks, buffered, finished}
 use Rattle.state.specs.Levels.{ofLevel}
-use Rattle.state.specs.Rules.{bufferRule, stateRule}
+use Rattle.state.specs.Rules.{bufferRule}
 use Rattle.state.proofs.Kept.{lengths-kept, rules-of, buffer-kept}
 use Rattle.card.specs.Blocks.{isFree, freeBlocks}
 use Rattle.card.proofs.FreeBlocks.{free-at}
+use Rattle.partitions.proofs.Rules.{Writable}
 use Rattle.flushes.proofs.Flushed.{buffer-writable}
 use Rattle.windows.specs.Flush.{finishedBlocks, flushedTo, nextFree, flushedCard, flushing, flushingIf}
-use Rattle.accounts.specs.Account.{Portion, Account, blocksIn, blocksAhead, flushedAccount, flushing as accountFlushing, flushingIf as accountFlushingIf}
+use Rattle.accounts.specs.Account.{Account, blocksIn, merged, blocksAhead, flushedAccount, flushing as accountFlushing, flushingIf as accountFlushingIf}
 use Rattle.accounts.specs.Lists.{Lists, listsRule, withAccount}
 use Rattle.accounts.proofs.Stored.{levelOf}
 use Rattle.accounts.proofs.Steps.{Progress}
@@ -67,6 +66,7 @@ pub record Fine (n : ℕ) (e : Lists) : Type 0 where
   pub rule : listsRule n e ≡ true
   pub parts : every portionRule (e .account .partitions) ≡ true
   pub progress : Progress (e .account)
+  pub writable : empty (merged (e .account)) ≡ false → Writable (merged (e .account))
 
 module _ (s : State) (card : List ℕ) (e : Lists) (h : Holds s (words card) e) (fine : Fine (blocks s) e) where
   -- the buffer keeps its rule

@@ -1,17 +1,14 @@
 -- A fresh card with its state and register holds nothing.
-use mathlib.Core.Bool.{Bool, true, false, _&&_, not, cond, false≢true}
-use mathlib.Core.List.{List, [], _∷_, _++_}
-use mathlib.Core.Path.{_≡_, refl, sym, ap, _∙_, subst}
-use Prim.Native.Nat.{ℕ, _+_, _-_, _*_, _/_, _<_, _≤_}
+use mathlib.Core.Bool.{true, false≢true}
+use mathlib.Core.Path.{_≡_, refl, ap, _∙_}
+use Prim.Native.Nat.{ℕ, _*_, _/_}
 use native.Mathlib.Omega.{arith}
 use lib.Dec.{eqb}
-use lib.ListN.{length, take, drop, replicate, length-replicate}
-use Rattle.lists.specs.Lists.{every}
+use lib.ListN.{length, drop, replicate, length-replicate}
 use Rattle.lists.proofs.Bools.{and-both}
 use Rattle.lists.proofs.Tests.{every-take, every-drop, every-replicate}
 use Rattle.words.specs.Words.{words, allOnes}
 use Rattle.words.proofs.Views.{words-ones}
-use Rattle.state.specs.Views.{blocks, emptyState}
 use Rattle.state.specs.Rules.{cardLength, registerLength, lengthsRule}
 use Rattle.state.proofs.Kept.{LengthsKept, lengths-kept}
 use Rattle.identifiers.proofs.Added.{names-zeros, rule-zeros}
@@ -20,7 +17,7 @@ use Rattle.partitions.specs.Formed.{chainsOf, partitionsFormed}
 use Rattle.windows.specs.Calls.{fresh}
 use Rattle.accounts.specs.Account.{emptyAccount}
 use Rattle.accounts.specs.Lists.{noLists}
-use Rattle.decoded.proofs.Holds.{outputOf, Holds, Stored}
+use Rattle.decoded.proofs.Holds.{outputOf, Stored}
 
 module _ (c r : ℕ) (cardFits : cardLength c ≡ true) (registerFits : registerLength r ≡ true) where
   both : lengthsRule (record { card = c; register = r }) ≡ true
@@ -43,7 +40,7 @@ module _ (c r : ℕ) (cardFits : cardLength c ≡ true) (registerFits : register
       ∙ every-take (eqb allOnes) 1024 (drop (1024 * b) (replicate (1024 * (c / 4096)) allOnes))
       (every-drop (eqb allOnes) (1024 * b) (replicate (1024 * (c / 4096)) allOnes) (every-replicate (eqb allOnes) (1024 * (c / 4096)) allOnes refl))
 
-  pub stored-fresh : Stored (fresh c r) noLists
+  pub stored-fresh : Stored (record { card = c; register = r }) (fresh c r) noLists
   unfolding fresh noLists emptyAccount
   stored-fresh = record {
     holds = record {
@@ -62,6 +59,7 @@ module _ (c r : ℕ) (cardFits : cardLength c ≡ true) (registerFits : register
       output = λ y. absurd (false≢true y);
       free = λ b low. all-free b ∙ (unfold outputOf chainsOf in refl);
     };
+    sized = refl;
     card = length-replicate c 255;
     register = length-replicate r 0;
     rule = rule-zeros r;

@@ -1,17 +1,15 @@
 -- What a state and the words of its card hold: lists of postings, window numbers, and the steps of the merge in progress.
-use mathlib.Core.Bool.{Bool, true, false, _||_, _&&_, not, cond}
-use mathlib.Core.List.{List, [], _∷_, _++_, map}
-use mathlib.Core.Path.{_≡_, refl, sym, ap, ap₂, _∙_, subst}
-use Prim.Native.Nat.{ℕ, zero, suc, _+_, _*_, _<_, _≤_}
-use native.Mathlib.Omega.{arith}
-use lib.Dec.{eqb, ltb, leb}
+use mathlib.Core.Bool.{true, not, cond}
+use mathlib.Core.List.{List, [], _++_, map}
+use mathlib.Core.Path.{_≡_, sym, ap, ap₂, _∙_}
+use Prim.Native.Nat.{ℕ, _*_, _<_}
+use lib.Dec.{eqb}
 use lib.ListN.{length}
-use borrow.Author.Tests.{eqb-true}
 use Rattle.lists.specs.Lists.{every, elem, joined}
-use Rattle.lists.proofs.Bools.{by-test, and-left, and-right}
 use Rattle.words.specs.Words.{words}
 use Rattle.postings.specs.declared.Posting.{Posting}
 use Rattle.postings.specs.Merge.{pairs}
+use Rattle.state.specs.declared.Lengths.{Lengths}
 use Rattle.state.specs.declared.Partition.{Partition}
 use Rattle.state.specs.declared.State.{State}
 use Rattle.state.specs.Views.{noMerge, blocks, buffered, finished, listedOf, bufferOf, partitionsOf}
@@ -63,9 +61,10 @@ pub record Holds (s : State) (W : List ℕ) (e : Lists) : Type 0 where
   pub output : inProgress s ≡ true → outputRule W s (taking W s) ≡ true
   pub free : (b : ℕ) → b < blocks s → isFree W b ≡ not (elem b (occupied W s))
 
--- with the register
-pub record Stored (p : Probe) (e : Lists) : Type 0 where
+-- with the register, and with the lengths given at the start
+pub record Stored (ls : Lengths) (p : Probe) (e : Lists) : Type 0 where
   pub holds : Holds (p .state) (words (p .card)) e
+  pub sized : p .state .lengths ≡ ls
   pub card : length (p .card) ≡ p .state .lengths .card
   pub register : length (p .register) ≡ p .state .lengths .register
   pub rule : registerRule (p .register) ≡ true

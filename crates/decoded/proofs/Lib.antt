@@ -8,3 +8,9 @@ pub mod Fronts
 pub mod WindowCalls
 pub mod Readings
 pub mod Fresh
+pub mod Disjoint
+pub mod Outputs
+pub mod Stepped
+pub mod Merged
+pub mod StepCall
+pub mod Simulated

@@ -1,10 +1,10 @@
 -- Partitions of one kind seen as another that has the same levels: due levels, oldest and replaced are seen the same.
-use mathlib.Core.Bool.{Bool, true, false, cond}
+use mathlib.Core.Bool.{Bool, cond}
 use mathlib.Core.List.{List, [], _∷_, _++_, map}
 use mathlib.Core.Path.{_≡_, refl, sym, ap, ap₂, _∙_, fun-ext}
 use Prim.Native.Nat.{ℕ, zero, suc}
 use lib.Dec.{eqb, leb}
-use lib.ListN.{length, take, drop}
+use lib.ListN.{take, drop}
 use Rattle.lists.specs.Lists.{keep}
 use Rattle.lists.proofs.Bools.{by-test}
 use Rattle.state.specs.Levels.{dueAt, levels, ofLevel, dueLevels, placeOf, oldest, replaced}

@@ -1,18 +1,18 @@
 -- Query and removal on bytes are those on lists.
-use mathlib.Core.Bool.{Bool, true, false, _||_, _&&_, not, cond}
-use mathlib.Core.List.{List, [], _∷_, _++_, map, foldr}
+use mathlib.Core.Bool.{Bool, true, _||_, _&&_, not, cond}
+use mathlib.Core.List.{List, foldr}
 use mathlib.Core.Path.{_≡_, refl, sym, ap, ap₂, _∙_, subst, fun-ext}
-use Prim.Native.Nat.{ℕ, zero, suc, _+_, _-_, _*_, _<_, _≤_}
+use Prim.Native.Nat.{ℕ, _+_, _-_}
 use lib.Dec.{eqb, ltb, leb}
 use lib.ListN.{length, replicate, length-replicate}
-use Rattle.lists.specs.Lists.{keep, any, every, elem, down}
-use Rattle.lists.proofs.Bools.{by-test, and-both}
+use Rattle.lists.specs.Lists.{keep, every, elem, down}
+use Rattle.lists.proofs.Bools.{and-both}
 use Rattle.lists.proofs.Ranges.{every-map}
 use Rattle.words.specs.Words.{words}
 use Rattle.postings.specs.declared.Posting.{Posting}
 use Rattle.postings.specs.Merge.{put, nonzero, negated}
 use Rattle.postings.specs.Sums.{sum, under, above}
-use Rattle.answers.specs.Answers.{Answer, done, hits, Outcome, refuse, leave, refuseIf, carry}
+use Rattle.answers.specs.Answers.{Answer, done, hits, leave}
 use Rattle.answers.specs.declared.Hit.{Hit}
 use Rattle.state.specs.declared.Lengths.{Lengths}
 use Rattle.state.specs.declared.Windows.{Windows}
@@ -20,7 +20,7 @@ use Rattle.state.specs.declared.Partition.{Partition}
 use Rattle.state.specs.declared.State.{State}
 use Rattle.state.specs.Views.{blocks, entries, buffered, finished, bufferOf}
 use Rattle.state.specs.Probe.{Store, Probe}
-use Rattle.identifiers.specs.Names.{Name, badLength, numbersOf}
+use Rattle.identifiers.specs.Names.{Name, numbersOf}
 use Rattle.identifiers.specs.Register.{names, registerRule}
 use Rattle.partitions.specs.Reading.{postingsOf, inPartitions, stored}
 use Rattle.partitions.specs.Formed.{partitionsFormed, listRule, sumsInRange, identifierFormed}
@@ -28,15 +28,15 @@ use Rattle.windows.specs.Flush.{flushingIf}
 use Rattle.queries.specs.Hits.{ranked}
 use Rattle.queries.specs.Query.{countIn, takenUp, numbers, queryFormed, badQuery, hitsOf, querying, queryOf, fill}
 use Rattle.removals.specs.Removal.{ofWindow, countsOf, isLive, removalFormed, removalFlushes, removed, removing, removeOf, openCounted}
-use Rattle.engine.specs.Calls.{Call, Remove, Query, noHit, storeOf, withStore, probeCall}
+use Rattle.engine.specs.Calls.{Remove, Query, noHit, withStore, probeCall}
 use Rattle.accounts.specs.Account.{Portion, Account, postingsIn, storedIn, takenFrom, exceeds, addedTo, flushingIf as accountFlushingIf}
-use Rattle.accounts.specs.Lists.{Lists, identifierRule, windowRule, callRule, countOf, removedLists, removingLists, withAccount, pursued, isOpen as isOpenIn, openCounted as openCountedIn}
+use Rattle.accounts.specs.Lists.{Lists, identifierRule, windowRule, callRule, countOf, removedLists, removingLists, withAccount, pursued, openCounted as openCountedIn}
 use Rattle.decoded.proofs.Holds.{portionOn, Holds, Stored, partitions-is, buffer-is, stored-is}
 use Rattle.decoded.proofs.Fronts.{holds-fronted}
-use Rattle.decoded.proofs.Flushing.{Same, bothRefuse, bothLeave, same-carry, refusing, passing, Fine, flushIf-same}
-use Rattle.decoded.proofs.WindowCalls.{stored-store, no-first, no-second, no-second-both, opened-is}
+use Rattle.decoded.proofs.Flushing.{Same, bothLeave, same-carry, refusing, passing, Fine, flushIf-same}
+use Rattle.decoded.proofs.WindowCalls.{stored-store, no-first, no-second, no-second-both}
 
-module _ (p : Probe) (e : Lists) (k : Stored p e) (fine : Fine (blocks (p .state)) e) where
+module _ {ls : Lengths} (p : Probe) (e : Lists) (k : Stored ls p e) (fine : Fine (blocks (p .state)) e) where
   abbrev s : State
   s = p .state
 
@@ -82,10 +82,10 @@ module _ (p : Probe) (e : Lists) (k : Stored p e) (fine : Fine (blocks (p .state
   unfolding takenUp takenFrom
   taken-same ns = ap₂ (λ (is : List ℕ) (l : List Posting). length (keep (λ q. elem (q .id) is) l)) (numbers-same ns) stored-same
 
-  pub query-same : (m : ℕ) (ns : List Name) → callRule e (Query m ns) ≡ true → Same Stored (probeCall p (Query m ns)) (pursued (blocks s) (entries s) e (Query m ns))
+  pub query-same : (m : ℕ) (ns : List Name) → callRule e (Query m ns) ≡ true → Same (Stored ls) (probeCall p (Query m ns)) (pursued (blocks s) (entries s) e (Query m ns))
   unfolding probeCall queryOf querying pursued
   query-same m ns rule =
-      same-carry R Stored (λ (l : List Hit). p) (λ l e′ r. r)
+      same-carry R (Stored ls) (λ (l : List Hit). p) (λ l e′ r. r)
       (passing R _ 1 _ _ (no-first p e k fine)
       (passing R _ 2 _ _ (no-second-both p e k fine)
       (passing R _ 3 _ _ (ap not well)
@@ -94,7 +94,7 @@ module _ (p : Probe) (e : Lists) (k : Stored p e) (fine : Fine (blocks (p .state
       subst (λ (x : Answer). Same R (leave x (fill found (replicate m noHit))) (leave answer e)) (sym said) (bothLeave k)))))
     where
       R : List Hit → Lists → Type 0
-      R l e′ = Stored p e′
+      R l e′ = Stored ls p e′
 
       places : length (replicate m noHit) ≡ m
       places = length-replicate m noHit
@@ -141,7 +141,7 @@ module _ (p : Probe) (e : Lists) (k : Stored p e) (fine : Fine (blocks (p .state
   counted-is : openCounted s ≡ openCountedIn e
   counted-is = ap (λ (w : Windows). cond (not (eqb (w .current) 0) && ltb 0 (w .events)) 1 0) (h .windows)
 
-  removing-same : (w : ℕ) (cs : List Posting) → Same (λ q e′. Stored (withStore p q) e′) (removing s (p .card) w cs) (removingLists (blocks s) (entries s) e w cs)
+  removing-same : (w : ℕ) (cs : List Posting) → Same (λ q e′. Stored ls (withStore p q) e′) (removing s (p .card) w cs) (removingLists (blocks s) (entries s) e w cs)
   unfolding removing removingLists
   removing-same w cs =
       refusing R _ _ 5 _ _ (ap (λ (x : Windows). not (eqb (x .current) 0) && eqb w (x .current)) (h .windows)) λ _.
@@ -152,7 +152,7 @@ module _ (p : Probe) (e : Lists) (k : Stored p e) (fine : Fine (blocks (p .state
       (k .card))
     where
       R : Store → Lists → Type 0
-      R q e′ = Stored (withStore p q) e′
+      R q e′ = Stored ls (withStore p q) e′
 
       flushes : removalFlushes s cs ≡ exceeds cs (e .account)
       flushes = unfold removalFlushes exceeds in ap (λ l. ltb 128 (length l + length cs)) (buffer-is s W e h)
@@ -163,10 +163,10 @@ module _ (p : Probe) (e : Lists) (k : Stored p e) (fine : Fine (blocks (p .state
       names-same : (a : Account) → removedLists e cs a .names ≡ e .names
       names-same a = unfold removedLists in refl
 
-  pub remove-same : (w : ℕ) → callRule e (Remove w) ≡ true → Same Stored (probeCall p (Remove w)) (pursued (blocks s) (entries s) e (Remove w))
+  pub remove-same : (w : ℕ) → callRule e (Remove w) ≡ true → Same (Stored ls) (probeCall p (Remove w)) (pursued (blocks s) (entries s) e (Remove w))
   unfolding probeCall removeOf pursued
   remove-same w rule =
-      same-carry R Stored (withStore p) (λ q e′ r. r)
+      same-carry R (Stored ls) (withStore p) (λ q e′ r. r)
       (passing R _ 1 _ _ (no-first p e k fine)
       (passing R _ 2 _ _ (no-second p e k fine)
       (passing R _ 3 _ _ (ap not (window-same w (unfold callRule in rule)))
@@ -174,4 +174,4 @@ module _ (p : Probe) (e : Lists) (k : Stored p e) (fine : Fine (blocks (p .state
       (removing-same w (countsOf w (storedIn (e .account))))))))
     where
       R : Store → Lists → Type 0
-      R q e′ = Stored (withStore p q) e′
+      R q e′ = Stored ls (withStore p q) e′

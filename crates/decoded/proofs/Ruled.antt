@@ -2,21 +2,18 @@
 use mathlib.Core.Bool.{Bool, true, false, _||_, _&&_, not, cond}
 use mathlib.Core.List.{List, [], _∷_, map}
 use mathlib.Core.Path.{_≡_, refl, sym, ap, ap₂, _∙_, subst}
-use Prim.Native.Nat.{ℕ, suc, _+_, _*_, _<_, _≤_}
-use native.Mathlib.Omega.{arith}
-use lib.Dec.{eqb, ltb, leb}
+use Prim.Native.Nat.{ℕ, _≤_}
+use lib.Dec.{eqb, leb}
 use lib.ListN.{length, length-map}
 use borrow.Author.Tests.{eqb-true, eq-eqb}
 use Rattle.lists.specs.Lists.{every, empty}
-use Rattle.lists.proofs.Bools.{by-test, and-left, and-right, and-both}
+use Rattle.lists.proofs.Bools.{by-test, and-left, and-right}
 use Rattle.lists.proofs.Tests.{every-from}
 use Rattle.lists.proofs.Ranges.{map-where, every-map}
 use Rattle.state.specs.declared.Partition.{Partition}
-use Rattle.state.specs.declared.Partitions.{Partitions}
-use Rattle.state.specs.declared.MergeJob.{MergeJob}
 use Rattle.state.specs.declared.State.{State}
 use Rattle.state.specs.Views.{noPartition, noMerge, blocks, finished, listedOf, bufferOf, partitionsOf}
-use Rattle.state.specs.Levels.{levelLimit, levels, ofLevel, dueLevels}
+use Rattle.state.specs.Levels.{levelLimit, levels, ofLevel}
 use Rattle.state.specs.Rules.{windowsRule, listedRule, bufferRule, recordRule, neverRise, partitionsRule, mergeRule, stateRule}
 use Rattle.state.specs.Probe.{sameLength}
 use Rattle.state.proofs.Forms.{held, partitions-rule}
@@ -24,7 +21,7 @@ use Rattle.state.proofs.Kept.{partitions-kept, state-rule}
 use Rattle.partitions.specs.Layout.{lengthOf}
 use Rattle.partitions.specs.Reading.{postingsOf}
 use Rattle.merges.specs.Merging.{dueIn}
-use Rattle.accounts.specs.Account.{Portion, dueOf}
+use Rattle.accounts.specs.Account.{dueOf}
 use Rattle.accounts.specs.Lists.{Lists, recordOf, listsRule}
 use Rattle.decoded.proofs.Maps.{map-map, count-map}
 use Rattle.decoded.proofs.Holds.{portionOn, Holds, due-is}

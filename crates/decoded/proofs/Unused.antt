@@ -1,17 +1,16 @@
 -- How many blocks are free: all that neither a finished partition nor the output in progress has.
-use mathlib.Core.Bool.{Bool, true, false, _||_, _&&_, not, cond, true≢false}
+use mathlib.Core.Bool.{Bool, true, false, _&&_, not, cond}
 use mathlib.Core.List.{List, [], _∷_, _++_, map}
-use mathlib.Core.Path.{_≡_, refl, sym, ap, ap₂, _∙_, fun-ext, subst}
+use mathlib.Core.Path.{_≡_, refl, sym, ap, ap₂, _∙_}
 use Prim.Native.Nat.{ℕ, zero, suc, _+_, _*_, _<_, _≤_}
 use native.Mathlib.Omega.{arith}
-use lib.Dec.{eqb, ltb, leb}
+use lib.Dec.{eqb, ltb}
 use lib.ListN.{length, length-append}
 use borrow.Author.Tests.{eqb-true, eqb-false, eq-eqb, ne-eqb, ltb-true, lt-ltb, le-ltb, not-true}
 use Rattle.lists.specs.Lists.{keep, every, empty, elem, different, totalBy, joined, same, rising, upTo}
 use Rattle.lists.proofs.Bools.{by-test, and-left, and-right, and-both}
 use Rattle.lists.proofs.Tests.{every-append, keep-all}
 use Rattle.lists.proofs.Ranges.{length-rising, every-rising, length-all}
-use Rattle.lists.proofs.Sets.{every-elem}
 use Rattle.words.specs.Words.{allOnes}
 use Rattle.state.specs.declared.Partition.{Partition}
 use Rattle.state.specs.declared.State.{State}
@@ -23,11 +22,11 @@ use Rattle.card.proofs.Links.{onCard, length-chain, rule-on}
 use Rattle.card.proofs.FreeBlocks.{free-count}
 use Rattle.partitions.specs.Layout.{lengthOf}
 use Rattle.partitions.specs.Reading.{chainOf, postingsOf}
-use Rattle.partitions.specs.Formed.{headerRule, entriesRule, partitionRule, chainsOf, partitionsFormed}
+use Rattle.partitions.specs.Formed.{partitionRule, chainsOf, partitionsFormed}
 use Rattle.windows.specs.Flush.{finishedBlocks}
 use Rattle.merges.specs.Merging.{taking, result, outputLength, outputBlocks, progress, isLast}
 use Rattle.merges.specs.Step.{inProgress, outputChain, outputRule}
-use Rattle.accounts.specs.Account.{Portion, Account, blocksOf, blocksIn, merged, blocksAhead}
+use Rattle.accounts.specs.Account.{Portion, blocksOf, blocksIn, merged, blocksAhead}
 use Rattle.accounts.specs.Lists.{Lists}
 use Rattle.accounts.proofs.Shaped.{portionRule}
 use Rattle.decoded.proofs.Holds.{portionOn, outputOf, occupied, Holds, taking-is}

@@ -1,49 +1,48 @@
 -- Open, close, event and flush on bytes are those on lists.
-use mathlib.Core.Bool.{Bool, true, false, _||_, _&&_, not, cond}
+use mathlib.Core.Bool.{true, false, _&&_, not, cond}
 use mathlib.Core.List.{List, [], _∷_, _++_}
 use mathlib.Core.Path.{_≡_, refl, sym, ap, ap₂, _∙_, subst}
-use Prim.Native.Nat.{ℕ, zero, suc, _+_, _-_, _*_, _/_, _<_, _≤_}
+use Prim.Native.Nat.{ℕ, suc, _+_, _-_, _*_, _≤_}
 use native.Mathlib.Omega.{arith}
-use lib.Dec.{eqb, ltb, leb}
+use lib.Dec.{eqb, leb}
 use lib.IntN.{pos}
 use lib.ListN.{length}
-use borrow.Author.Tests.{leb-true, leb-false, le-leb, not-true}
-use Rattle.lists.specs.Lists.{any, empty, elem}
+use borrow.Author.Tests.{leb-false, not-true}
+use Rattle.lists.specs.Lists.{any, elem}
 use Rattle.lists.proofs.Bools.{by-test, and-both}
 use Rattle.words.specs.Words.{words}
 use Rattle.postings.specs.declared.Posting.{Posting}
 use Rattle.postings.specs.Order.{samePair}
 use Rattle.postings.specs.Merge.{put}
-use Rattle.answers.specs.Answers.{Answer, done, number, Outcome, refuse, leave, refuseIf, carry}
+use Rattle.answers.specs.Answers.{done, number, Outcome, leave}
 use Rattle.state.specs.declared.Lengths.{Lengths}
 use Rattle.state.specs.declared.Windows.{Windows}
-use Rattle.state.specs.declared.Listed.{Listed}
-use Rattle.state.specs.declared.Buffer.{Buffer}
 use Rattle.state.specs.declared.State.{State}
 use Rattle.state.specs.Views.{blocks, entries, listed, buffered, listedOf, bufferOf}
 use Rattle.state.specs.Rules.{stateRule}
 use Rattle.state.specs.Probe.{Store, Probe, sameLength}
 use Rattle.state.proofs.Forms.{held}
 use Rattle.state.proofs.Kept.{lengths-kept}
-use Rattle.identifiers.specs.Names.{Name, badLength, among, numberOf}
+use Rattle.identifiers.specs.Names.{Name, badLength, numberOf}
 use Rattle.identifiers.specs.Register.{names, registerRule, added}
 use Rattle.identifiers.proofs.Added.{names-added, rule-added, length-added}
-use Rattle.windows.specs.Flush.{flushing, flushingIf}
+use Rattle.windows.specs.Flush.{flushingIf}
 use Rattle.windows.specs.Calls.{opened, isOpen, openOf, closed, closeOf, once, eventFlushes, counted, isNew, eventOf, flushOf}
-use Rattle.engine.specs.Calls.{Call, Open, Event, Close, Flush, storeOf, withStore, withState, probeCall}
-use Rattle.accounts.specs.Account.{Account, overflows, flushing as accountFlushing, flushingIf as accountFlushingIf}
+use Rattle.engine.specs.Calls.{Open, Event, Close, Flush, withStore, withState, probeCall}
+use Rattle.accounts.specs.Account.{Account, overflows, flushingIf as accountFlushingIf}
 use Rattle.accounts.specs.Lists.{Lists, openedLists, closedLists, onceOf, countedLists, withAccount, pursued, isOpen as isOpenIn, isNew as isNewIn}
 use Rattle.accounts.proofs.Shaped.{overflows-is}
 use Rattle.accounts.proofs.Numbers.{new-is}
 use Rattle.decoded.proofs.Holds.{Holds, Stored, buffer-is}
 use Rattle.decoded.proofs.Ruled.{ruled, same-length}
-use Rattle.decoded.proofs.Fronts.{fronted, holds-fronted}
-use Rattle.decoded.proofs.Flushing.{Same, bothRefuse, bothLeave, same-carry, refusing, passing, Fine, flush-same, flushIf-same}
+use Rattle.decoded.proofs.Fronts.{holds-fronted}
+use Rattle.decoded.proofs.Flushing.{Same, bothLeave, same-carry, refusing, passing, Fine, flush-same, flushIf-same}
 
 -- a state held by a probe is held by the probe with that state
-pub stored-state : (p : Probe) (e e′ : Lists) (s : State) → Stored p e → Holds s (words (p .card)) e′ → s .lengths ≡ p .state .lengths → e′ .names ≡ e .names → Stored (withState p s) e′
+pub stored-state : {ls : Lengths} (p : Probe) (e e′ : Lists) (s : State) → Stored ls p e → Holds s (words (p .card)) e′ → s .lengths ≡ p .state .lengths → e′ .names ≡ e .names → Stored ls (withState p s) e′
 stored-state p e e′ s k h same named = record {
   holds = h;
+  sized = same ∙ k .sized;
   card = k .card ∙ ap (λ (l : Lengths). l .card) (sym same);
   register = k .register ∙ ap (λ (l : Lengths). l .register) (sym same);
   rule = k .rule;
@@ -51,16 +50,17 @@ stored-state p e e′ s k h same named = record {
 }
 
 -- and so is a store
-pub stored-store : (p : Probe) (e e′ : Lists) (q : Store) → Stored p e → Holds (q .state) (words (q .card)) e′ → q .state .lengths ≡ p .state .lengths → length (q .card) ≡ length (p .card) → e′ .names ≡ e .names → Stored (withStore p q) e′
+pub stored-store : {ls : Lengths} (p : Probe) (e e′ : Lists) (q : Store) → Stored ls p e → Holds (q .state) (words (q .card)) e′ → q .state .lengths ≡ p .state .lengths → length (q .card) ≡ length (p .card) → e′ .names ≡ e .names → Stored ls (withStore p q) e′
 stored-store p e e′ q k h same long named = record {
   holds = h;
+  sized = same ∙ k .sized;
   card = long ∙ k .card ∙ ap (λ (l : Lengths). l .card) (sym same);
   register = k .register ∙ ap (λ (l : Lengths). l .register) (sym same);
   rule = k .rule;
   names = k .names ∙ sym named;
 }
 
-module _ (p : Probe) (e : Lists) (k : Stored p e) (fine : Fine (blocks (p .state)) e) where
+module _ {ls : Lengths} (p : Probe) (e : Lists) (k : Stored ls p e) (fine : Fine (blocks (p .state)) e) where
   abbrev s : State
   s = p .state
 
@@ -96,10 +96,10 @@ module _ (p : Probe) (e : Lists) (k : Stored p e) (fine : Fine (blocks (p .state
       holds-fronted s W e (openedLists e) h (record { last = suc (s .windows .last); live = s .windows .live; current = suc (s .windows .last); events = 0 }) (s .listed) (s .buffer)
       (ap (λ (w : Windows). record { last = suc (w .last); live = w .live; current = suc (w .last); events = 0 }) (h .windows)) (h .listed) (h .buffer) refl refl
 
-  pub open-same : Same Stored (probeCall p Open) (pursued (blocks s) (entries s) e Open)
+  pub open-same : Same (Stored ls) (probeCall p Open) (pursued (blocks s) (entries s) e Open)
   unfolding probeCall openOf pursued
   open-same =
-      same-carry (λ t e′. Stored (withState p t) e′) Stored (withState p) (λ t e′ r. r)
+      same-carry (λ t e′. Stored ls (withState p t) e′) (Stored ls) (withState p) (λ t e′ r. r)
       (passing R _ 1 _ _ no-first
       (refusing R _ _ 5 _ _ opened-is λ _.
       refusing R _ _ 6 _ _ (ap (leb 65535) last-is) λ _.
@@ -107,7 +107,7 @@ module _ (p : Probe) (e : Lists) (k : Stored p e) (fine : Fine (blocks (p .state
       (bothLeave (stored-state p e (openedLists e) (opened s) k holds-opened (unfold opened in refl) (unfold openedLists in refl)))))
     where
       R : State → Lists → Type 0
-      R t e′ = Stored (withState p t) e′
+      R t e′ = Stored ls (withState p t) e′
 
   -- ---- close
 
@@ -118,23 +118,23 @@ module _ (p : Probe) (e : Lists) (k : Stored p e) (fine : Fine (blocks (p .state
       (record { last = cond (eqb (s .windows .events) 0) (s .windows .last - 1) (s .windows .last); live = s .windows .live; current = 0; events = 0 }) (listedOf []) (s .buffer)
       (ap (λ (w : Windows). record { last = cond (eqb (w .events) 0) (w .last - 1) (w .last); live = w .live; current = 0; events = 0 }) (h .windows)) refl (h .buffer) refl refl
 
-  pub close-same : Same Stored (probeCall p Close) (pursued (blocks s) (entries s) e Close)
+  pub close-same : Same (Stored ls) (probeCall p Close) (pursued (blocks s) (entries s) e Close)
   unfolding probeCall closeOf pursued
   close-same =
-      same-carry (λ t e′. Stored (withState p t) e′) Stored (withState p) (λ t e′ r. r)
+      same-carry (λ t e′. Stored ls (withState p t) e′) (Stored ls) (withState p) (λ t e′ r. r)
       (passing R _ 1 _ _ no-first
       (refusing R _ _ 5 _ _ (ap not opened-is) λ _.
       bothLeave (stored-state p e (closedLists e) (closed s) k holds-closed (unfold closed in refl) (unfold closedLists in refl))))
     where
       R : State → Lists → Type 0
-      R t e′ = Stored (withState p t) e′
+      R t e′ = Stored ls (withState p t) e′
 
   -- ---- flush
 
-  pub flush-call-same : Same Stored (probeCall p Flush) (pursued (blocks s) (entries s) e Flush)
+  pub flush-call-same : Same (Stored ls) (probeCall p Flush) (pursued (blocks s) (entries s) e Flush)
   unfolding probeCall flushOf pursued
   flush-call-same =
-      same-carry (λ q e′. Stored (withStore p q) e′) Stored (withStore p) (λ q e′ r. r)
+      same-carry (λ q e′. Stored ls (withStore p q) e′) (Stored ls) (withStore p) (λ q e′ r. r)
       (passing R _ 1 _ _ no-first
       (passing R _ 2 _ _ no-second
       (flush-same s (p .card) e h fine R (λ t c. leave done (record { state = t; card = c })) (λ a. leave done (withAccount e a))
@@ -142,7 +142,7 @@ module _ (p : Probe) (e : Lists) (k : Stored p e) (fine : Fine (blocks (p .state
       (k .card))))
     where
       R : Store → Lists → Type 0
-      R q e′ = Stored (withStore p q) e′
+      R q e′ = Stored ls (withStore p q) e′
 
   -- ---- event
 
@@ -215,9 +215,10 @@ module _ (p : Probe) (e : Lists) (k : Stored p e) (fine : Fine (blocks (p .state
         (λ z. ap (λ t. length (cond t (added (p .register) n) (p .register))) z)
 
     stored-counted : (t : State) (c : List ℕ) (a : Account) → Holds t (words c) (withAccount e a) → t .lengths ≡ s .lengths → length c ≡ length (p .card)
-        → Stored (record { state = counted t (numberOf (names (p .register)) n); card = c; register = noted }) (countedLists e n a)
+        → Stored ls (record { state = counted t (numberOf (names (p .register)) n); card = c; register = noted }) (countedLists e n a)
     stored-counted t c a g same long = record {
       holds = holds-counted t (words c) a n g;
+      sized = lengths-same ∙ same ∙ k .sized;
       card = long ∙ k .card ∙ ap (λ (l : Lengths). l .card) (sym (lengths-same ∙ same));
       register = noted-length ∙ k .register ∙ ap (λ (l : Lengths). l .register) (sym (lengths-same ∙ same));
       rule = noted-rule;
@@ -230,19 +231,19 @@ module _ (p : Probe) (e : Lists) (k : Stored p e) (fine : Fine (blocks (p .state
         named : cond (isNewIn e n) (e .names ++ (n ∷ [])) (e .names) ≡ countedLists e n a .names
         named = unfold countedLists in refl
 
-  pub event-same : (n : Name) → Same Stored (probeCall p (Event n)) (pursued (blocks s) (entries s) e (Event n))
+  pub event-same : (n : Name) → Same (Stored ls) (probeCall p (Event n)) (pursued (blocks s) (entries s) e (Event n))
   unfolding probeCall eventOf pursued
   event-same n =
-      passing Stored _ 1 _ _ no-first
-      (passing Stored _ 2 _ _ no-second-both
-      (passing Stored _ 3 _ _ (ap not (k .rule))
-      (refusing Stored _ _ 4 _ _ refl λ four.
-      refusing Stored _ _ 5 _ _ (ap not opened-is) λ _.
-      refusing Stored _ _ 6 _ _ (ap (λ (w : Windows). leb 32767 (w .events)) (h .windows)) λ _.
-      refusing Stored _ _ 8 _ _ (ap₂ (λ t (ms : List Name). t && leb (entries s) (length ms)) (new-same n) (k .names)) λ eight.
-      refusing Stored _ _ 9 _ _ (ap₂ (λ (i : ℕ) (l : List ℕ). not (elem i l) && leb 64 (length l)) (number-is n) listed-is) λ _.
-      subst (λ t. Same Stored (flushingIf t s (p .card) writes) (accountFlushingIf (blocks s) (overflows (onceOf e n) (e .account)) (e .account) lists)) (sym (flushes-same n))
-      (flushIf-same s (p .card) e h fine Stored writes lists (overflows (onceOf e n) (e .account))
+      passing (Stored ls) _ 1 _ _ no-first
+      (passing (Stored ls) _ 2 _ _ no-second-both
+      (passing (Stored ls) _ 3 _ _ (ap not (k .rule))
+      (refusing (Stored ls) _ _ 4 _ _ refl λ four.
+      refusing (Stored ls) _ _ 5 _ _ (ap not opened-is) λ _.
+      refusing (Stored ls) _ _ 6 _ _ (ap (λ (w : Windows). leb 32767 (w .events)) (h .windows)) λ _.
+      refusing (Stored ls) _ _ 8 _ _ (ap₂ (λ t (ms : List Name). t && leb (entries s) (length ms)) (new-same n) (k .names)) λ eight.
+      refusing (Stored ls) _ _ 9 _ _ (ap₂ (λ (i : ℕ) (l : List ℕ). not (elem i l) && leb 64 (length l)) (number-is n) listed-is) λ _.
+      subst (λ t. Same (Stored ls) (flushingIf t s (p .card) writes) (accountFlushingIf (blocks s) (overflows (onceOf e n) (e .account)) (e .account) lists)) (sym (flushes-same n))
+      (flushIf-same s (p .card) e h fine (Stored ls) writes lists (overflows (onceOf e n) (e .account))
       (λ t c a g same long. bothLeave (stored-counted n four eight t c a g same long)) (k .card)))))
     where
       writes : State → List ℕ → Outcome Probe

@@ -1,0 +1,114 @@
+-- Every call on bytes is the call on lists, as long as the lists stand for ledger and account; so every list of calls is answered the same.
+use mathlib.Core.Bool.{true, false, _&&_, not, true≢false}
+use mathlib.Core.List.{List, [], _∷_}
+use mathlib.Core.Path.{_≡_, refl, sym, ap₂, _∙_, subst}
+use Prim.Native.Nat.{ℕ, _/_, _≤_}
+use native.Mathlib.Omega.{arith}
+use lib.Dec.{leb}
+use lib.ListN.{length}
+use borrow.Author.Tests.{le-leb}
+use Rattle.lists.specs.Lists.{every, empty}
+use Rattle.lists.proofs.Bools.{and-both}
+use Rattle.lists.proofs.Tests.{every-from, every-keep}
+use Rattle.postings.specs.declared.Posting.{Posting}
+use Rattle.postings.specs.Order.{ordered}
+use Rattle.postings.specs.Merge.{isZero, counts, nonzero, pairs}
+use Rattle.answers.specs.Answers.{Outcome, answerOf, stateOf}
+use Rattle.state.specs.declared.Lengths.{Lengths}
+use Rattle.state.specs.Views.{blocks, entries}
+use Rattle.state.specs.Probe.{Probe}
+use Rattle.partitions.specs.Formed.{listRule, inRange, sumsInRange}
+use Rattle.partitions.proofs.Rules.{Writable}
+use Rattle.engine.specs.Calls.{Call, Open, Event, Close, Remove, Flush, Step, Query, probeCall, run}
+use Rattle.accounts.specs.Account.{Account, inputsOf, merged}
+use Rattle.accounts.specs.Ledger.{Ledger}
+use Rattle.accounts.specs.Books.{Books, booksCall}
+use Rattle.accounts.specs.Lists.{Lists, callRule, pursued, listsCall}
+use Rattle.accounts.proofs.Parts.{sums-in-range}
+use Rattle.accounts.proofs.Stored.{merged-ordered, merged-counts}
+use Rattle.accounts.proofs.Prefixes.{inputs-small}
+use Rattle.accounts.proofs.Ranged.{storedRule, stored-kept, ranged-partitions, merged-ranged}
+use Rattle.accounts.proofs.Behind.{top}
+use Rattle.accounts.proofs.Kept.{Kept}
+use Rattle.accounts.proofs.Sound.{rules-hold}
+use Rattle.accounts.proofs.Agree.{unrefused}
+use Rattle.accounts.proofs.History.{Stands, call-same, call-sound}
+use Rattle.decoded.proofs.Holds.{Stored}
+use Rattle.decoded.proofs.Flushing.{Same, bothRefuse, bothLeave, Fine}
+use Rattle.decoded.proofs.WindowCalls.{open-same, close-same, flush-call-same, event-same}
+use Rattle.decoded.proofs.Readings.{query-same, remove-same}
+use Rattle.decoded.proofs.StepCall.{step-same}
+
+-- ---- what ledger and account keep is what a probe can hold
+
+-- a result can be written
+result-writable : (n m : ℕ) (l : Ledger) (a : Account) → Kept n m l a → empty (merged a) ≡ false → Writable (merged a)
+result-writable n m l a k some = record {
+  some = full (merged a) some;
+  formed = unfold listRule in and-both (ordered (merged a)) _ (merged-ordered a)
+    (every-from counts (storedRule (top l)) (λ p. leb 1 (p .window) && not (isZero (p .count)))
+    (λ p c r. and-both (leb 1 (p .window)) _ (le-leb _ _ (stored-kept (top l) p r .some)) c) (merged a) (merged-counts a) ranged);
+  numbered = every-from (storedRule (top l)) (storedRule (top l)) (λ p. leb (p .id) 1023) (λ p x y. le-leb _ _ (stored-kept (top l) p x .id)) (merged a) ranged ranged;
+  fitting = fit;
+}
+  where
+    full : (m : List Posting) → empty m ≡ false → 1 ≤ length m
+    full [] e = absurd (true≢false e)
+    full (p ∷ m) e = omega arith
+
+    ranged : every (storedRule (top l)) (merged a) ≡ true
+    ranged = merged-ranged (top l) a (ranged-partitions (top l) a (k .ranged))
+
+    all-fit : every (λ p. inRange (p .count)) (pairs (inputsOf a)) ≡ true
+    all-fit = unfold sumsInRange in sums-in-range (inputsOf a) (inputs-small a (k .shaped .prefixes))
+
+    fit : every (λ p. inRange (p .count)) (merged a) ≡ true
+    fit = unfold merged nonzero in every-keep counts (λ p. inRange (p .count)) (pairs (inputsOf a)) all-fit
+
+module _ (ls : Lengths) where
+  abbrev n : ℕ
+  n = ls .card / 4096
+
+  abbrev m : ℕ
+  m = ls .register / 65
+
+  module _ (small : m ≤ 1024) where
+    fine-of : (e : Lists) (b : Books) → Stands n m small e b → Fine n e
+    fine-of e b s = subst (Fine n) (sym (s .same)) (record {
+      rule = rules-hold n m (b .ledger) (b .account) (s .kept) small;
+      parts = s .kept .shaped .parts;
+      progress = s .kept .shaped .progress;
+      writable = result-writable n m (b .ledger) (b .account) (s .kept);
+    })
+
+    -- each call, where refusals 1 and 3 have no cause
+    pursued-same : (p : Probe) (e : Lists) → Stored ls p e → Fine (blocks (p .state)) e → (c : Call) → callRule e c ≡ true → Same (Stored ls) (probeCall p c) (pursued (blocks (p .state)) (entries (p .state)) e c)
+    pursued-same p e k f Open r = open-same p e k f
+    pursued-same p e k f (Event x) r = event-same p e k f x
+    pursued-same p e k f Close r = close-same p e k f
+    pursued-same p e k f (Remove w) r = remove-same p e k f w r
+    pursued-same p e k f Flush r = flush-call-same p e k f
+    pursued-same p e k f Step r = step-same p e k f r
+    pursued-same p e k f (Query x ns) r = query-same p e k f x ns r
+
+    lists-pursued : (e : Lists) (b : Books) → Stands n m small e b → (c : Call) → listsCall n m e c ≡ pursued n m e c
+    lists-pursued e b s c = subst (λ x. listsCall n m x c ≡ pursued n m x c) (sym (s .same)) (unrefused n m small (b .ledger) (b .account) (s .kept) c)
+
+    pub call-simulated : (p : Probe) (e : Lists) (b : Books) → Stored ls p e → Stands n m small e b → (c : Call) → Same (Stored ls) (probeCall p c) (listsCall n m e c)
+    call-simulated p e b k s c =
+        subst (λ o. Same (Stored ls) (probeCall p c) o) (sym (lists-pursued e b s c))
+        (subst (λ (q : Lengths). Same (Stored ls) (probeCall p c) (pursued (q .card / 4096) (q .register / 65) e c)) (k .sized)
+        (pursued-same p e k (subst (λ (q : Lengths). Fine (q .card / 4096) e) (sym (k .sized)) (fine-of e b s)) c (call-sound n m small e b s c .1)))
+
+    answered-same : (p : Probe) (e : Lists) (o : Outcome Probe) (q : Outcome Lists) → Stored ls p e → Same (Stored ls) o q → (answerOf o ≡ answerOf q) × Stored ls (stateOf p o) (stateOf e q)
+    answered-same p e o q k bothRefuse = (refl, k)
+    answered-same p e o q k (bothLeave r) = (refl, r)
+
+    -- and every list of calls
+    pub runs-simulated : (cs : List Call) (p : Probe) (e : Lists) (b : Books) → Stored ls p e → Stands n m small e b → run probeCall p cs ≡ run (booksCall n m) b cs
+    unfolding run
+    runs-simulated [] p e b k s = refl
+    runs-simulated (c ∷ cs) p e b k s =
+        let x = answered-same p e _ _ k (call-simulated p e b k s c) in
+        let y = call-same n m small e b s c in
+        ap₂ _∷_ (x .0 ∙ y .0) (runs-simulated cs _ _ _ (x .1) (y .1))

@@ -1,0 +1,23 @@
+-- The history theorem: for all buffers within the limits and all lists of calls, the engine's answers from a fresh card are those of ledger and account.
+use mathlib.Core.Bool.{true}
+use mathlib.Core.Path.{_≡_}
+use Prim.Native.Nat.{ℕ, _/_, _%_, _≤_}
+use lib.Dec.{eqb, leb}
+use borrow.Author.Tests.{leb-true}
+use Rattle.lists.proofs.Bools.{and-right}
+use Rattle.state.specs.Rules.{registerLength}
+use Rattle.accounts.specs.Books.{expected}
+use Rattle.accounts.proofs.History.{stands-fresh}
+use Rattle.decoded.proofs.Fresh.{stored-fresh}
+use Rattle.decoded.proofs.Simulated.{runs-simulated}
+use Rattle.histories.specs.Statement.{answers, SameAnswers}
+
+-- a register has at most 1,024 entries
+entries-most : (r : ℕ) → registerLength r ≡ true → r / 65 ≤ 1024
+entries-most r e = leb-true (r / 65) 1024 (and-right (leb 1 (r / 65)) _ (and-right (eqb (r % 65) 0) _ e))
+
+pub same-answers : SameAnswers
+unfolding SameAnswers answers expected
+same-answers c r cardFits registerFits cs =
+    runs-simulated (record { card = c; register = r }) (entries-most r registerFits) cs _ _ _
+    (stored-fresh c r cardFits registerFits) (stands-fresh (c / 4096) (r / 65) (entries-most r registerFits))
