@@ -19,3 +19,4 @@ pub mod Kept
 pub mod Sound
 pub mod Agree
 pub mod History
+pub mod Unrefused

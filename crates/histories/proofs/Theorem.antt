@@ -1,13 +1,17 @@
 -- The history theorem: for all buffers within the limits and all lists of calls, the engine's answers from a fresh card are those of ledger and account.
 use mathlib.Core.Bool.{true}
-use mathlib.Core.Path.{_≡_}
+use mathlib.Core.List.{List}
+use mathlib.Core.Path.{_≡_, sym, subst}
 use Prim.Native.Nat.{ℕ, _/_, _%_, _≤_}
 use lib.Dec.{eqb, leb}
 use borrow.Author.Tests.{leb-true}
+use Rattle.lists.specs.All.{AllOf}
 use Rattle.lists.proofs.Bools.{and-right}
-use Rattle.state.specs.Rules.{registerLength}
+use Rattle.state.specs.Rules.{cardLength, registerLength}
 use Rattle.accounts.specs.Books.{expected}
+use Rattle.engine.specs.Calls.{Call}
 use Rattle.accounts.proofs.History.{stands-fresh}
+use Rattle.accounts.proofs.Unrefused.{Granted, all-granted}
 use Rattle.decoded.proofs.Fresh.{stored-fresh}
 use Rattle.decoded.proofs.Simulated.{runs-simulated}
 use Rattle.histories.specs.Statement.{answers, SameAnswers}
@@ -21,3 +25,10 @@ unfolding SameAnswers answers expected
 same-answers c r cardFits registerFits cs =
     runs-simulated (record { card = c; register = r }) (entries-most r registerFits) cs _ _ _
     (stored-fresh c r cardFits registerFits) (stands-fresh (c / 4096) (r / 65) (entries-most r registerFits))
+
+-- so no call on an own card is refused with 1, 2 or 3
+pub none-malformed : (c r : ℕ) → cardLength c ≡ true → registerLength r ≡ true → (cs : List Call) → AllOf Granted (answers c r cs)
+none-malformed c r cardFits registerFits cs = subst (AllOf Granted) (sym (theorem c r cardFits registerFits cs)) (all-granted (c / 4096) (r / 65) cs)
+  where
+    theorem : (c r : ℕ) → cardLength c ≡ true → registerLength r ≡ true → (cs : List Call) → answers c r cs ≡ expected (c / 4096) (r / 65) cs
+    theorem = unfold SameAnswers in same-answers

@@ -1,0 +1,65 @@
+-- What ledger and account say is never refusal 1, 2 or 3: these are of what the probe remembers and was lent.
+use mathlib.Core.Bool.{Bool, true, false}
+use mathlib.Core.List.{List, [], _∷_}
+use Prim.Native.Nat.{ℕ, _≤_}
+use native.Mathlib.Omega.{arith}
+use Rattle.lists.specs.All.{AllOf}
+use Rattle.lists.specs.Lists.{empty}
+use Rattle.answers.specs.Answers.{Answer, done, number, hits, refused, Outcome, refuse, leave, refuseIf, choose, answerOf, stateOf}
+use Rattle.answers.specs.declared.Hit.{Hit}
+use Rattle.engine.specs.Calls.{Call, Open, Event, Close, Remove, Flush, Step, Query, run}
+use Rattle.accounts.specs.Account.{Account, emptyAccount, stepping, flushing, flushingIf}
+use Rattle.accounts.specs.Ledger.{Ledger, emptyLedger}
+use Rattle.accounts.specs.Books.{Books, books, booksCall, expected}
+
+-- an answer that is no refusal, or one from 4 on
+pub data Granted : Answer → Type 0 where
+  isDone : Granted done
+  isNumber : {n : ℕ} → Granted (number n)
+  isHits : {hs : List Hit} {n : ℕ} → Granted (hits hs n)
+  isLater : {n : ℕ} → 4 ≤ n → Granted (refused n)
+
+-- one test
+later : (t : Bool) (n : ℕ) (o : Outcome Books) → 4 ≤ n → Granted (answerOf o) → Granted (answerOf (refuseIf t n o))
+unfolding refuseIf
+later true n o h g = isLater h
+later false n o h g = g
+
+either : (t : Bool) (o p : Outcome Books) → Granted (answerOf o) → Granted (answerOf p) → Granted (answerOf (choose t o p))
+unfolding choose
+either true o p g h = g
+either false o p g h = h
+
+module _ (blocks entries : ℕ) where
+  flush-granted : (a : Account) (k : Account → Outcome Books) → ((b : Account) → Granted (answerOf (k b))) → Granted (answerOf (flushing blocks a k))
+  unfolding flushing
+  flush-granted a k h = either _ _ _ (h a) (later _ 10 _ (omega arith) (later _ 11 _ (omega arith) (later _ 12 _ (omega arith) (h _))))
+
+  flushIf-granted : (t : Bool) (a : Account) (k : Account → Outcome Books) → ((b : Account) → Granted (answerOf (k b))) → Granted (answerOf (flushingIf blocks t a k))
+  unfolding flushingIf
+  flushIf-granted t a k h = either t _ _ (flush-granted a k h) (h a)
+
+  step-granted : (a : Account) (k : Account → Outcome Books) → ((b : Account) → Granted (answerOf (k b))) → Granted (answerOf (stepping blocks a k))
+  unfolding stepping
+  step-granted a k h = later _ 12 _ (omega arith) (later _ 13 _ (omega arith) (h _))
+
+  books-granted : (l : Ledger) (a : Account) (c : Call) → Granted (answerOf (books blocks entries l a c))
+  unfolding books
+  books-granted l a Open = later _ 5 _ (omega arith) (later _ 6 _ (omega arith) isNumber)
+  books-granted l a (Event n) =
+      later _ 4 _ (omega arith) (later _ 5 _ (omega arith) (later _ 6 _ (omega arith) (later _ 8 _ (omega arith) (later _ 9 _ (omega arith) (flushIf-granted _ a _ (λ b. isDone))))))
+  books-granted l a Close = later _ 5 _ (omega arith) isDone
+  books-granted l a (Remove w) = later _ 5 _ (omega arith) (later _ 7 _ (omega arith) (flushIf-granted _ a _ (λ b. isDone)))
+  books-granted l a Flush = flush-granted a _ (λ b. isDone)
+  books-granted l a Step = step-granted a _ (λ b. isDone)
+  books-granted l a (Query k ns) = later _ 4 _ (omega arith) (later _ 14 _ (omega arith) isHits)
+
+  run-granted : (cs : List Call) (b : Books) → AllOf Granted (run (booksCall blocks entries) b cs)
+  unfolding run AllOf
+  run-granted [] b = tt
+  run-granted (c ∷ cs) b = (books-granted (b .ledger) (b .account) c, run-granted cs _)
+
+  -- of every list of calls
+  pub all-granted : (cs : List Call) → AllOf Granted (expected blocks entries cs)
+  unfolding expected
+  all-granted cs = run-granted cs _
