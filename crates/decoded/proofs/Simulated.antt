@@ -1,10 +1,11 @@
 -- Every call on bytes is the call on lists, as long as the lists stand for ledger and account; so every list of calls is answered the same.
 use mathlib.Core.Bool.{true, false, _&&_, not, true≢false}
 use mathlib.Core.List.{List, [], _∷_}
-use mathlib.Core.Path.{_≡_, refl, sym, ap₂, _∙_, subst}
+use mathlib.Core.Path.{_≡_, refl, sym, ap, ap₂, _∙_, subst}
 use Prim.Native.Nat.{ℕ, _/_, _≤_}
 use native.Mathlib.Omega.{arith}
 use lib.Dec.{leb}
+use lib.IntN.{pos}
 use lib.ListN.{length}
 use borrow.Author.Tests.{le-leb}
 use Rattle.lists.specs.Lists.{every, empty}
@@ -13,15 +14,19 @@ use Rattle.lists.proofs.Tests.{every-from, every-keep}
 use Rattle.postings.specs.declared.Posting.{Posting}
 use Rattle.postings.specs.Order.{ordered}
 use Rattle.postings.specs.Merge.{isZero, counts, nonzero, pairs}
+use Rattle.postings.specs.Sums.{sum}
 use Rattle.answers.specs.Answers.{Outcome, answerOf, stateOf}
+use Rattle.words.specs.Words.{words}
 use Rattle.state.specs.declared.Lengths.{Lengths}
+use Rattle.state.specs.declared.Windows.{Windows}
 use Rattle.state.specs.Views.{blocks, entries}
 use Rattle.state.specs.Probe.{Probe}
+use Rattle.partitions.specs.Reading.{stored}
 use Rattle.partitions.specs.Formed.{listRule, inRange, sumsInRange}
 use Rattle.partitions.proofs.Rules.{Writable}
-use Rattle.engine.specs.Calls.{Call, Open, Event, Close, Remove, Flush, Step, Query, probeCall, run}
-use Rattle.accounts.specs.Account.{Account, inputsOf, merged}
-use Rattle.accounts.specs.Ledger.{Ledger}
+use Rattle.engine.specs.Calls.{Call, Open, Event, Close, Remove, Flush, Step, Query, probeCall, run, afterwards}
+use Rattle.accounts.specs.Account.{Account, storedIn, inputsOf, merged}
+use Rattle.accounts.specs.Ledger.{Ledger, existing}
 use Rattle.accounts.specs.Books.{Books, booksCall}
 use Rattle.accounts.specs.Lists.{Lists, callRule, pursued, listsCall}
 use Rattle.accounts.proofs.Parts.{sums-in-range}
@@ -29,11 +34,12 @@ use Rattle.accounts.proofs.Stored.{merged-ordered, merged-counts}
 use Rattle.accounts.proofs.Prefixes.{inputs-small}
 use Rattle.accounts.proofs.Ranged.{storedRule, stored-kept, ranged-partitions, merged-ranged}
 use Rattle.accounts.proofs.Behind.{top}
+use Rattle.accounts.proofs.Held.{byNumber}
 use Rattle.accounts.proofs.Kept.{Kept}
 use Rattle.accounts.proofs.Sound.{rules-hold}
 use Rattle.accounts.proofs.Agree.{unrefused}
 use Rattle.accounts.proofs.History.{Stands, call-same, call-sound}
-use Rattle.decoded.proofs.Holds.{Stored}
+use Rattle.decoded.proofs.Holds.{Stored, stored-is}
 use Rattle.decoded.proofs.Flushing.{Same, bothRefuse, bothLeave, Fine}
 use Rattle.decoded.proofs.WindowCalls.{open-same, close-same, flush-call-same, event-same}
 use Rattle.decoded.proofs.Readings.{query-same, remove-same}
@@ -112,3 +118,26 @@ module _ (ls : Lengths) where
         let x = answered-same p e _ _ k (call-simulated p e b k s c) in
         let y = call-same n m small e b s c in
         ap₂ _∷_ (x .0 ∙ y .0) (runs-simulated cs _ _ _ (x .1) (y .1))
+
+    -- what a list of calls leaves: bytes that hold lists which stand for what ledger and account are
+    pub record Left (p : Probe) (b : Books) : Type 0 where
+      pub lists : Lists
+      pub stored : Stored ls p lists
+      pub stands : Stands n m small lists b
+
+    pub left-after : (cs : List Call) (p : Probe) (b : Books) → Left p b → Left (afterwards probeCall p cs) (afterwards (booksCall n m) b cs)
+    unfolding afterwards
+    left-after [] p b x = x
+    left-after (c ∷ cs) p b x =
+        let y = answered-same p (x .lists) _ _ (x .stored) (call-simulated p (x .lists) b (x .stored) (x .stands) c) in
+        left-after cs _ _ (record { lists = _; stored = y .1; stands = call-same n m small (x .lists) b (x .stands) c .1 })
+
+    -- every sum of what is stored on the card and in the buffer is the ledger's count
+    pub left-sums : (p : Probe) (b : Books) → Left p b → (i w : ℕ) → sum (stored (words (p .card)) (p .state)) i w ≡ pos (byNumber (b .ledger) i w)
+    left-sums p b x i w =
+        ap (λ l. sum l i w) (stored-is (p .state) (words (p .card)) (x .lists) (x .stored .holds))
+        ∙ ap (λ (e : Lists). sum (storedIn (e .account)) i w) (x .stands .same) ∙ x .stands .kept .sums i w
+
+    -- N is how many windows exist
+    pub left-existing : (p : Probe) (b : Books) → Left p b → p .state .windows .live ≡ existing (b .ledger)
+    left-existing p b x = ap (λ (w : Windows). w .live) (x .stored .holds .windows) ∙ ap (λ (e : Lists). e .windows .live) (x .stands .same)

@@ -8,16 +8,20 @@ use borrow.Author.Tests.{leb-true}
 use Rattle.lists.specs.All.{AllOf}
 use Rattle.lists.proofs.Bools.{and-right}
 use Rattle.state.specs.Rules.{cardLength, registerLength}
-use Rattle.accounts.specs.Books.{expected}
-use Rattle.engine.specs.Calls.{Call}
+use Rattle.accounts.specs.Account.{emptyAccount}
+use Rattle.accounts.specs.Ledger.{emptyLedger}
+use Rattle.accounts.specs.Books.{booksCall, expected}
+use Rattle.accounts.specs.Lists.{noLists}
+use Rattle.windows.specs.Calls.{fresh}
+use Rattle.engine.specs.Calls.{Call, probeCall, afterwards}
 use Rattle.accounts.proofs.History.{stands-fresh}
 use Rattle.accounts.proofs.Unrefused.{Granted, all-granted}
 use Rattle.decoded.proofs.Fresh.{stored-fresh}
-use Rattle.decoded.proofs.Simulated.{runs-simulated}
+use Rattle.decoded.proofs.Simulated.{runs-simulated, Left, left-after}
 use Rattle.histories.specs.Statement.{answers, SameAnswers}
 
 -- a register has at most 1,024 entries
-entries-most : (r : ℕ) → registerLength r ≡ true → r / 65 ≤ 1024
+pub entries-most : (r : ℕ) → registerLength r ≡ true → r / 65 ≤ 1024
 entries-most r e = leb-true (r / 65) 1024 (and-right (leb 1 (r / 65)) _ (and-right (eqb (r % 65) 0) _ e))
 
 pub same-answers : SameAnswers
@@ -32,3 +36,12 @@ none-malformed c r cardFits registerFits cs = subst (AllOf Granted) (sym (theore
   where
     theorem : (c r : ℕ) → cardLength c ≡ true → registerLength r ≡ true → (cs : List Call) → answers c r cs ≡ expected (c / 4096) (r / 65) cs
     theorem = unfold SameAnswers in same-answers
+
+-- what a history leaves: bytes that hold lists which stand for what ledger and account are; so every sum of what is stored is the ledger's count
+-- (`left-sums`), and N is how many windows exist (`left-existing`)
+pub history-left : (c r : ℕ) → cardLength c ≡ true → (fits : registerLength r ≡ true) → (cs : List Call)
+    → Left (record { card = c; register = r }) (entries-most r fits) (afterwards probeCall (fresh c r) cs)
+    (afterwards (booksCall (c / 4096) (r / 65)) (record { ledger = emptyLedger; account = emptyAccount }) cs)
+history-left c r cardFits registerFits cs =
+    left-after (record { card = c; register = r }) (entries-most r registerFits) cs _ _
+    (record { lists = noLists; stored = stored-fresh c r cardFits registerFits; stands = stands-fresh (c / 4096) (r / 65) (entries-most r registerFits) })
