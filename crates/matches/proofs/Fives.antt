@@ -1,15 +1,14 @@
 -- What is taken of five terms, from what is taken of each.
 use mathlib.Core.Bool.{Bool, true, _||_, or-false}
 use mathlib.Core.List.{List, [], _∷_, map}
-use mathlib.Core.Path.{_≡_, refl, sym, ap, ap₂, _∙_}
+use mathlib.Core.Path.{_≡_, _∙_}
 use Prim.Native.Nat.{ℕ, _+_}
 use native.Mathlib.Omega.{arith}
 use lib.IntN.{ℤ}
-use Rattle.lists.specs.Lists.{every, any}
+use Rattle.lists.specs.Lists.{every}
 use Rattle.lists.specs.All.{AllOf}
 use Rattle.lists.proofs.Bools.{and-left, and-right}
-use Rattle.keyed.specs.Keys.{rest, headVals}
-use Rattle.keyed.specs.Groups.{Group}
+use Rattle.keyed.specs.Keys.{headVals}
 use Rattle.postings.specs.Sums.{isAbove}
 use Rattle.state.specs.declared.Buffer.{Buffer}
 use Rattle.partitions.specs.Formed.{inRange}

@@ -1,18 +1,19 @@
 -- From what is told of an identifier's lists and run to its term: the sums are those of what is stored, and the postings are few.
-use mathlib.Core.Bool.{Bool, true, false, _&&_}
-use mathlib.Core.List.{List, [], _∷_, _++_, map}
-use mathlib.Core.Path.{_≡_, refl, sym, ap, ap₂, _∙_}
+use mathlib.Core.Bool.{true, false}
+use mathlib.Core.List.{List, [], _∷_, map}
+use mathlib.Core.Path.{_≡_, sym, ap, _∙_}
 use Prim.Native.Nat.{ℕ, zero, suc, _+_, _-_, _*_, _<_, _≤_}
 use native.Mathlib.Omega.{arith}
 use native.Mathlib.Nat.{eq-or-lt-of-le}
 use mathlib.Core.Logic.{⊎-elim}
-use lib.Dec.{ltb, leb}
+use lib.Dec.{ltb}
 use lib.IntN.{ℤ, pos, _+ℤ_, +ℤ-idr}
 use lib.ListN.{length, take, length-map, length-take, length-drop}
 use borrow.Author.Tests.{ltb-true, ltb-false}
 use Rattle.lists.specs.Lists.{every, totalBy}
 use Rattle.lists.specs.All.{AllOf}
 use Rattle.lists.proofs.Bools.{by-test, and-left, and-right}
+use Rattle.lists.proofs.Runs.{never}
 use Rattle.keyed.specs.Keys.{falls, allFall, sumOf, sums, overKeys}
 use Rattle.keyed.specs.Groups.{Group, allFallAll}
 use Rattle.keyed.proofs.Walk.{sums-high}
@@ -22,20 +23,20 @@ use Rattle.postings.specs.Sums.{sum, under, inWindows, frequency}
 use Rattle.state.specs.declared.State.{State}
 use Rattle.state.specs.Views.{buffered, finished}
 use Rattle.partitions.specs.Reading.{postingsOf, stored}
-use Rattle.partitions.specs.Formed.{inRange, identifierFormed}
+use Rattle.partitions.specs.Formed.{inRange}
 use Rattle.walks.specs.declared.Head.{Head}
 use Rattle.walks.specs.declared.Lists.{Lists}
 use Rattle.walks.specs.declared.Run.{Run}
 use Rattle.walks.specs.declared.Counted.the-variants.{Malformed, Counts}
 use Rattle.walks.specs.Items.{listAt, headsOf, cursorsOf, itemLists, Ready, itemBuffered, runOf, runItems, Within, groups}
-use Rattle.walks.specs.Judged.{totalZ, inRanges, ranges, formed, risen, size, countsOf}
+use Rattle.walks.specs.Judged.{inRanges, ranges, formed, risen, size, countsOf}
 use Rattle.walks.proofs.Answers.{formed-falls, none-at-zero}
 use Rattle.walks.proofs.Lengths.{lefts-short, length-lists}
 use Rattle.walks.proofs.Steps.{total-none}
 use Rattle.walks.proofs.Stored.{formed-same, total-same, risen-same, size-same}
 use Rattle.matches.specs.declared.Term.{Term}
 use Rattle.matches.specs.declared.Opened.{Opened}
-use Rattle.matches.specs.Joint.{group, ReadyTerm}
+use Rattle.matches.specs.Joint.{group}
 use Rattle.matches.specs.Served.{Serves, OpenedFor}
 use Rattle.matches.proofs.Parts.{sums-more, falls-more}
 
@@ -133,13 +134,10 @@ module _ (W : List ℕ) (s : State) (i : ℕ) (ls : Lists) (r : Run) (small : Be
   pub opened-none : (x : Opened) → Malformed ≡ countsOf gs → x .fine ≡ false → x .taken ≡ 0 → OpenedFor W s i x
   opened-none x e p q = record {
     fine = p ∙ sym (formed-same W s i ls r small lists run order windows ∙ told-none gs e);
-    term = λ y. let z : false ≡ true = sym p ∙ y in cc-absurd z;
-    taken = λ y. let z : false ≡ true = sym p ∙ y in cc-absurd z;
+    term = λ y. never (sym p ∙ y);
+    taken = λ y. never (sym p ∙ y);
     few = omega arith;
   }
-    where
-      cc-absurd : {A : Type 0} → false ≡ true → A
-      cc-absurd z = let q : _≡_ {A = ℕ} 0 1 = cc in absurd (omega arith)
 
   -- well formed
   pub opened-term : (f m : ℕ) → Counts f m ≡ countsOf gs → OpenedFor W s i (record { fine = true; taken = m; term = term f })

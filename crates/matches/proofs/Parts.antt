@@ -1,22 +1,19 @@
 -- A term's lists and its run in one group: the highest window, the sums and what is left past a window.
-use mathlib.Core.Bool.{true, false, _&&_, and-true}
+use mathlib.Core.Bool.{true}
 use mathlib.Core.List.{List, [], _∷_, _++_, map}
 use mathlib.Core.Path.{_≡_, refl, sym, ap, ap₂, _∙_}
-use Prim.Native.Nat.{ℕ, _≤_}
-use native.Mathlib.Omega.{arith}
-use lib.Dec.{ltb, leb}
-use lib.IntN.{ℤ, pos, negsuc, natAbs, _+ℤ_, +ℤ-idl, +ℤ-idr, +ℤ-assoc}
+use Prim.Native.Nat.{ℕ}
+use lib.IntN.{ℤ, _+ℤ_, +ℤ-idl, +ℤ-idr, +ℤ-assoc}
 use lib.ListN.{length}
-use borrow.Author.Tests.{ltb-false, leb-true}
 use Rattle.lists.proofs.Bools.{by-test}
+use Rattle.lists.proofs.Runs.{never}
 use Rattle.keyed.specs.Keys.{Item, reach, larger, topFrom, rest, headVal, headVals, falls, allFall, sumOf, sums}
 use Rattle.keyed.specs.Groups.{Group, topAll, moveAll}
-use Rattle.postings.specs.Sums.{above}
 use Rattle.state.specs.declared.Buffer.{Buffer}
-use Rattle.partitions.specs.Formed.{inRange}
 use Rattle.walks.specs.declared.Lists.{Lists}
 use Rattle.walks.specs.declared.Run.{Run}
-use Rattle.walks.specs.Items.{restHead, headsOf, itemLists, Ready, runItems, Within, restRun, groups}
+use Rattle.walks.specs.Items.{restHead, headsOf, itemLists, runItems, restRun, groups}
+use Rattle.walks.proofs.Steps.{larger-none}
 use Rattle.walks.proofs.Moves.{ready-moved, within-moved, groups-moved}
 use Rattle.matches.specs.declared.Term.{Term}
 use Rattle.matches.specs.Joint.{group, ReadyTerm}
@@ -37,7 +34,7 @@ sums-more k (x ∷ g) l = ap (λ (z : ℤ). sumOf k x +ℤ z) (sums-more k g l) 
 
 pub falls-more : (m : ℕ) (g : Group) (l : List Item) → allFall m g ≡ true → falls m l ≡ true → allFall m (g ++ (l ∷ [])) ≡ true
 falls-more m [] l e f = rw f
-falls-more m (x ∷ g) l e f = by-test (falls m x) (λ y. rw y (falls-more m g l (rw y at e) f)) (λ y. let z : false ≡ true = rw y at e in cc)
+falls-more m (x ∷ g) l e f = by-test (falls m x) (λ y. rw y (falls-more m g l (rw y at e) f)) (λ y. never (rw y at e))
 
 rest-more : (k : ℕ) (g : Group) (l : List Item) → map (rest k) (g ++ (l ∷ [])) ≡ map (rest k) g ++ (rest k l ∷ [])
 rest-more k [] l = refl
@@ -79,16 +76,7 @@ module _ (W : List ℕ) (b : Buffer) (t : Term) where
         let r : runItems b then ≡ rest w (runItems b (t .run)) = cc in
         rw (l, r) (sym (rest-more w (itemLists W (t .lists)) (runItems b (t .run))))
 
--- ---- a sum in range
-
-pub above-most : (z : ℤ) → inRange z ≡ true → above z ≤ 32767
-above-most (pos n) e = leb-true n 32767 e
-above-most (negsuc n) e = omega arith
-
 -- ---- the highest window of five groups
-
-larger-none : (n : ℕ) → larger 0 n ≡ n
-larger-none n = by-test (ltb 0 n) (λ y. rw y) (λ y. let h = ltb-false 0 n y in rw y (omega arith))
 
 pub top-five : (f g h i j : Group) (a c d e r : ℕ) → a ≡ topFrom 0 f → c ≡ larger a (topFrom 0 g) → d ≡ larger c (topFrom 0 h) → e ≡ larger d (topFrom 0 i) → r ≡ larger e (topFrom 0 j)
     → r ≡ topAll 0 (f ∷ g ∷ h ∷ i ∷ j ∷ [])

@@ -1,5 +1,4 @@
 -- The lists of several identifiers walked together: a group of lists for each, and what its sum of a window weighs.
-use mathlib.Core.Bool.{Bool}
 use mathlib.Core.List.{List, [], _∷_, _++_, map}
 use mathlib.Core.Path.{_≡_}
 use Prim.Native.Nat.{ℕ, _+_, _*_, _≤_}

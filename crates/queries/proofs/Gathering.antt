@@ -1,17 +1,18 @@
 -- What is gathered of a query's identifiers, identifier by identifier.
-use mathlib.Core.Bool.{Bool, true, false, cond, _&&_}
+use mathlib.Core.Bool.{true, false, _&&_}
 use mathlib.Core.List.{List, [], _∷_, _++_, map, map-append}
-use mathlib.Core.Path.{_≡_, refl, sym, ap, ap₂, _∙_, subst}
-use Prim.Native.Nat.{ℕ, zero, suc, _+_, _*_, _<_, _≤_, zero-le}
+use mathlib.Core.Path.{_≡_, refl, sym, ap, _∙_, subst}
+use Prim.Native.Nat.{ℕ, _+_, _*_, _<_, _≤_}
 use native.Mathlib.Numerals.{add-one}
 use native.Mathlib.Omega.{arith}
 use lib.Dec.{ltb}
-use lib.ListN.{length, getD, take, drop, set, length-take, length-append, length-map, drop-of-length-le, List·getD-map}
+use lib.ListN.{length, getD, take, drop, set, length-take, length-append, drop-of-length-le, List·getD-map}
 use lib.Seq.{drop-cons, take-suc, take-all, take-append-le, set-out}
 use borrow.Author.Tests.{ltb-true, ltb-false, lt-ltb, le-ltb}
 use denote.Ref.{RefT, now}
 use Rattle.lists.specs.Lists.{keep, every, totalBy}
 use Rattle.lists.proofs.Bools.{by-test}
+use Rattle.lists.proofs.Runs.{never}
 use Rattle.lists.proofs.Tests.{keep-append}
 use Rattle.postings.specs.Sums.{under}
 use Rattle.state.specs.declared.State.{State}
@@ -184,8 +185,8 @@ module _ (W : List ℕ) (s : State) (ms ns : List Name) where
           let z : identifierFormed W s (numberOf ms n) ≡ false = sym (q .fine) ∙ f in
           record {
             fine = e ∙ sym (formed-on ∙ rw z);
-            served = λ y. let x : true ≡ false = sym y ∙ e in let m : _≡_ {A = ℕ} 0 1 = cc in absurd (omega arith);
-            taken = λ y. let x : true ≡ false = sym y ∙ e in let m : _≡_ {A = ℕ} 0 1 = cc in absurd (omega arith);
+            served = λ y. never (sym e ∙ y);
+            taken = λ y. never (sym e ∙ y);
           }
 
       -- one whose lists are well formed

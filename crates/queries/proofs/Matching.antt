@@ -1,17 +1,16 @@
 -- From terms that stand for the query's identifiers to the query's hits.
-use mathlib.Core.Bool.{Bool, true, false, cond, _&&_, _||_}
+use mathlib.Core.Bool.{Bool, true, false, cond, _||_}
 use mathlib.Core.List.{List, [], _∷_, foldr, map}
-use mathlib.Core.Path.{_≡_, refl, sym, ap, ap₂, _∙_}
-use Prim.Native.Nat.{ℕ, zero, suc, _+_, _*_, _<_, _≤_}
+use mathlib.Core.Path.{_≡_, refl, ap, ap₂, _∙_}
+use Prim.Native.Nat.{ℕ, zero, suc, _+_, _*_, _≤_}
 use native.Mathlib.Omega.{arith}
 use lib.Dec.{ltb}
-use lib.IntN.{ℤ, pos}
-use lib.ListN.{length, take, drop}
+use lib.IntN.{ℤ}
+use lib.ListN.{length, take}
 use borrow.Author.Tests.{ltb-false}
 use Rattle.lists.specs.Lists.{keep, any, every, totalBy, down}
 use Rattle.lists.specs.All.{AllOf}
 use Rattle.lists.proofs.Bools.{by-test, and-both}
-use Rattle.lists.proofs.Tests.{any-none}
 use Rattle.keyed.specs.Keys.{sums, allFall, overKeys}
 use Rattle.keyed.specs.Groups.{Group, allFallAll}
 use Rattle.weights.specs.Weights.{tfWeight, idfWeight, largest}
@@ -26,7 +25,7 @@ use Rattle.walks.specs.Items.{runItems}
 use Rattle.matches.specs.declared.Term.{Term}
 use Rattle.matches.specs.declared.Terms.{Terms}
 use Rattle.matches.specs.Joint.{group, five, groupsOf, frequenciesOf, ReadyTerm, weighAll, noTerm}
-use Rattle.matches.specs.Served.{Serves, Slot, Serving}
+use Rattle.matches.specs.Served.{Serves, Serving}
 use Rattle.queries.specs.Hits.{place, frequency, score, matching, ranked}
 use Rattle.queries.specs.Query.{countIn, hitsOf}
 use Rattle.queries.specs.Walks.{foundAt, foundIn, Walkable}

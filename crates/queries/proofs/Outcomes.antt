@@ -1,17 +1,17 @@
 -- What a query comes to, test by test, and that what the search promises is what the query is.
-use mathlib.Core.Bool.{Bool, true, false, _&&_, _||_, not}
-use mathlib.Core.List.{List, [], _∷_, _++_, foldr, map}
+use mathlib.Core.Bool.{Bool, true, false, _&&_, not}
+use mathlib.Core.List.{List, [], foldr, map}
 use mathlib.Core.Path.{_≡_, refl, sym, ap, ap₂, _∙_, subst}
-use Prim.Native.Nat.{ℕ, _≤_, _<_}
+use Prim.Native.Nat.{ℕ, _≤_}
 use native.Mathlib.Omega.{arith}
 use lib.Dec.{eqb, ltb}
-use lib.ListN.{length, take, drop, replicate, length-take, length-replicate}
+use lib.ListN.{length, take, replicate, length-take, length-replicate}
 use lib.Seq.{take-all}
 use borrow.Author.Tests.{ltb-false, eqb-false, eq-eqb, ne-eqb, not-false}
-use Rattle.lists.specs.Lists.{any, every, empty, down}
+use Rattle.lists.specs.Lists.{any, empty, down}
 use Rattle.lists.proofs.Bools.{or-none, and-both}
 use Rattle.words.specs.Words.{words}
-use Rattle.answers.specs.Answers.{Answer, Outcome, refuse, leave, refuseIf, hits, answerOf, stateOf, carry}
+use Rattle.answers.specs.Answers.{Outcome, refuse, leave, refuseIf, hits, answerOf, stateOf}
 use Rattle.answers.specs.Numbers.{refusalNumber, foundAs}
 use Rattle.answers.specs.declared.Refusal.{Refusal}
 use Rattle.answers.specs.declared.Refusal.the-variants.{BrokenState, WrongLength, Malformed, BadIdentifier, BadQuery}
@@ -24,7 +24,7 @@ use Rattle.state.specs.Rules.{stateRule}
 use Rattle.state.specs.Probe.{Probe, sameLength}
 use Rattle.identifiers.specs.Names.{Name, badLength, distinct}
 use Rattle.identifiers.specs.Register.{names, registerRule}
-use Rattle.partitions.specs.Formed.{partitionsFormed, identifierFormed}
+use Rattle.partitions.specs.Formed.{partitionsFormed}
 use Rattle.matches.specs.Joint.{five, groupsOf, frequenciesOf}
 use Rattle.matches.specs.Served.{Serving}
 use Rattle.queries.specs.declared.Top.{Top}
@@ -35,7 +35,7 @@ use Rattle.queries.specs.Query.{countIn, takenUp, numbers, queryFormed, 
 use Rattle.queries.specs.Top.{noHit, listedHits, topOf}
 use Rattle.queries.specs.Walks.{foundIn, Walkable}
 use Rattle.queries.specs.Gathered.{Sound, storedUnder, Gathered}
-use Rattle.queries.specs.Finds.{probeOf, hitsIn, answered, Finds}
+use Rattle.queries.specs.Finds.{probeOf, hitsIn, Finds}
 use Rattle.queries.proofs.Tops.{listed-of}
 use Rattle.queries.proofs.Matching.{served-walkable, found-hits}
 use Rattle.queries.proofs.Numbers.{numbers-few, numbers-different, taken-each}

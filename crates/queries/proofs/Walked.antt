@@ -4,7 +4,7 @@ use mathlib.Core.List.{List, [], _∷_, foldr, map}
 use mathlib.Core.Path.{_≡_, refl, sym, ap, _∙_, subst}
 use Prim.Native.Nat.{ℕ, zero, suc, _<_, _≤_, zero-le}
 use native.Mathlib.Omega.{arith}
-use lib.IntN.{ℤ, pos}
+use lib.IntN.{ℤ}
 use lib.ListN.{take}
 use borrow.Author.Tests.{ne-eqb}
 use Rattle.lists.specs.Lists.{any, every, elem, different}

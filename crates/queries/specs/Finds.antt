@@ -3,7 +3,7 @@ use mathlib.Core.List.{List, []}
 use mathlib.Core.Path.{_≡_}
 use Prim.Native.Nat.{ℕ, _≤_}
 use lib.ListN.{replicate}
-use Rattle.answers.specs.Answers.{Answer, Outcome, done, number, hits, refused, answerOf}
+use Rattle.answers.specs.Answers.{Answer, done, number, hits, refused, answerOf}
 use Rattle.answers.specs.Numbers.{foundAs}
 use Rattle.answers.specs.declared.Found.{Found}
 use Rattle.answers.specs.declared.Found.the-variants as found

@@ -85,7 +85,8 @@ module _ (m n k : ℕ) (gs : List Group) (top : topAll 0 gs ≡ suc k) (low : su
 
 -- ---- a group of lists beside a group of one
 
-larger-none : (n : ℕ) → larger 0 n ≡ n
+-- the larger of 0 and another is the other
+pub larger-none : (n : ℕ) → larger 0 n ≡ n
 larger-none n = by-test (ltb 0 n) (λ y. rw y) (λ y. let h = ltb-false 0 n y in rw y (omega arith))
 
 module _ (g : Group) (l : List Item) where

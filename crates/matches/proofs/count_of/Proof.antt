@@ -1,5 +1,4 @@
 -- `matches::count_of` meets its contract: below 0 nothing, else the number itself. Assumes nothing.
-use mathlib.Core.Path.{sym, _∙_}
 use mir.Facts.{toZ-ofZ}
 use native.Mathlib.Omega.{arith}
 use lib.IntN.{natAbs}

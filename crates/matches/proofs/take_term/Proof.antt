@@ -1,18 +1,16 @@
 -- `matches::take_term` meets its contract: the sum of lists and run, in range, is counted and weighed. Assumes nothing.
 use borrow.Author.Needs.{needs}
-use mathlib.Core.Path.{_≡_, refl, sym, ap, _∙_}
-use Prim.Native.Nat.{_*_}
+use mathlib.Core.Path.{_≡_, refl, ap, _∙_}
 use mir.Facts.{toZ-ofZ}
 use mir.Syntax.{w16, w32}
 use mir.Val.{SFits}
 use native.Mathlib.Omega.{arith}
 use lib.Dec.{ltb}
-use lib.IntN.{ℤ, _+ℤ_}
+use lib.IntN.{_+ℤ_}
 use lib.ListN.{length}
 use Rattle.lists.proofs.Arrays.{unmapped}
 use Rattle.keyed.specs.Keys.{headVals}
 use Rattle.words.specs.Words.{words}
-use Rattle.weights.specs.Weights.{tfWeight, idfWeight}
 use Rattle.postings.specs.Sums.{above}
 use Rattle.partitions.specs.Formed.{inRange}
 use Rattle.matches.specs.Joint.{group}

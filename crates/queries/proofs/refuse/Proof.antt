@@ -1,6 +1,5 @@
 -- `queries::refuse` meets its contract. Assumes nothing.
 use borrow.Author.Needs.{needs}
-use mathlib.Core.Path.{refl}
 use Rattle.queries.proofs.refuse.Statement.{statement}
 use Rattle.queries.proofs.refuse.Tie as tie
 

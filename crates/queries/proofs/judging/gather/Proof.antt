@@ -9,7 +9,7 @@ use native.Mathlib.Omega.{arith}
 use lib.ListN.{length, getD, length-map}
 use denote.Ref.{now}
 use Rattle.words.specs.Words.{words}
-use Rattle.identifiers.specs.Names.{Name, numberOf}
+use Rattle.identifiers.specs.Names.{numberOf}
 use Rattle.identifiers.specs.Register.{names}
 use Rattle.matches.specs.Served.{OpenedFor}
 use Rattle.queries.proofs.Gathering.{lent-at, used-few, Gathering, gathering-none, gathered-all, gathering-unknown, gathered-fault, gathering-more}

@@ -4,7 +4,7 @@ use mathlib.Core.List.{[], map}
 use Prim.Native.Nat.{_≤_, _-_}
 use native.Mathlib.Omega.{arith}
 use borrow.Author.Needs.{needs}
-use lib.ListN.{length, getD, take, drop}
+use lib.ListN.{getD, take, drop}
 use denote.Ref.{now}
 use Rattle.identifiers.specs.Names.{among}
 use Rattle.queries.proofs.Tested.{again-found, again-on, again-end}
