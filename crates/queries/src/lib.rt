@@ -21,6 +21,12 @@ pub struct Top {
     pub hits: [Hit; 32],
 }
 
+// What a query answers, and its hits.
+pub struct Answered {
+    pub answer: Found,
+    pub top: Top,
+}
+
 // No hits yet.
 pub fn no_hits() -> Top
     ensures { λ r. ⌜ r ≡ topOf [] ⌝ }
@@ -103,12 +109,6 @@ pub fn place_hit(t: Top, g: Hit, places: u16) -> Top
         return t;
     }
     insert_hit(t, g, k, last)
-}
-
-// What a query answers, and its hits.
-pub struct Answered {
-    pub answer: Found,
-    pub top: Top,
 }
 
 // A refusal: no hits.
