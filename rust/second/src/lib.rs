@@ -6,6 +6,7 @@
 //!
 //! - [`engine`]: the calls.
 //! - [`state`]: what is remembered between calls; [`refusal`]: why a call is refused.
+//! - [`image`]: the state as bytes.
 //! - [`commands`]: the command program, a line at a time.
 //! - [`ledger`]: what the calls must answer, kept without any bytes and
 //!   without any code of the engine.
@@ -15,6 +16,7 @@
 mod card;
 pub mod commands;
 pub mod engine;
+pub mod image;
 pub mod ledger;
 mod limits;
 mod merge;

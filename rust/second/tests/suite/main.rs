@@ -7,6 +7,7 @@ mod foreign;
 mod histories;
 mod history;
 mod image;
+mod images;
 mod layout;
 mod levels;
 mod limits;
