@@ -1,12 +1,44 @@
 //! The proved engine behind safe functions.
 //!
 //! Each function here calls one exported function of the crate `capi`, whose contract asks nothing of its caller: a slice passes as a
-//! pointer and a length.
+//! pointer and a length. The state is an image of [`IMAGE`] bytes. A refusal is given by its number.
+
+/// Bytes of a state's image: 614 little-endian words.
+pub const IMAGE: usize = 2_456;
+
+/// A number above every window: an open's refusals are told from there on.
+const REFUSED: u32 = 65_536;
 
 /// What `capi` exports.
 mod exported {
     unsafe extern "C" {
         pub fn gemsilver_register_ok(register: *const u8, length: usize) -> u8;
+        pub fn gemsilver_start(
+            image: *mut u8,
+            image_length: usize,
+            card: *mut u8,
+            card_length: usize,
+            register: *mut u8,
+            register_length: usize,
+        ) -> u32;
+        pub fn gemsilver_open(image: *mut u8, image_length: usize) -> u32;
+        pub fn gemsilver_close(image: *mut u8, image_length: usize) -> u32;
+        pub fn gemsilver_event(
+            image: *mut u8,
+            image_length: usize,
+            card: *mut u8,
+            card_length: usize,
+            register: *mut u8,
+            register_length: usize,
+            identifier: *const u8,
+            identifier_length: usize,
+        ) -> u32;
+        pub fn gemsilver_flush(
+            image: *mut u8,
+            image_length: usize,
+            card: *mut u8,
+            card_length: usize,
+        ) -> u32;
     }
 }
 
@@ -14,4 +46,77 @@ mod exported {
 pub fn register_ok(register: &[u8]) -> bool {
     // Sound: the pointer and the length are those of one slice, which is only read.
     unsafe { exported::gemsilver_register_ok(register.as_ptr(), register.len()) == 1 }
+}
+
+/// Nothing, or the number of the refusal.
+fn done(number: u32) -> Result<(), u32> {
+    if number == 0 { Ok(()) } else { Err(number) }
+}
+
+/// Makes a fresh card and an empty register, and writes the image of the state that goes with them.
+pub fn start(image: &mut [u8], card: &mut [u8], register: &mut [u8]) -> Result<(), u32> {
+    // Sound: each pointer and length are those of one slice, and slices lent for writing do not overlap.
+    done(unsafe {
+        exported::gemsilver_start(
+            image.as_mut_ptr(),
+            image.len(),
+            card.as_mut_ptr(),
+            card.len(),
+            register.as_mut_ptr(),
+            register.len(),
+        )
+    })
+}
+
+/// Opens a window and answers its number.
+pub fn open(image: &mut [u8]) -> Result<u32, u32> {
+    // Sound: the pointer and the length are those of one slice lent for writing.
+    let number = unsafe { exported::gemsilver_open(image.as_mut_ptr(), image.len()) };
+    if number < REFUSED {
+        Ok(number)
+    } else {
+        Err(number - REFUSED)
+    }
+}
+
+/// Closes the open window.
+pub fn close(image: &mut [u8]) -> Result<(), u32> {
+    // Sound: the pointer and the length are those of one slice lent for writing.
+    done(unsafe { exported::gemsilver_close(image.as_mut_ptr(), image.len()) })
+}
+
+/// Counts an identifier in the open window.
+pub fn event(
+    image: &mut [u8],
+    card: &mut [u8],
+    register: &mut [u8],
+    identifier: &[u8],
+) -> Result<(), u32> {
+    // Sound: each pointer and length are those of one slice, slices lent for writing overlap nothing, and the identifier is only
+    // read.
+    done(unsafe {
+        exported::gemsilver_event(
+            image.as_mut_ptr(),
+            image.len(),
+            card.as_mut_ptr(),
+            card.len(),
+            register.as_mut_ptr(),
+            register.len(),
+            identifier.as_ptr(),
+            identifier.len(),
+        )
+    })
+}
+
+/// Writes the buffered postings to the card.
+pub fn flush(image: &mut [u8], card: &mut [u8]) -> Result<(), u32> {
+    // Sound: each pointer and length are those of one slice, and slices lent for writing do not overlap.
+    done(unsafe {
+        exported::gemsilver_flush(
+            image.as_mut_ptr(),
+            image.len(),
+            card.as_mut_ptr(),
+            card.len(),
+        )
+    })
 }

@@ -1,0 +1,132 @@
+//! Both engines behind one form: a call made on an image, a card and a register.
+
+use crate::words::put;
+use second::engine;
+use second::image;
+use second::refusal::Refusal;
+use second::state::{Hit, State};
+
+/// All that calls read and write.
+#[derive(Clone, PartialEq, Eq)]
+pub struct Probe {
+    pub image: Vec<u8>,
+    pub card: Vec<u8>,
+    pub register: Vec<u8>,
+}
+
+#[derive(Clone, Debug)]
+pub enum Call {
+    Start,
+    Open,
+    Close,
+    Event(Vec<u8>),
+    Flush,
+    Remove(u32),
+    Step,
+    /// The identifiers, and what the list of hits holds before.
+    Query(Vec<Vec<u8>>, Vec<u8>),
+}
+
+impl Call {
+    pub fn name(&self) -> &'static str {
+        match self {
+            Call::Start => "start",
+            Call::Open => "open",
+            Call::Close => "close",
+            Call::Event(_) => "event",
+            Call::Flush => "flush",
+            Call::Remove(_) => "remove",
+            Call::Step => "step",
+            Call::Query(..) => "query",
+        }
+    }
+
+    /// Whether the proved engine exports the call.
+    pub fn is_exported(&self) -> bool {
+        !matches!(self, Call::Remove(_) | Call::Step | Call::Query(..))
+    }
+
+    /// What the list of hits holds before the call.
+    pub fn list(&self) -> Vec<u8> {
+        match self {
+            Call::Query(_, list) => list.clone(),
+            _ => Vec::new(),
+        }
+    }
+}
+
+/// What a call answers: an open its window, a query its hits and postings taken, others zeros; or a refusal's number.
+pub type Answer = Result<(u32, u64), u32>;
+
+const NOTHING: (u32, u64) = (0, 0);
+
+fn slices(names: &[Vec<u8>]) -> Vec<&[u8]> {
+    names.iter().map(|name| &name[..]).collect()
+}
+
+/// Makes a call of the proved engine.
+pub fn proved(probe: &mut Probe, call: &Call, hits: &mut [u8]) -> Answer {
+    let Probe {
+        image,
+        card,
+        register,
+    } = probe;
+    match call {
+        Call::Start => proved::start(image, card, register).map(|()| NOTHING),
+        Call::Open => proved::open(image).map(|window| (window, 0)),
+        Call::Close => proved::close(image).map(|()| NOTHING),
+        Call::Event(name) => proved::event(image, card, register, name).map(|()| NOTHING),
+        Call::Flush => proved::flush(image, card).map(|()| NOTHING),
+        // Not exported: the second engine moves both sides on.
+        Call::Remove(_) | Call::Step | Call::Query(..) => second(probe, call, hits),
+    }
+}
+
+/// Makes a call of the second engine. Bytes that are no image are a state that breaks the rules.
+pub fn second(probe: &mut Probe, call: &Call, hits: &mut [u8]) -> Answer {
+    let broken = u32::from(Refusal::BrokenState.number());
+    if let Call::Start = call {
+        if probe.image.len() != image::LENGTH {
+            return Err(broken);
+        }
+        let (state, result) = engine::start(&mut probe.card, &mut probe.register);
+        probe.image = image::write(&state);
+        return numbered(result.map(|()| NOTHING));
+    }
+    let mut state = image::read(&probe.image).ok_or(broken)?;
+    let answer = on_state(&mut state, probe, call, hits);
+    probe.image = image::write(&state);
+    numbered(answer)
+}
+
+fn numbered(answer: Result<(u32, u64), Refusal>) -> Answer {
+    answer.map_err(|refusal| refusal.number().into())
+}
+
+fn on_state(
+    state: &mut State,
+    probe: &mut Probe,
+    call: &Call,
+    hits: &mut [u8],
+) -> Result<(u32, u64), Refusal> {
+    let Probe { card, register, .. } = probe;
+    match call {
+        Call::Start => unreachable!("a start reads no state"),
+        Call::Open => engine::open(state).map(|window| (window.into(), 0)),
+        Call::Close => engine::close(state).map(|()| NOTHING),
+        Call::Event(name) => engine::event(state, card, register, name).map(|()| NOTHING),
+        Call::Flush => engine::flush(state, card).map(|()| NOTHING),
+        Call::Remove(window) => engine::remove(state, card, *window).map(|()| NOTHING),
+        Call::Step => engine::step(state, card).map(|()| NOTHING),
+        Call::Query(names, _) => {
+            let mut list = vec![Hit::default(); hits.len() / 8];
+            let found = engine::query(state, card, register, &slices(names), &mut list)?;
+            let listed = usize::from(found.hits);
+            for (place, hit) in hits.chunks_exact_mut(8).zip(&list[..listed]) {
+                put(place, 0, hit.window.into());
+                put(place, 1, hit.score);
+            }
+            Ok((found.hits.into(), found.taken.into()))
+        }
+    }
+}

@@ -1,0 +1,147 @@
+//! Random histories from a start: after every call both engines have answered and left the same bytes.
+
+use crate::history::{History, Odds, Plan};
+use crate::rng::Rng;
+use crate::tally::Tally;
+
+const EVEN: Odds = Odds {
+    turn: 10,
+    event: 60,
+    remove: 8,
+    flush: 4,
+    step: 10,
+    query: 12,
+    odd: 4,
+};
+
+/// Flushes and merges often, with few postings in each.
+const MERGING: Odds = Odds {
+    turn: 12,
+    event: 25,
+    remove: 10,
+    flush: 20,
+    step: 30,
+    query: 8,
+    odd: 2,
+};
+
+/// Removes as much as it counts, so that merges come out empty.
+const CANCELLING: Odds = Odds {
+    turn: 20,
+    event: 20,
+    remove: 20,
+    flush: 25,
+    step: 15,
+    query: 5,
+    odd: 1,
+};
+
+/// Hardly merges, so that level 0 or the card fills up.
+const JAMMED: Odds = Odds {
+    step: 1,
+    flush: 10,
+    ..EVEN
+};
+
+/// Long windows, so that they fill up and split.
+const WIDE: Odds = Odds {
+    turn: 1,
+    event: 150,
+    remove: 8,
+    flush: 4,
+    step: 12,
+    query: 8,
+    odd: 2,
+};
+
+/// Fills the buffer and lets it overflow, with merges of many postings.
+const GROWING: Odds = Odds {
+    turn: 5,
+    event: 80,
+    remove: 1,
+    flush: 0,
+    step: 12,
+    query: 4,
+    odd: 1,
+};
+
+fn plan(blocks: usize, entries: usize, calls: usize, odds: Odds) -> Plan {
+    Plan {
+        blocks,
+        entries,
+        calls,
+        names: entries + 2,
+        keep: 8,
+        odds,
+    }
+}
+
+/// The histories that between them meet everything.
+fn plans() -> Vec<Plan> {
+    let mut plans = Vec::new();
+    for blocks in [4, 8, 20, 52] {
+        plans.extend([
+            plan(16, 64, 4_000, EVEN),
+            Plan {
+                names: 30,
+                ..plan(64, 32, 8_000, MERGING)
+            },
+            Plan {
+                names: 3,
+                keep: 0,
+                ..plan(40, 4, 4_000, CANCELLING)
+            },
+            plan(blocks, 12, 2_000, JAMMED),
+            Plan {
+                names: 200,
+                keep: 3,
+                ..plan(48, 180, 6_000, WIDE)
+            },
+            Plan {
+                names: 100,
+                keep: 300,
+                ..plan(64, 128, 6_000, GROWING)
+            },
+        ]);
+    }
+    plans
+}
+
+fn run(plan: &Plan, seed: u64, tally: &mut Tally) {
+    let mut history = History::new(plan, seed, tally);
+    for _ in 0..plan.calls {
+        history.act(plan, tally);
+    }
+}
+
+#[test]
+fn both_engines_go_through_histories_alike() {
+    let mut tally = Tally::default();
+    for (seed, plan) in plans().iter().enumerate() {
+        run(plan, seed as u64, &mut tally);
+    }
+    tally.print("histories");
+    tally.expect("start", &[0], 20);
+    tally.expect("open", &[0, 5], 100);
+    tally.expect("close", &[0, 5], 50);
+    tally.expect("event", &[0, 4, 5, 8, 9, 10, 11], 20);
+    tally.expect("flush", &[0, 10, 11], 20);
+}
+
+/// Short histories on cards of 4 to 64 blocks and registers of 1 to 1,024 entries.
+#[test]
+fn both_engines_agree_on_buffers_of_all_sizes() {
+    let mut rng = Rng(77);
+    let mut tally = Tally::default();
+    for round in 0..80 {
+        let blocks = 4 + rng.below(1 << (2 + round % 5)).min(60);
+        let entries = 1 + rng.below(1 << (round % 11));
+        let odds = rng.pick(&[EVEN, MERGING, JAMMED, WIDE]);
+        run(&plan(blocks, entries, 250, odds), rng.next(), &mut tally);
+    }
+    for (blocks, entries) in [(4, 1), (4, 1_024), (64, 1), (64, 1_024)] {
+        let plan = plan(blocks, entries, 1_500, WIDE);
+        run(&plan, rng.next(), &mut tally);
+    }
+    tally.print("buffers of all sizes");
+}

@@ -1,0 +1,188 @@
+//! Random histories: calls at random, weighted by a plan.
+
+use crate::engines::Call;
+use crate::pair::Pair;
+use crate::rng::Rng;
+use crate::tally::Tally;
+use crate::words::{at, word};
+
+/// How likely each kind of call is, against the others.
+#[derive(Clone, Copy)]
+pub struct Odds {
+    /// Open a window, or close the open one.
+    pub turn: usize,
+    pub event: usize,
+    pub remove: usize,
+    pub flush: usize,
+    pub step: usize,
+    pub query: usize,
+    /// A call that is likely to be refused.
+    pub odd: usize,
+}
+
+#[derive(Clone, Copy)]
+pub struct Plan {
+    pub blocks: usize,
+    pub entries: usize,
+    pub calls: usize,
+    /// How many different identifiers are used.
+    pub names: usize,
+    /// Windows are removed when more than this are live.
+    pub keep: usize,
+    pub odds: Odds,
+}
+
+/// The identifier of a number: of 1 to 64 bytes, with common beginnings, zeros and high bytes.
+pub fn name(number: usize) -> Vec<u8> {
+    let end = (number as u16).to_le_bytes();
+    let start = match number % 6 {
+        0 if number < 256 => return vec![number as u8],
+        0 => vec![],
+        1 => b"SIXTEEN IN FRONT".to_vec(),
+        2 => vec![255; 62],
+        3 => vec![0; 1 + number / 6 % 7],
+        4 => vec![b'A'; number / 6 % 63],
+        _ => vec![128 + (number % 100) as u8; 14 + number / 6 % 4],
+    };
+    [start, end.to_vec()].concat()
+}
+
+/// An identifier of the plan, one that is not, or no identifier.
+pub fn any_name(rng: &mut Rng, names: usize) -> Vec<u8> {
+    match rng.below(30) {
+        0 => vec![rng.next() as u8; rng.pick(&[0, 1, 16, 64, 65, 66, 300])],
+        1 => {
+            let mut near = name(rng.below(names));
+            near.pop();
+            near
+        }
+        _ => name(rng.below(names)),
+    }
+}
+
+/// A query of up to 7 identifiers, some twice, with up to 40 places.
+pub fn any_query(rng: &mut Rng, names: usize) -> Call {
+    let mut ids: Vec<Vec<u8>> = (0..rng.pick(&[0, 1, 1, 2, 2, 3, 3, 4, 5, 5, 6, 7]))
+        .map(|_| any_name(rng, names))
+        .collect();
+    if rng.one_in(15) && !ids.is_empty() {
+        let (from, to) = (rng.below(ids.len()), rng.below(ids.len()));
+        ids[to] = ids[from].clone();
+    }
+    let places = match rng.below(10) {
+        0 => rng.pick(&[0, 1, 32, 33]),
+        1 => rng.below(41),
+        _ => 1 + rng.below(32),
+    };
+    let bytes = 8 * places + if rng.one_in(4) { rng.below(8) } else { 0 };
+    let list = (0..bytes).map(|_| rng.next() as u8).collect();
+    Call::Query(ids, list)
+}
+
+/// A history on its way.
+pub struct History {
+    pub pair: Pair,
+    pub rng: Rng,
+    /// The windows with events that are not removed.
+    live: Vec<u32>,
+}
+
+impl History {
+    pub fn new(plan: &Plan, seed: u64, tally: &mut Tally) -> Self {
+        History {
+            pair: Pair::start(plan.blocks, plan.entries, tally),
+            rng: Rng(seed),
+            live: Vec::new(),
+        }
+    }
+
+    /// Makes a call, and keeps the list of live windows.
+    pub fn make(&mut self, call: &Call, tally: &mut Tally) {
+        let open = self.word(at::OPEN);
+        if self.pair.make(call, tally).is_err() {
+            return;
+        }
+        match call {
+            Call::Event(_) if self.live.last() != Some(&open) => self.live.push(open),
+            Call::Remove(window) => self.live.retain(|live| live != window),
+            _ => {}
+        }
+    }
+
+    /// A number of the state.
+    fn word(&self, place: usize) -> u32 {
+        word(&self.pair.probe().image, place)
+    }
+
+    /// Makes the next call.
+    pub fn act(&mut self, plan: &Plan, tally: &mut Tally) {
+        let odds = &plan.odds;
+        let kinds: [(usize, fn(&mut Self, &Plan) -> Call); 7] = [
+            (odds.turn, Self::turn),
+            (odds.event, Self::event),
+            (odds.remove, Self::remove),
+            (odds.flush, |_, _| Call::Flush),
+            (odds.step, Self::step),
+            (odds.query, |history, plan| {
+                any_query(&mut history.rng, plan.names + 2)
+            }),
+            (odds.odd, Self::odd),
+        ];
+        let mut place = self.rng.below(kinds.iter().map(|kind| kind.0).sum());
+        for (weight, choose) in kinds {
+            if place < weight {
+                let call = choose(self, plan);
+                return self.make(&call, tally);
+            }
+            place -= weight;
+        }
+    }
+
+    fn turn(&mut self, _: &Plan) -> Call {
+        if self.word(at::OPEN) == 0 {
+            Call::Open
+        } else {
+            Call::Close
+        }
+    }
+
+    fn event(&mut self, plan: &Plan) -> Call {
+        if self.word(at::OPEN) == 0 && !self.rng.one_in(20) {
+            return Call::Open;
+        }
+        Call::Event(any_name(&mut self.rng, plan.names))
+    }
+
+    /// Removes an old window or any one.
+    fn remove(&mut self, plan: &Plan) -> Call {
+        if self.live.len() <= plan.keep {
+            return self.event(plan);
+        }
+        let among = if self.rng.one_in(2) {
+            1
+        } else {
+            self.live.len()
+        };
+        Call::Remove(self.live[self.rng.below(among)])
+    }
+
+    /// Steps, though less often where there are too few partitions for a merge.
+    fn step(&mut self, plan: &Plan) -> Call {
+        if self.word(at::PARTITIONS) < 8 && !self.rng.one_in(8) {
+            return self.event(plan);
+        }
+        Call::Step
+    }
+
+    /// A call that does not go with the open window, or names a window that is none.
+    fn odd(&mut self, _: &Plan) -> Call {
+        let last = self.word(at::LAST);
+        match self.rng.below(5) {
+            0 => Call::Open,
+            1 => Call::Close,
+            2 => Call::Remove(self.rng.pick(&[0, 65_535, 65_536, u32::MAX])),
+            3 => Call::Remove(last + self.rng.below(3) as u32),
+            _ => Call::Remove(self.rng.below(last as usize + 1) as u32),
+        }
+    }
+}

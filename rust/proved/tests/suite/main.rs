@@ -1,0 +1,16 @@
+//! The proved engine held against the second one.
+
+mod damage;
+mod damaged;
+mod engines;
+mod histories;
+mod history;
+mod levels;
+mod pair;
+mod parts;
+mod registers;
+mod rng;
+mod rules;
+mod starts;
+mod tally;
+mod words;

@@ -1,0 +1,88 @@
+//! The two engines beside each other: every call goes to both, and all that they answer and leave is compared byte by byte.
+
+use crate::engines::{Answer, Call, Probe, proved, second};
+use crate::tally::Tally;
+use second::image;
+
+const BLOCK: usize = 4_096;
+
+pub struct Pair {
+    proved: Probe,
+    second: Probe,
+    /// All of it before the call.
+    before: Probe,
+}
+
+impl Pair {
+    /// Both on the same input.
+    pub fn of(probe: Probe) -> Self {
+        Pair {
+            proved: probe.clone(),
+            second: probe.clone(),
+            before: probe,
+        }
+    }
+
+    /// Both after a start, on buffers that held something else.
+    pub fn start(blocks: usize, entries: usize, tally: &mut Tally) -> Self {
+        let mut pair = Pair::of(Probe {
+            image: vec![9; image::LENGTH],
+            card: vec![9; blocks * BLOCK],
+            register: vec![9; entries * 65],
+        });
+        pair.make(&Call::Start, tally).expect("fitting lengths");
+        pair
+    }
+
+    /// What both engines have left.
+    pub fn probe(&self) -> &Probe {
+        &self.before
+    }
+
+    /// Makes a call of both engines and compares.
+    pub fn make(&mut self, call: &Call, tally: &mut Tally) -> Answer {
+        let (mut found, mut expected) = (call.list(), call.list());
+        let answer = proved(&mut self.proved, call, &mut found);
+        let second = second(&mut self.second, call, &mut expected);
+        assert_eq!(answer, second, "proved and second: {call:?}");
+        assert!(found == expected, "hits: {call:?}");
+        same(&self.proved, &self.second, call);
+        if call.is_exported() {
+            tally.record(call.name(), answer.err());
+        }
+        // A start refused for a length leaves a state of zeros.
+        if answer.is_ok() || matches!(call, Call::Start) {
+            self.remember();
+        } else {
+            assert!(found == call.list(), "hits of a refusal: {call:?}");
+            same(&self.proved, &self.before, call);
+        }
+        answer
+    }
+
+    /// Keeps what is there now for the next call.
+    fn remember(&mut self) {
+        self.before.image.clone_from(&self.proved.image);
+        self.before.register.clone_from(&self.proved.register);
+        let blocks = self.proved.card.chunks(BLOCK);
+        for (old, new) in self.before.card.chunks_mut(BLOCK).zip(blocks) {
+            if old != new {
+                old.copy_from_slice(new);
+            }
+        }
+    }
+}
+
+/// Compares all bytes.
+fn same(left: &Probe, right: &Probe, call: &Call) {
+    for (what, left, right) in [
+        ("image", &left.image, &right.image),
+        ("card", &left.card, &right.card),
+        ("register", &left.register, &right.register),
+    ] {
+        if left != right {
+            let place = (0..left.len()).find(|&place| left[place] != right[place]);
+            panic!("{what} differs from byte {place:?} on: {call:?}");
+        }
+    }
+}

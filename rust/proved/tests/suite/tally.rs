@@ -1,0 +1,41 @@
+//! How many calls were compared, and which refusals they met.
+
+use std::collections::BTreeMap;
+
+#[derive(Default)]
+pub struct Tally {
+    /// By call and refusal; 0 for a call that was done.
+    counts: BTreeMap<(&'static str, u32), usize>,
+}
+
+impl Tally {
+    pub fn record(&mut self, call: &'static str, refusal: Option<u32>) {
+        *self.counts.entry((call, refusal.unwrap_or(0))).or_default() += 1;
+    }
+
+    /// Prints what was compared, a line a call and one for all.
+    pub fn print(&self, title: &str) {
+        let mut calls: BTreeMap<&str, (usize, String)> = BTreeMap::new();
+        for (&(call, refusal), count) in &self.counts {
+            let line = calls.entry(call).or_default();
+            line.0 += count;
+            line.1 += &match refusal {
+                0 => format!(" done {count}"),
+                _ => format!(" !{refusal} {count}"),
+            };
+        }
+        let all: usize = self.counts.values().sum();
+        println!("{title}: {all} calls compared");
+        for (call, (count, line)) in calls {
+            println!("  {call:6} {count:7}:{line}");
+        }
+    }
+
+    /// Each of these refusals of a call, and the call done (0), must have been met so many times.
+    pub fn expect(&self, call: &'static str, refusals: &[u32], times: usize) {
+        for &refusal in refusals {
+            let met = self.counts.get(&(call, refusal)).copied().unwrap_or(0);
+            assert!(met >= times, "{call} with {refusal}: met {met} times");
+        }
+    }
+}
