@@ -5,8 +5,8 @@ use mathlib.Core.Path.{_≡_, refl, sym, ap, _∙_}
 use Prim.Native.Nat.{ℕ, zero, suc, _+_, _-_, _*_, _<_, _≤_}
 use native.Mathlib.Omega.{arith}
 use lib.Dec.{leb, eqb}
-use lib.ListN.{length, getD, take, drop, replicate, length-append, length-map}
-use lib.Seq.{sets, length-sets, length-take-le}
+use lib.ListN.{length, getD, take, drop, replicate, length-append, length-map, length-take, length-drop}
+use lib.Seq.{sets, length-sets}
 use borrow.Author.Tests.{eqb-true, eqb-false, ne-eqb}
 use Rattle.lists.specs.All.{AllOf}
 use Rattle.lists.specs.Lists.{every, elem, empty, joined, different}
@@ -173,8 +173,8 @@ module _ (W : List ℕ) (s : State) (is : Partitions) (t : Totals) (g : Judged W
       more-long = ap length more ∙ length-append (progress ps j) (map wordOf (batched b)) ∙ (omega (arith, length-map (batched b) wordOf))
 
       -- room for the step
-      pub batch-room : length (b .pairs) ≡ 16 → 8 + 3 * t .terms + o .written + b .used ≤ 1023 * o .blocks
-      batch-room l = omega (arith, offset, more-long, room (suc j), long-bs, length-take-le (b .used) (b .pairs) (omega (arith, a .few)))
+      pub batch-room : 8 + 3 * t .terms + o .written + length (batched b) ≤ 1023 * o .blocks
+      batch-room = omega (arith, offset, more-long, room (suc j), long-bs)
 
       -- the step's sums are written
       pub batch-stored : written W bs (8 + 3 * t .terms + o .written) (map wordOf (batched b)) ≡ store W bs (progress ps (suc j))
@@ -220,40 +220,58 @@ module _ (W : List ℕ) (s : State) (is : Partitions) (t : Totals) (g : Judged W
       pub inputs-kept : (c : List ℕ) → AgreeAll (store W bs c) W (inputs s)
       inputs-kept c = store-keeps W bs c (inputs s) (part-every (inputs s) fin part (λ q. apart (chainOf W q) bs) (every-chains W bs fin (parted .apart)))
 
-      -- and so the card is as the definition says
-      pub on-done : isLast ps (suc j) ≡ false → store W bs (progress ps (suc j)) ≡ writtenOn W s ps (suc j) bs
-      unfolding writtenOn outputContent
-      on-done e = rw e
+      -- so the output has its content
+      pub content-more : isLast ps (suc j) ≡ false → store W bs (progress ps (suc j)) ≡ store W bs (outputContent s ps (suc j))
+      unfolding outputContent
+      content-more e = rw e
 
-      pub on-last : isLast ps (suc j) ≡ true → release (store W bs (encode (outputLevel s) (result ps))) (chainsOf W (inputs s)) ≡ writtenOn W s ps (suc j) bs
-      unfolding writtenOn outputContent
-      on-last e = rw e
+      pub content-last : isLast ps (suc j) ≡ true → store W bs (encode (outputLevel s) (result ps)) ≡ store W bs (outputContent s ps (suc j))
+      unfolding outputContent
+      content-last e = rw e
 
-    -- an output without blocks
-    module _ (z : o .blocks ≡ 0) where
-      none-bs : bs ≡ []
-      none-bs = chain-none W (o .first) (o .blocks) z
+    -- an output without blocks has nothing stored
+    pub none-stored : (c : List ℕ) → o .blocks ≡ 0 → W ≡ store W bs c
+    unfolding store
+    none-stored c z = rw (chain-none W (o .first) (o .blocks) z)
 
-      pub none-done : isLast ps (suc j) ≡ false → W ≡ writtenOn W s ps (suc j) bs
-      unfolding writtenOn store
-      none-done e = rw (none-bs, e)
+    -- either way the inputs are left
+    pub step-kept : (c : List ℕ) → AgreeAll (store W bs c) W (inputs s)
+    step-kept c =
+        by-test (eqb (o .blocks) 0)
+        (λ y. rw (← none-stored c (eqb-true (o .blocks) 0 y)) (agrees-self W (inputs s)))
+        (λ f. inputs-kept (omega (arith, eqb-false (o .blocks) 0 f)) c)
 
-      pub none-last : isLast ps (suc j) ≡ true → release W (chainsOf W (inputs s)) ≡ writtenOn W s ps (suc j) bs
-      unfolding writtenOn store
-      none-last e = rw (none-bs, e)
+    -- and the card is as the definition says
+    pub step-more : isLast ps (suc j) ≡ false → store W bs (outputContent s ps (suc j)) ≡ writtenOn W s ps (suc j) bs
+    unfolding writtenOn
+    step-more e = rw e
+
+    pub step-last : isLast ps (suc j) ≡ true → release (store W bs (outputContent s ps (suc j))) (chainsOf W (inputs s)) ≡ writtenOn W s ps (suc j) bs
+    unfolding writtenOn
+    step-last e = rw e
+
+    pub last-told : leb (t .pairs) (16 * suc j) ≡ isLast ps (suc j)
+    last-told = rw pairs-told
 
   -- Freeing the inputs -----------------------------------------------------------------------------------------------------
+
+  -- they are not more than there are partitions
+  pub inputs-few : is .used ≤ 51
+  inputs-few =
+      rw (g .are)
+      (omega (
+        arith,
+        ap length (part .same),
+        length-take (part .count) (drop (part .from) fin),
+        length-drop (part .from) fin,
+        length-take (s .partitions .used) (s .partitions .records),
+        g .used,
+      ))
 
   -- on a card that agrees on the inputs their blocks can be freed
   pub inputs-free : (Y : List ℕ) → length Y ≡ length W → AgreeAll Y W (inputs s)
       → AllOf (λ p. Chained Y (p .first) (blocksFor (p .length))) (inputs s) × (different (chainsOf Y (inputs s)) ≡ true) × (chainsOf Y (inputs s) ≡ chainsOf W (inputs s))
   inputs-free Y l k =
-      let e = chains-kept Y W (inputs s) k in (
-        chained-kept Y W l (inputs s) k (part-all (inputs s) fin part (λ p. Chained W (p .first) (blocksFor (p .length))) (all-chained W (blocks s) (g .long) (g .few) fin rules)),
-        rw e (part-different (inputs s) fin part W chains-apart),
-        e,
-      )
-
-  -- a card agrees with itself
-  pub same-agrees : AgreeAll W W (inputs s)
-  same-agrees = agrees-self W (inputs s)
+      let e = chains-kept Y W (inputs s) k in
+      (chained-kept Y W l (inputs s) k (part-all (inputs s) fin part (λ p. Chained W (p .first) (blocksFor (p .length))) (all-chained W (blocks s) (g .long) (g .few) fin rules)),
+      rw e (part-different (inputs s) fin part W chains-apart), e)
