@@ -3,3 +3,4 @@ pub mod Progress
 pub mod Choosing
 pub mod Merged
 pub mod Drafting
+pub mod Refusing

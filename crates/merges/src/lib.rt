@@ -1,4 +1,5 @@
 // A merge step. It promises its answer, the state and the card as its definition says, whatever it is given.
+mod judging; // the output in progress
 mod listing; // which partitions are merged, and what takes their place
 mod writing; // what a step writes, and the state that it leaves
 

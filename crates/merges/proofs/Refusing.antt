@@ -1,0 +1,160 @@
+-- The rule of the output in progress, test by test.
+use mathlib.Core.Bool.{Bool, true, false, cond, not, _&&_}
+use mathlib.Core.List.{List, [], _∷_, _++_, map}
+use mathlib.Core.Path.{_≡_, refl, sym, ap, ap₂, _∙_}
+use Prim.Native.Nat.{ℕ, zero, suc, _+_, _-_, _*_, _/_, _<_, _≤_}
+use native.Mathlib.Omega.{arith}
+use lib.Dec.{eqb, leb}
+use lib.ListN.{length, take, drop, replicate, length-append, take-append-drop}
+use borrow.Author.Tests.{eqb-true, eqb-false, eq-eqb, ne-eqb, le-leb, lt-leb}
+use Rattle.lists.specs.Lists.{empty, different, same}
+use Rattle.lists.proofs.Bools.{by-test}
+use Rattle.lists.proofs.Same.{same-true}
+use Rattle.words.specs.Words.{allOnes}
+use Rattle.postings.specs.declared.Posting.{Posting}
+use Rattle.postings.specs.Merge.{nonzero, pairs}
+use Rattle.state.specs.declared.Partition.{Partition}
+use Rattle.state.specs.declared.Partitions.{Partitions}
+use Rattle.state.specs.declared.State.{State}
+use Rattle.state.specs.Views.{padded, blocks, finished}
+use Rattle.card.specs.Blocks.{noBlock}
+use Rattle.card.specs.Chains.{blocksFor, chain, chainRule, content}
+use Rattle.partitions.specs.Layout.{termCount, totalLength, lengthOf, wordOf}
+use Rattle.partitions.specs.Reading.{inPartitions}
+use Rattle.inputs.specs.declared.Totals.{Totals}
+use Rattle.inputs.specs.declared.Batch.{Batch}
+use Rattle.inputs.specs.Judging.{totalsOf}
+use Rattle.inputs.specs.Ahead.{batched}
+use Rattle.drafts.specs.Drafted.{holdsDraft, standsApart}
+use Rattle.merges.specs.declared.Output.{Output}
+use Rattle.merges.specs.Merging.{inputs, taking, result, outputLength, outputBlocks, progress, isLast}
+use Rattle.merges.specs.Step.{outputRule}
+use Rattle.merges.specs.Acting.{Drafted, Judged, Acts, lengthFrom}
+use Rattle.merges.proofs.Choosing.{finished-of}
+use Rattle.merges.proofs.Progress.{nonzero-append, nonzero-take, result-room}
+use Rattle.merges.proofs.Drafting.{terms-told, postings-told, pairs-told}
+
+-- Lists ------------------------------------------------------------------------------------------------------------------
+
+empty-length : (r : List Posting) → empty r ≡ eqb (length r) 0
+empty-length [] = refl
+empty-length (p ∷ r) = sym (ne-eqb (suc (length r)) 0 (λ e. omega arith))
+
+none-length : (l : List Posting) → length l ≤ 0 → l ≡ []
+none-length [] h = refl
+none-length (p ∷ l) h = absurd (omega arith)
+
+-- Told by the totals -----------------------------------------------------------------------------------------------------
+
+module _ (W : List ℕ) (s : State) (is : Partitions) (t : Totals) (g : Judged W s is t) where
+  abbrev ps : List Posting
+  ps = taking W s
+
+  pub empty-told : eqb (t .postings) 0 ≡ empty (result ps)
+  empty-told = ap (λ (k : ℕ). eqb k 0) (postings-told W s is t g) ∙ sym (empty-length (result ps))
+
+  pub length-told : lengthFrom t ≡ outputLength (result ps)
+  unfolding lengthOf
+  length-told = rw (empty-told, terms-told W s is t g, postings-told W s is t g)
+
+  pub blocks-told : blocksFor (lengthFrom t) ≡ outputBlocks (result ps)
+  blocks-told = ap blocksFor length-told ∙ by-test (empty (result ps)) (λ y. rw y) (λ y. rw y)
+
+  -- no block is there for an empty result alone
+  pub none-empty : blocksFor (lengthFrom t) ≡ 0 → empty (result ps) ≡ true
+  unfolding lengthOf
+  none-empty e = by-test (empty (result ps)) (λ y. y) (λ f. absurd (omega (arith, e, ap blocksFor (length-told ∙ ap (λ (u : Bool). cond u 0 (lengthOf (result ps))) f))))
+
+  pub some-there : (blocksFor (lengthFrom t) ≡ 0 → ⊥) → empty (result ps) ≡ false
+  some-there h = by-test (empty (result ps)) (λ y. absurd (h (blocks-told ∙ rw y))) (λ f. f)
+
+  -- the pairs of the inputs, as they are read
+  pub pairs-read : pairs (inPartitions W (finished is)) ≡ ps
+  unfolding taking
+  pairs-read = ap (λ (l : List Partition). pairs (inPartitions W l)) (ap finished (g .are) ∙ finished-of (inputs s))
+
+  -- The rule -----------------------------------------------------------------------------------------------------------------
+
+  abbrev j : ℕ
+  j = s .merge .steps
+
+  abbrev n : ℕ
+  n = blocksFor (lengthFrom t)
+
+  pub rule-late : t .pairs ≤ 16 * j → false ≡ outputRule W s ps
+  unfolding outputRule
+  rule-late h = rw (le-leb (length ps) (16 * j) (omega (arith, pairs-told W s is t g)))
+
+  module _ (early : 16 * j < t .pairs) where
+    left : isLast ps j ≡ false
+    left = lt-leb (length ps) (16 * j) (omega (arith, pairs-told W s is t g))
+
+    pub rule-long : (s .merge .length ≡ lengthFrom t → ⊥) → false ≡ outputRule W s ps
+    unfolding outputRule
+    rule-long h = rw (left, ne-eqb (s .merge .length) (outputLength (result ps)) (λ e. h (e ∙ sym length-told)))
+
+    module _ (same-length : s .merge .length ≡ lengthFrom t) where
+      fits : eqb (s .merge .length) (outputLength (result ps)) ≡ true
+      fits = eq-eqb (s .merge .length) (outputLength (result ps)) (same-length ∙ length-told)
+
+      pub rule-none : n ≡ 0 → eqb (s .merge .first) noBlock ≡ outputRule W s ps
+      unfolding outputRule
+      rule-none z = rw (left, fits, none-empty z)
+
+      module _ (some : n ≡ 0 → ⊥) where
+        rest : outputRule W s ps
+            ≡ (chainRule W (blocks s) (s .merge .first) n
+            && (standsApart W (s .merge .first) n (finished (s .partitions)) && holdsDraft W (s .merge .first) n (8 + 3 * t .terms) (16 * j) ps))
+        unfolding outputRule progress
+        rest = rw (left, fits, blocks-told, terms-told W s is t g, some-there some)
+
+        pub rule-chain : chainRule W (blocks s) (s .merge .first) n ≡ false → false ≡ outputRule W s ps
+        rule-chain e = sym (rest ∙ rw e)
+
+        pub rule-apart : chainRule W (blocks s) (s .merge .first) n ≡ true → standsApart W (s .merge .first) n (finished (s .partitions)) ≡ false → false ≡ outputRule W s ps
+        rule-apart e f = sym (rest ∙ rw (e, f))
+
+        pub rule-held : chainRule W (blocks s) (s .merge .first) n ≡ true → standsApart W (s .merge .first) n (finished (s .partitions)) ≡ true
+            → holdsDraft W (s .merge .first) n (8 + 3 * t .terms) (16 * j) ps ≡ outputRule W s ps
+        rule-held e f = sym (rest ∙ rw (e, f))
+
+        pub room-held : 8 + 3 * t .terms + length (nonzero ps) ≤ 1023 * n
+        room-held = omega (arith, terms-told W s is t g, result-room ps n blocks-told (some-there some))
+
+  -- In order -----------------------------------------------------------------------------------------------------------------
+
+  module _ (o : Output) (b : Batch) (first : o .first ≡ s .merge .first) (many : o .blocks ≡ n) where
+    -- an empty result
+    pub acts-none : n ≡ 0 → s .merge .first ≡ noBlock → o .written ≡ 0 → b .used ≡ 0 → Acts W s o b
+    acts-none z e w u =
+        let nothing : length (nonzero ps) ≡ 0 = eqb-true (length (nonzero ps)) 0 (sym (empty-length (nonzero ps)) ∙ none-empty z) in
+        let after : nonzero (take 16 (drop (16 * j) ps)) ≡ [] =
+        none-length (nonzero (take 16 (drop (16 * j) ps)))
+        (omega (arith, nonzero-take 16 (drop (16 * j) ps), ap (λ (l : List Posting). length (nonzero l)) (take-append-drop (16 * j) ps), ap length (nonzero-append (take (16 * j) ps) (drop (16 * j) ps)), length-append (nonzero (take (16 * j) ps)) (nonzero (drop (16 * j) ps)))) in
+        record {
+          blocks = many ∙ blocks-told;
+          none = λ x. first ∙ e;
+          draft = λ h. absurd (omega (arith, many));
+          written = w ∙ sym (let q : length (nonzero (take (16 * j) ps)) ≡ 0 = omega (arith, nonzero-take (16 * j) ps) in q);
+          batch = ap (λ (k : ℕ). take k (b .pairs)) u ∙ sym after;
+          few = omega arith;
+        }
+
+    -- one with blocks that hold it
+    pub acts-held : (n ≡ 0 → ⊥) → chainRule W (blocks s) (s .merge .first) n ≡ true → standsApart W (s .merge .first) n (finished (s .partitions)) ≡ true
+        → holdsDraft W (s .merge .first) n (8 + 3 * t .terms) (16 * j) ps ≡ true
+        → o .written ≡ length (nonzero (take (16 * j) ps)) → batched b ≡ nonzero (take 16 (drop (16 * j) ps)) → b .used ≤ 16 → Acts W s o b
+    unfolding progress
+    acts-held some e f h w x u =
+        record {
+          blocks = many ∙ blocks-told;
+          none = λ z. absurd (some (sym many ∙ z));
+          draft = λ z. rw (first, many) (record {
+            rule = e;
+            apart = f;
+            full = rw (← terms-told W s is t g) (same-true _ _ h);
+          });
+          written = w;
+          batch = x;
+          few = u;
+        }

@@ -1,0 +1,64 @@
+// Refusal 3 of a step for the output in progress, and what comes next where it is in order.
+use super::writing;
+use drafts::Draft;
+use inputs::Batch;
+use inputs::Totals;
+use postings::Posting;
+use state::Partitions;
+use state::State;
+ghost use mathlib.Core.Bool.{true};
+ghost use mathlib.Core.Path.{_≡_};
+ghost use Rattle.words.specs.Words.{words as wordsOf};
+ghost use Rattle.card.specs.Chains.{blocksFor};
+ghost use Rattle.inputs.specs.Judging.{inputsFormed};
+ghost use Rattle.merges.specs.Merging.{inputs, taking};
+ghost use Rattle.merges.specs.Step.{outputRule};
+ghost use Rattle.merges.specs.Acting.{Judged, Acts, lengthFrom};
+
+// Nothing written, and nothing that comes next.
+fn no_draft(ok: bool) -> Draft
+    ensures { λ r. ⌜ (r .ok ≡ ok) × (r .written ≡ 0) × (r .batch .used ≡ 0) ⌝ }
+{
+    let none = Posting {
+        id: 0,
+        window: 0,
+        count: 0,
+    };
+    let b = Batch {
+        pairs: [none; 16],
+        used: 0,
+        taken: 0,
+    };
+    Draft {
+        ok: ok,
+        written: 0,
+        batch: b,
+    }
+}
+
+// Whether the output in progress is what the inputs give so far, with pairs left to take. One of no blocks has nothing to read.
+pub fn output_ok(s: State, card: &[u8], is: Partitions, t: Totals) -> Draft
+    requires { ⌜ Judged (wordsOf (now card)) s is t × (inputsFormed (wordsOf (now card)) (inputs s) ≡ true) ⌝ }
+    ensures { λ r. ⌜ (r .ok ≡ outputRule (wordsOf (now (card .entry))) s (taking (wordsOf (now (card .entry))) s))
+        × (r .ok ≡ true → Acts (wordsOf (now (card .entry))) s (record { first = s .merge .first; blocks = blocksFor (lengthFrom t); written = r .written; taken = s .taken }) (r .batch)) ⌝ }
+{
+    let job = s.merge;
+    if t.pairs as u64 <= 16 * job.steps as u64 {
+        return no_draft(false);
+    }
+    let length = writing::output_length(t);
+    if job.length != length {
+        return no_draft(false);
+    }
+    let n = partitions::blocks_for(length);
+    if n == 0 {
+        return no_draft(job.first == 65534);
+    }
+    if !card::chain_ok(card, s.lengths.card / 4096, job.first, n) {
+        return no_draft(false);
+    }
+    if !drafts::stands_apart(card, job.first, n, s.partitions) {
+        return no_draft(false);
+    }
+    drafts::read_draft(card, is, job.first, n, 8 + 3 * t.terms as u32, 16 * job.steps)
+}
