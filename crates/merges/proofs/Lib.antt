@@ -4,3 +4,4 @@ pub mod Choosing
 pub mod Merged
 pub mod Drafting
 pub mod Refusing
+pub mod Beginning
