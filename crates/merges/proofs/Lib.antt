@@ -5,3 +5,4 @@ pub mod Merged
 pub mod Drafting
 pub mod Refusing
 pub mod Beginning
+pub mod Stepping

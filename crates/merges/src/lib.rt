@@ -1,4 +1,29 @@
 // A merge step. It promises its answer, the state and the card as its definition says, whatever it is given.
+use answers::Refusal;
+use answers::Reply;
+use inputs::Batch;
+use inputs::Totals;
+use state::Partitions;
+use state::State;
+use windows::Replied;
+ghost use mathlib.Core.Bool.{true, not};
+ghost use mathlib.Core.List.{[]};
+ghost use mathlib.Core.Path.{_≡_};
+ghost use Prim.Native.Nat.{suc, _*_, _%_, _≤_, _<_};
+ghost use lib.ListN.{length, getD, take};
+ghost use Rattle.words.specs.Words.{words as wordsOf, bytes};
+ghost use Rattle.answers.specs.Answers.{refuseIf};
+ghost use Rattle.answers.specs.Numbers.{replied};
+ghost use Rattle.state.specs.Views.{blocks as blocksOf};
+ghost use Rattle.card.specs.Blocks.{noBlock, freeBlocks};
+ghost use Rattle.card.specs.Chains.{chain};
+ghost use Rattle.card.specs.Writes.{store};
+ghost use Rattle.inputs.specs.Judging.{inputsFormed};
+ghost use Rattle.windows.specs.Promises.{Gives, storeOf};
+ghost use Rattle.merges.specs.Merging.{inputs as inputsOf, taking};
+ghost use Rattle.merges.specs.Step.{outputRule, lastOf, writtenOn, stepping, stepOf};
+ghost use Rattle.merges.specs.Acting.{Judged, Acts, nextState};
+
 mod judging; // the output in progress
 mod listing; // which partitions are merged, and what takes their place
 mod writing; // what a step writes, and the state that it leaves
@@ -9,4 +34,56 @@ pub struct Output {
     pub blocks: u32,
     pub written: u32,
     pub taken: u16,
+}
+
+// A refusal: the state stays.
+fn refuse(s: State, why: Refusal) -> Replied
+    ensures { λ r. ⌜ r ≡ record { reply = Reply.Refused why; state = s } ⌝ }
+{
+    Replied {
+        reply: Reply::Refused(why),
+        state: s,
+    }
+}
+
+// The free blocks that an output takes, linked; none for an empty one.
+fn take_blocks(card: &mut [u8], blocks: u32, taken: u16, n: u32) -> Output
+    requires { ⌜ (length (now card) % 4 ≡ 0) × (length (wordsOf (now card)) ≡ 1024 * blocks) × (blocks ≤ 4096) × (taken < blocks)
+        × (n ≤ length (freeBlocks (wordsOf (now card)) blocks taken)) ⌝ }
+    ensures { λ r. ⌜ (wordsOf (now (card .exit)) ≡ store (wordsOf (now (card .entry))) (take n (freeBlocks (wordsOf (now (card .entry))) blocks taken)) [])
+        × (r .first ≡ getD (take n (freeBlocks (wordsOf (now (card .entry))) blocks taken)) 0 noBlock)
+        × (r .blocks ≡ n)
+        × (r .written ≡ 0)
+        × (r .taken ≡ lastOf taken (take n (freeBlocks (wordsOf (now (card .entry))) blocks taken))) ⌝ }
+{
+    if n == 0 {
+        return Output {
+            first: 65534,
+            blocks: 0,
+            written: 0,
+            taken: taken,
+        };
+    }
+    let l = outputs::link_free(card, blocks, taken, n);
+    Output {
+        first: l.first,
+        blocks: n,
+        written: 0,
+        taken: l.last,
+    }
+}
+
+// Writes the step, and tells the state after it.
+fn finish(s: State, card: &mut [u8], is: Partitions, t: Totals, o: Output, b: Batch) -> Replied
+    requires { ⌜ (length (now card) % 4 ≡ 0) × Judged (wordsOf (now card)) s is t × Acts (wordsOf (now card)) s o b × (s .merge .steps < 4294967295) ⌝ }
+    ensures { λ r. ⌜ (r ≡ record { reply = Reply.Done; state = nextState s t o })
+        × (now (card .exit) ≡ bytes (writtenOn (wordsOf (now (card .entry))) s (taking (wordsOf (now (card .entry))) s) (suc (s .merge .steps))
+        (chain (wordsOf (now (card .entry))) (o .first) (o .blocks)))) ⌝ }
+{
+    writing::write_step(s, card, is, t, o, b);
+    let next = writing::next_state(s, t, o);
+    Replied {
+        reply: Reply::Done,
+        state: next,
+    }
 }

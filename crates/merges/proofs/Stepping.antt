@@ -1,0 +1,193 @@
+-- A step as its definition says: what is judged, the refusals in their order, and what is left.
+use mathlib.Core.Bool.{Bool, true, false, cond, not, _&&_, _||_}
+use mathlib.Core.List.{List, [], _∷_, _++_, map}
+use mathlib.Core.Path.{_≡_, refl, sym, ap, ap₂, _∙_}
+use Prim.Native.Nat.{ℕ, zero, suc, _+_, _-_, _*_, _/_, _%_, _<_, _≤_}
+use native.Mathlib.Omega.{arith}
+use lib.Dec.{eqb, leb, ltb}
+use lib.ListN.{length, getD, take, drop}
+use borrow.Author.Tests.{eqb-true, eqb-false, eq-eqb, ne-eqb, leb-true, leb-false, lt-ltb, le-ltb}
+use Rattle.lists.specs.Lists.{every, empty}
+use Rattle.lists.proofs.Bools.{by-test, and-left, and-right, and-both}
+use Rattle.words.specs.Words.{words, bytes}
+use Rattle.words.proofs.Views.{length-words}
+use Rattle.postings.specs.declared.Posting.{Posting}
+use Rattle.postings.specs.Merge.{pairs}
+use Rattle.answers.specs.Answers.{Answer, Outcome, leave, refuseIf, done, refused}
+use Rattle.state.specs.declared.Partition.{Partition}
+use Rattle.state.specs.declared.Partitions.{Partitions}
+use Rattle.state.specs.declared.State.{State}
+use Rattle.state.specs.Views.{noMerge, blocks, finished, partitionsOf, withPartitions, withTaken, withMerge}
+use Rattle.state.specs.Levels.{dueAt, dueLevels, oldest, replaced}
+use Rattle.state.specs.Rules.{stateRule, recordRule}
+use Rattle.state.specs.Probe.{Store}
+use Rattle.state.proofs.Kept.{state-kept}
+use Rattle.state.proofs.Runs.{due-first, oldest-length}
+use Rattle.card.specs.Blocks.{noBlock, freeBlocks}
+use Rattle.card.specs.Chains.{blocksFor, chain}
+use Rattle.card.proofs.Chains.{chain-none}
+use Rattle.partitions.specs.Layout.{lengthOf}
+use Rattle.partitions.specs.Reading.{postingsOf, inPartitions}
+use Rattle.partitions.specs.Formed.{partitionsFormed, listRule, inRange}
+use Rattle.inputs.specs.declared.Totals.{Totals}
+use Rattle.inputs.specs.declared.Batch.{Batch}
+use Rattle.inputs.specs.Judging.{inputsFormed, judgedOf, totalsOf, Small, allInRange}
+use Rattle.inputs.proofs.Judged.{judged-totals}
+use Rattle.windows.specs.Promises.{Gives, storeOf}
+use Rattle.windows.proofs.Outcomes.{stopped, passed, given}
+use Rattle.merges.specs.declared.Output.{Output}
+use Rattle.merges.specs.Merging.{dueIn, inputs, taking, result, outputBlocks, isLast}
+use Rattle.merges.specs.Step.{inProgress, outputChain, outputRule, stepFormed, outputOn, lastOf, steppedOn, writtenOn, stepping}
+use Rattle.merges.specs.Acting.{Judged, Acts, lengthFrom, recordFrom, nextState}
+use Rattle.merges.proofs.Choosing.{levelOf, finished-of, due-some}
+use Rattle.merges.proofs.Drafting.{terms-told, postings-told, pairs-told}
+use Rattle.merges.proofs.Refusing.{empty-told, blocks-told}
+
+-- Judged -----------------------------------------------------------------------------------------------------------------
+
+module _ (s : State) (card : List ℕ) (rule : stateRule s ≡ true) (same : length card ≡ s .lengths .card) where
+  pub card-long : length (words card) ≡ 1024 * blocks s
+  card-long = omega (arith, length-words card, state-kept s rule .lengths .card, same)
+
+  pub card-words : length card % 4 ≡ 0
+  card-words = omega (arith, state-kept s rule .lengths .card, same)
+
+  pub judged : length (s .partitions .records) ≡ 51 → partitionsFormed (words card) (blocks s) (finished (s .partitions)) ≡ true → inputsFormed (words card) (inputs s) ≡ true
+      → (is : Partitions) (t : Totals) → is ≡ partitionsOf (inputs s) → t ≡ judgedOf (words card) (finished is) → Small t → Judged (words card) s is t
+  unfolding inputsFormed taking
+  judged len p i is t x y z =
+      let k = state-kept s rule in
+      let W = words card in
+      let f : finished is ≡ inputs s = ap finished x ∙ finished-of (inputs s) in
+      record {
+        long = card-long;
+        few = k .lengths .mostBlocks;
+        used = k .partitions .used;
+        form = k .partitions .form len;
+        formed = p;
+        are = x;
+        range = and-right (every (λ q. listRule (postingsOf W q)) (inputs s)) _ i;
+        totals = y ∙ ap (judgedOf W) f ∙ judged-totals W (inputs s) i;
+        small = z;
+      }
+
+-- Refusal 3 --------------------------------------------------------------------------------------------------------------
+
+module _ (W : List ℕ) (s : State) where
+  pub formed-first : partitionsFormed W (blocks s) (finished (s .partitions)) ≡ false → stepFormed W s ≡ false
+  unfolding stepFormed
+  formed-first e = rw e
+
+  module _ (p : partitionsFormed W (blocks s) (finished (s .partitions)) ≡ true) where
+    formed-rest : stepFormed W s ≡ (inputsFormed W (inputs s) && (not (inProgress s) || outputRule W s (taking W s)))
+    unfolding stepFormed inputsFormed taking
+    formed-rest = rw p (sym (regroup (every (λ q. listRule (postingsOf W q)) (inputs s)) (allInRange (pairs (inPartitions W (inputs s)))) _))
+      where
+        regroup : (a b c : Bool) → ((a && b) && c) ≡ (a && (b && c))
+        regroup true b c = refl
+        regroup false b c = refl
+
+    pub formed-inputs : inputsFormed W (inputs s) ≡ false → stepFormed W s ≡ false
+    formed-inputs e = formed-rest ∙ rw e
+
+    pub formed-idle : inputsFormed W (inputs s) ≡ true → inProgress s ≡ false → stepFormed W s ≡ true
+    formed-idle e f = formed-rest ∙ rw (e, f)
+
+    pub formed-output : inputsFormed W (inputs s) ≡ true → inProgress s ≡ true → stepFormed W s ≡ outputRule W s (taking W s)
+    formed-output e f = formed-rest ∙ rw (e, f)
+
+-- Lists ------------------------------------------------------------------------------------------------------------------
+
+-- the oldest partitions are some where a level is due
+oldest-none : (ps : List Partition) (vs : List ℕ) → dueLevels levelOf ps ≡ vs → eqb (length (oldest levelOf vs ps)) 0 ≡ empty vs
+oldest-none ps [] e = refl
+oldest-none ps (v ∷ vs) e =
+    let l = oldest-length levelOf ps v vs (due-first levelOf ps v vs e .1) in
+    ne-eqb (length (oldest levelOf (v ∷ vs) ps)) 0 (λ z. omega (arith, due-some v))
+
+-- a state and a card make a store
+same-store : {s : State} {card : List ℕ} (after : Store) → after .state ≡ s → after .card ≡ card → after ≡ record { state = s; card = card }
+same-store after x y = rw (← x, ← y)
+
+first-of : (W : List ℕ) (b n : ℕ) → (n ≡ 0 → b ≡ noBlock) → b ≡ getD (chain W b n) 0 noBlock
+unfolding chain
+first-of W b zero h = h refl
+first-of W b (suc n) h = refl
+
+-- What is left -----------------------------------------------------------------------------------------------------------
+
+module _ (W : List ℕ) (s : State) (is : Partitions) (t : Totals) (g : Judged W s is t) where
+  abbrev ps : List Posting
+  ps = taking W s
+
+  abbrev j : ℕ
+  j = s .merge .steps
+
+  -- the state, as the definition has it
+  pub state-told : (o : Output) (bs : List ℕ) → o .first ≡ getD bs 0 noBlock → o .taken ≡ cond (inProgress s) (s .taken) (lastOf (s .taken) bs)
+      → nextState s t o ≡ steppedOn s ps (suc j) bs
+  unfolding nextState steppedOn lengthOf
+  state-told o bs e f =
+      rw (empty-told W s is t g, e, f, pairs-told W s is t g)
+      (by-test (empty (result ps))
+      (λ y. rw y)
+      (λ y. rw (y, terms-told W s is t g, postings-told W s is t g)))
+
+  -- inputs are there exactly where a level is due
+  pub none-due : eqb (is .used) 0 ≡ empty (dueIn s)
+  none-due = ap (λ (p : Partitions). eqb (p .used) 0) (g .are) ∙ oldest-none (finished (s .partitions)) (dueIn s) refl
+
+  -- Outcomes ---------------------------------------------------------------------------------------------------------------
+
+  module _ (card : List ℕ) where
+    abbrev before : Store
+    before = storeOf s card
+
+    module _ (idle : inProgress s ≡ false) where
+      abbrev n : ℕ
+      n = blocksFor (lengthFrom t)
+
+      -- too few blocks are free
+      pub begin-few : leb n (length (freeBlocks W (blocks s) (s .taken))) ≡ false → Gives before (stepping s W ps) (refused 12) before
+      unfolding stepping
+      begin-few e =
+          let l = leb-false n (length (freeBlocks W (blocks s) (s .taken))) e in
+          stopped _ 12 _ (rw (idle, ← blocks-told W s is t g) (lt-ltb (length (freeBlocks W (blocks s) (s .taken))) n (omega arith)))
+
+      module _ (e : leb n (length (freeBlocks W (blocks s) (s .taken))) ≡ true) where
+        enough : (not (inProgress s) && ltb (length (freeBlocks W (blocks s) (s .taken))) (outputBlocks (result ps))) ≡ false
+        enough =
+            let l = leb-true n (length (freeBlocks W (blocks s) (s .taken))) e in
+            rw (idle, ← blocks-told W s is t g) (le-ltb (length (freeBlocks W (blocks s) (s .taken))) n (omega arith))
+
+        -- no level is due
+        pub begin-none : is .used ≡ 0 → Gives before (stepping s W ps) (refused 13) before
+        unfolding stepping
+        begin-none z = passed _ 12 _ enough (stopped _ 13 _ (rw (idle, sym none-due ∙ eq-eqb (is .used) 0 z)))
+
+        -- the merge has begun
+        pub begin-done : (is .used ≡ 0 → ⊥) → (after : Store)
+            → after .state ≡ steppedOn s ps (suc j) (take n (freeBlocks W (blocks s) (s .taken)))
+            → after .card ≡ bytes (writtenOn W s ps (suc j) (take n (freeBlocks W (blocks s) (s .taken))))
+            → Gives before (stepping s W ps) done after
+        unfolding stepping outputOn
+        begin-done z after x y =
+            passed _ 12 _ enough
+            (passed _ 13 _ (rw (idle, sym none-due ∙ ne-eqb (is .used) 0 z))
+            (given _ (same-store after (rw (idle, ← blocks-told W s is t g) x) (rw (idle, ← blocks-told W s is t g) y))))
+
+    module _ (busy : inProgress s ≡ true) where
+      abbrev bs : List ℕ
+      bs = chain W (s .merge .first) (blocksFor (lengthFrom t))
+
+      -- the merge has gone on
+      pub go-done : (after : Store) → after .state ≡ steppedOn s ps (suc j) bs → after .card ≡ bytes (writtenOn W s ps (suc j) bs) → Gives before (stepping s W ps) done after
+      unfolding stepping outputOn
+      go-done after x y =
+          passed _ 12 _ (rw busy)
+          (passed _ 13 _ (rw busy)
+          (given _ (same-store after (rw (busy, ← blocks-told W s is t g) x) (rw (busy, ← blocks-told W s is t g) y))))
+
+  -- the first block of the output, or none
+  pub first-told : (o : Output) (b : Batch) → Acts W s o b → o .first ≡ getD (chain W (o .first) (o .blocks)) 0 noBlock
+  first-told o b a = first-of W (o .first) (o .blocks) (a .none)
