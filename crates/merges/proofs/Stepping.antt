@@ -5,8 +5,9 @@ use mathlib.Core.Path.{_≡_, refl, sym, ap, ap₂, _∙_}
 use Prim.Native.Nat.{ℕ, zero, suc, _+_, _-_, _*_, _/_, _%_, _<_, _≤_}
 use native.Mathlib.Omega.{arith}
 use lib.Dec.{eqb, leb, ltb}
-use lib.ListN.{length, getD, take, drop}
-use borrow.Author.Tests.{eqb-true, eqb-false, eq-eqb, ne-eqb, leb-true, leb-false, lt-ltb, le-ltb}
+use lib.ListN.{length, getD, take, drop, length-take, length-drop}
+use borrow.Author.Tests.{eqb-true, eqb-false, eq-eqb, ne-eqb, leb-true, leb-false, lt-ltb, le-ltb, not-true}
+use Rattle.lists.specs.All.{AllOf}
 use Rattle.lists.specs.Lists.{every, empty}
 use Rattle.lists.proofs.Bools.{by-test, and-left, and-right, and-both}
 use Rattle.words.specs.Words.{words, bytes}
@@ -28,7 +29,8 @@ use Rattle.card.specs.Chains.{blocksFor, chain}
 use Rattle.card.proofs.Chains.{chain-none}
 use Rattle.partitions.specs.Layout.{lengthOf}
 use Rattle.partitions.specs.Reading.{postingsOf, inPartitions}
-use Rattle.partitions.specs.Formed.{partitionsFormed, listRule, inRange}
+use Rattle.partitions.specs.Formed.{partitionRule, partitionsFormed, listRule}
+use Rattle.partitions.specs.Terms.{Readable}
 use Rattle.inputs.specs.declared.Totals.{Totals}
 use Rattle.inputs.specs.declared.Batch.{Batch}
 use Rattle.inputs.specs.Judging.{inputsFormed, judgedOf, totalsOf, Small, allInRange}
@@ -40,6 +42,7 @@ use Rattle.merges.specs.Merging.{dueIn, inputs, taking, result, outputBl
 use Rattle.merges.specs.Step.{inProgress, outputChain, outputRule, stepFormed, outputOn, lastOf, steppedOn, writtenOn, stepping}
 use Rattle.merges.specs.Acting.{Judged, Acts, lengthFrom, recordFrom, nextState}
 use Rattle.merges.proofs.Choosing.{levelOf, finished-of, due-some}
+use Rattle.merges.proofs.Merged.{oldest-part, part-all, all-readable}
 use Rattle.merges.proofs.Drafting.{terms-told, postings-told, pairs-told}
 use Rattle.merges.proofs.Refusing.{empty-told, blocks-told}
 
@@ -70,6 +73,28 @@ module _ (s : State) (card : List ℕ) (rule : stateRule s ≡ true) (same : len
         totals = y ∙ ap (judgedOf W) f ∙ judged-totals W (inputs s) i;
         small = z;
       }
+
+  -- the inputs can be read before they are judged
+  pub inputs-read : partitionsFormed (words card) (blocks s) (finished (s .partitions)) ≡ true → (is : Partitions) → is ≡ partitionsOf (inputs s)
+      → (is .used ≤ 51) × AllOf (Readable (words card)) (finished is)
+  unfolding partitionsFormed
+  inputs-read p is x =
+      let k = state-kept s rule in
+      let fin = finished (s .partitions) in
+      let part = oldest-part (dueIn s) fin in
+      let f : finished is ≡ inputs s = ap finished x ∙ finished-of (inputs s) in
+      (rw x
+      (omega (
+        arith,
+        ap length (part .same),
+        length-take (part .count) (drop (part .from) fin),
+        length-drop (part .from) fin,
+        length-take (s .partitions .used) (s .partitions .records),
+        k .partitions .used,
+      )),
+      rw f
+      (part-all (inputs s) fin part (Readable (words card))
+      (all-readable (words card) (blocks s) card-long (k .lengths .mostBlocks) fin (and-left (every (partitionRule (words card) (blocks s)) fin) _ p))))
 
 -- Refusal 3 --------------------------------------------------------------------------------------------------------------
 
@@ -166,27 +191,34 @@ module _ (W : List ℕ) (s : State) (is : Partitions) (t : Totals) (g : Judged W
         begin-none z = passed _ 12 _ enough (stopped _ 13 _ (rw (idle, sym none-due ∙ eq-eqb (is .used) 0 z)))
 
         -- the merge has begun
-        pub begin-done : (is .used ≡ 0 → ⊥) → (after : Store)
-            → after .state ≡ steppedOn s ps (suc j) (take n (freeBlocks W (blocks s) (s .taken)))
-            → after .card ≡ bytes (writtenOn W s ps (suc j) (take n (freeBlocks W (blocks s) (s .taken))))
+        pub begin-done : (is .used ≡ 0 → ⊥) → (k : ℕ) → k ≡ n → (after : Store)
+            → after .state ≡ steppedOn s ps (suc j) (take k (freeBlocks W (blocks s) (s .taken)))
+            → after .card ≡ bytes (writtenOn W s ps (suc j) (take k (freeBlocks W (blocks s) (s .taken))))
             → Gives before (stepping s W ps) done after
         unfolding stepping outputOn
-        begin-done z after x y =
+        begin-done z k q after x y =
+            let m = q ∙ blocks-told W s is t g in
             passed _ 12 _ enough
             (passed _ 13 _ (rw (idle, sym none-due ∙ ne-eqb (is .used) 0 z))
-            (given _ (same-store after (rw (idle, ← blocks-told W s is t g) x) (rw (idle, ← blocks-told W s is t g) y))))
+            (given _ (same-store after (rw (idle, ← m) x) (rw (idle, ← m) y))))
 
     module _ (busy : inProgress s ≡ true) where
-      abbrev bs : List ℕ
-      bs = chain W (s .merge .first) (blocksFor (lengthFrom t))
-
       -- the merge has gone on
-      pub go-done : (after : Store) → after .state ≡ steppedOn s ps (suc j) bs → after .card ≡ bytes (writtenOn W s ps (suc j) bs) → Gives before (stepping s W ps) done after
+      pub go-done : (k : ℕ) → k ≡ blocksFor (lengthFrom t) → (after : Store)
+          → after .state ≡ steppedOn s ps (suc j) (chain W (s .merge .first) k)
+          → after .card ≡ bytes (writtenOn W s ps (suc j) (chain W (s .merge .first) k))
+          → Gives before (stepping s W ps) done after
       unfolding stepping outputOn
-      go-done after x y =
+      go-done k e after x y =
+          let m = e ∙ blocks-told W s is t g in
           passed _ 12 _ (rw busy)
           (passed _ 13 _ (rw busy)
-          (given _ (same-store after (rw (busy, ← blocks-told W s is t g) x) (rw (busy, ← blocks-told W s is t g) y))))
+          (given _ (same-store after (rw (busy, ← m) x) (rw (busy, ← m) y))))
+
+  -- a step of a merge that is in order has pairs left
+  pub rule-early : outputRule W s ps ≡ true → 16 * j < t .pairs
+  unfolding outputRule
+  rule-early e = omega (arith, pairs-told W s is t g, leb-false (length ps) (16 * j) (not-true _ (and-left (not (leb (length ps) (16 * j))) _ e)))
 
   -- the first block of the output, or none
   pub first-told : (o : Output) (b : Batch) → Acts W s o b → o .first ≡ getD (chain W (o .first) (o .blocks)) 0 noBlock
