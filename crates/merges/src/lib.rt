@@ -87,3 +87,25 @@ fn finish(s: State, card: &mut [u8], is: Partitions, t: Totals, o: Output, b: Ba
         state: next,
     }
 }
+
+// A step of the merge in progress.
+fn go_on(s: State, card: &mut [u8], is: Partitions, t: Totals) -> Replied
+    requires { ⌜ (length (now card) % 4 ≡ 0) × Judged (wordsOf (now card)) s is t × (inputsFormed (wordsOf (now card)) (inputsOf s) ≡ true) × (1 ≤ s .merge .steps) ⌝ }
+    ensures { λ r. ⌜ Gives (storeOf s (now (card .entry)))
+        (refuseIf (not (outputRule (wordsOf (now (card .entry))) s (taking (wordsOf (now (card .entry))) s))) 3
+        (stepping s (wordsOf (now (card .entry))) (taking (wordsOf (now (card .entry))) s)))
+        (replied (r .reply)) (storeOf (r .state) (now (card .exit))) ⌝ }
+{
+    let d = judging::output_ok(s, card, is, t);
+    if !d.ok {
+        return refuse(s, Refusal::Malformed);
+    }
+    let o = Output {
+        first: s.merge.first,
+        blocks: partitions::blocks_for(writing::output_length(t)),
+        written: d.written,
+        taken: s.taken,
+    };
+    let b = d.batch;
+    finish(s, card, is, t, o, b)
+}
