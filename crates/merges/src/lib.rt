@@ -88,6 +88,26 @@ fn finish(s: State, card: &mut [u8], is: Partitions, t: Totals, o: Output, b: Ba
     }
 }
 
+// A step with no merge in progress begins one.
+fn begin(s: State, card: &mut [u8], is: Partitions, t: Totals) -> Replied
+    requires { ⌜ (length (now card) % 4 ≡ 0) × Judged (wordsOf (now card)) s is t × (inputsFormed (wordsOf (now card)) (inputsOf s) ≡ true)
+        × (s .taken < blocksOf s) × (s .merge .steps ≡ 0) ⌝ }
+    ensures { λ r. ⌜ Gives (storeOf s (now (card .entry))) (stepping s (wordsOf (now (card .entry))) (taking (wordsOf (now (card .entry))) s))
+        (replied (r .reply)) (storeOf (r .state) (now (card .exit))) ⌝ }
+{
+    let blocks = s.lengths.card / 4096;
+    let n = partitions::blocks_for(writing::output_length(t));
+    if !card::enough_free(card, blocks, s.taken, n) {
+        return refuse(s, Refusal::TooFewFree);
+    }
+    if is.used == 0 {
+        return refuse(s, Refusal::NothingDue);
+    }
+    let b = drafts::first_batch(card, is);
+    let o = take_blocks(card, blocks, s.taken, n);
+    finish(s, card, is, t, o, b)
+}
+
 // A step of the merge in progress.
 fn go_on(s: State, card: &mut [u8], is: Partitions, t: Totals) -> Replied
     requires { ⌜ (length (now card) % 4 ≡ 0) × Judged (wordsOf (now card)) s is t × (inputsFormed (wordsOf (now card)) (inputsOf s) ≡ true) × (1 ≤ s .merge .steps) ⌝ }
