@@ -272,6 +272,8 @@ module _ (W : List ℕ) (s : State) (is : Partitions) (t : Totals) (g : Judged W
   pub inputs-free : (Y : List ℕ) → length Y ≡ length W → AgreeAll Y W (inputs s)
       → AllOf (λ p. Chained Y (p .first) (blocksFor (p .length))) (inputs s) × (different (chainsOf Y (inputs s)) ≡ true) × (chainsOf Y (inputs s) ≡ chainsOf W (inputs s))
   inputs-free Y l k =
-      let e = chains-kept Y W (inputs s) k in
-      (chained-kept Y W l (inputs s) k (part-all (inputs s) fin part (λ p. Chained W (p .first) (blocksFor (p .length))) (all-chained W (blocks s) (g .long) (g .few) fin rules)),
-      rw e (part-different (inputs s) fin part W chains-apart), e)
+      let e = chains-kept Y W (inputs s) k in (
+        chained-kept Y W l (inputs s) k (part-all (inputs s) fin part (λ p. Chained W (p .first) (blocksFor (p .length))) (all-chained W (blocks s) (g .long) (g .few) fin rules)),
+        rw e (part-different (inputs s) fin part W chains-apart),
+        e,
+      )

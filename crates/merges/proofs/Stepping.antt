@@ -55,10 +55,10 @@ module _ (s : State) (card : List ℕ) (rule : stateRule s ≡ true) (same : len
   pub card-words : length card % 4 ≡ 0
   card-words = omega (arith, state-kept s rule .lengths .card, same)
 
-  pub judged : length (s .partitions .records) ≡ 51 → partitionsFormed (words card) (blocks s) (finished (s .partitions)) ≡ true → inputsFormed (words card) (inputs s) ≡ true
+  pub judged : partitionsFormed (words card) (blocks s) (finished (s .partitions)) ≡ true → inputsFormed (words card) (inputs s) ≡ true
       → (is : Partitions) (t : Totals) → is ≡ partitionsOf (inputs s) → t ≡ judgedOf (words card) (finished is) → Small t → Judged (words card) s is t
   unfolding inputsFormed taking
-  judged len p i is t x y z =
+  judged p i is t x y z =
       let k = state-kept s rule in
       let W = words card in
       let f : finished is ≡ inputs s = ap finished x ∙ finished-of (inputs s) in
@@ -66,7 +66,7 @@ module _ (s : State) (card : List ℕ) (rule : stateRule s ≡ true) (same : len
         long = card-long;
         few = k .lengths .mostBlocks;
         used = k .partitions .used;
-        form = k .partitions .form len;
+        form = k .partitions .form;
         formed = p;
         are = x;
         range = and-right (every (λ q. listRule (postingsOf W q)) (inputs s)) _ i;
@@ -82,19 +82,20 @@ module _ (s : State) (card : List ℕ) (rule : stateRule s ≡ true) (same : len
       let k = state-kept s rule in
       let fin = finished (s .partitions) in
       let part = oldest-part (dueIn s) fin in
-      let f : finished is ≡ inputs s = ap finished x ∙ finished-of (inputs s) in
-      (rw x
-      (omega (
-        arith,
-        ap length (part .same),
-        length-take (part .count) (drop (part .from) fin),
-        length-drop (part .from) fin,
-        length-take (s .partitions .used) (s .partitions .records),
-        k .partitions .used,
-      )),
-      rw f
-      (part-all (inputs s) fin part (Readable (words card))
-      (all-readable (words card) (blocks s) card-long (k .lengths .mostBlocks) fin (and-left (every (partitionRule (words card) (blocks s)) fin) _ p))))
+      let f : finished is ≡ inputs s = ap finished x ∙ finished-of (inputs s) in (
+        rw x
+            (omega (
+              arith,
+              ap length (part .same),
+              length-take (part .count) (drop (part .from) fin),
+              length-drop (part .from) fin,
+              length-take (s .partitions .used) (s .partitions .records),
+              k .partitions .used,
+            )),
+        rw f
+            (part-all (inputs s) fin part (Readable (words card))
+            (all-readable (words card) (blocks s) card-long (k .lengths .mostBlocks) fin (and-left (every (partitionRule (words card) (blocks s)) fin) _ p))),
+      )
 
 -- Refusal 3 --------------------------------------------------------------------------------------------------------------
 

@@ -36,7 +36,7 @@ pub record Judged (W : List ℕ) (s : State) (is : Partitions) (t : Totals) : Ty
   pub long : length W ≡ 1024 * blocks s
   pub few : blocks s ≤ 4096
   pub used : s .partitions .used ≤ 51
-  pub form : s .partitions ≡ partitionsOf (finished (s .partitions))
+  pub form : length (s .partitions .records) ≡ 51 → s .partitions ≡ partitionsOf (finished (s .partitions))
   pub formed : partitionsFormed W (blocks s) (finished (s .partitions)) ≡ true
   pub are : is ≡ partitionsOf (inputs s)
   pub range : allInRange (taking W s) ≡ true

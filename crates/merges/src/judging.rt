@@ -60,5 +60,12 @@ pub fn output_ok(s: State, card: &[u8], is: Partitions, t: Totals) -> Draft
     if !drafts::stands_apart(card, job.first, n, s.partitions) {
         return no_draft(false);
     }
-    drafts::read_draft(card, is, job.first, n, 8 + 3 * t.terms as u32, 16 * job.steps)
+    drafts::read_draft(
+        card,
+        is,
+        job.first,
+        n,
+        8 + 3 * t.terms as u32,
+        16 * job.steps,
+    )
 }

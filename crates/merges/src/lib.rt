@@ -129,3 +129,27 @@ fn go_on(s: State, card: &mut [u8], is: Partitions, t: Totals) -> Replied
     let b = d.batch;
     finish(s, card, is, t, o, b)
 }
+
+// One step of the merge in progress, or of one that begins.
+pub fn step(s: State, card: &mut [u8]) -> Replied
+    ensures { λ r. ⌜ Gives (storeOf s (now (card .entry))) (stepOf (storeOf s (now (card .entry)))) (replied (r .reply)) (storeOf (r .state) (now (card .exit))) ⌝ }
+{
+    if !state::state_ok(s) {
+        return refuse(s, Refusal::BrokenState);
+    }
+    if card.len() != s.lengths.card as usize {
+        return refuse(s, Refusal::WrongLength);
+    }
+    if !partitions::partitions_ok(card, s.lengths.card / 4096, s.partitions) {
+        return refuse(s, Refusal::Malformed);
+    }
+    let is = listing::inputs_of(s.partitions);
+    let t = inputs::judge(card, is);
+    if !t.fine {
+        return refuse(s, Refusal::Malformed);
+    }
+    if s.merge.steps == 0 {
+        return begin(s, card, is, t);
+    }
+    go_on(s, card, is, t)
+}

@@ -6,7 +6,7 @@ ghost use mathlib.Core.Bool.{cond};
 ghost use mathlib.Core.List.{[], _∷_};
 ghost use mathlib.Core.Path.{_≡_};
 ghost use Prim.Native.Nat.{_+_, _≤_};
-ghost use lib.ListN.{getD, take, drop};
+ghost use lib.ListN.{length, getD, take, drop};
 ghost use Rattle.state.specs.Views.{finished, partitionsOf};
 ghost use Rattle.state.specs.Levels.{nextLevel, dueLevels, oldest, replaced};
 
@@ -37,7 +37,7 @@ fn run_of(p: Partitions, at: u16, count: u16) -> Partitions
 
 // The oldest partitions of the highest due level.
 pub fn inputs_of(p: Partitions) -> Partitions
-    requires { ⌜ (p .used ≤ 51) × (p ≡ partitionsOf (finished p)) ⌝ }
+    requires { ⌜ (p .used ≤ 51) × (length (p .records) ≡ 51 → p ≡ partitionsOf (finished p)) ⌝ }
     ensures { λ r. ⌜ r ≡ partitionsOf (oldest (λ q. q .level) (dueLevels (λ q. q .level) (finished p)) (finished p)) ⌝ }
 {
     let due = state::levels::due_level(p);
@@ -70,7 +70,7 @@ pub fn output_level(p: Partitions) -> u16
 
 // The list with a partition, or none, in their place.
 pub fn replaced_by(p: Partitions, some: bool, q: Partition) -> Partitions
-    requires { ⌜ (p .used ≤ 51) × (p ≡ partitionsOf (finished p)) ⌝ }
+    requires { ⌜ (p .used ≤ 51) × (length (p .records) ≡ 51 → p ≡ partitionsOf (finished p)) ⌝ }
     ensures { λ r. ⌜ r ≡ partitionsOf (replaced (λ q. q .level) (dueLevels (λ q. q .level) (finished p)) (finished p) (cond some (q ∷ []) [])) ⌝ }
 {
     let due = state::levels::due_level(p);

@@ -102,7 +102,7 @@ pub fn write_step(s: State, card: &mut [u8], is: Partitions, t: Totals, o: Outpu
 
 // The finished partitions after the last step.
 fn next_list(s: State, t: Totals, o: Output) -> Partitions
-    requires { ⌜ (s .partitions .used ≤ 51) × (s .partitions ≡ partitionsOf (finished (s .partitions))) × Small t ⌝ }
+    requires { ⌜ (s .partitions .used ≤ 51) × (length (s .partitions .records) ≡ 51 → s .partitions ≡ partitionsOf (finished (s .partitions))) × Small t ⌝ }
     ensures { λ r. ⌜ r ≡ partitionsOf (replaced (λ (p : Partition). p .level) (dueIn s) (finished (s .partitions)) (recordFrom s t o)) ⌝ }
 {
     let level = listing::output_level(s.partitions);
@@ -116,7 +116,7 @@ fn next_list(s: State, t: Totals, o: Output) -> Partitions
 
 // The state after the step.
 pub fn next_state(s: State, t: Totals, o: Output) -> State
-    requires { ⌜ (s .partitions .used ≤ 51) × (s .partitions ≡ partitionsOf (finished (s .partitions))) × Small t × (s .merge .steps < 4294967295) ⌝ }
+    requires { ⌜ (s .partitions .used ≤ 51) × (length (s .partitions .records) ≡ 51 → s .partitions ≡ partitionsOf (finished (s .partitions))) × Small t × (s .merge .steps < 4294967295) ⌝ }
     ensures { λ r. ⌜ r ≡ nextState s t o ⌝ }
 {
     let mut n = s;

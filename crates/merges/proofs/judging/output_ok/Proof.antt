@@ -79,9 +79,10 @@ returns-3 c =
     let W = words (s .args .card .now) in
     let nn = bf ∙ ap blocksFor ol in
     let z = sym nn ∙ i3 .if3 .taken in
-    let d = c .no-draft3 .ensures in
-    (d .0 ∙ rule-none W (s .args .s) (s .args .is) (s .args .t) (s .pre .0) (i1 .if1 .left) (i2 .if2 .left ∙ ol) z,
-    λ y. acts-none W (s .args .s) (s .args .is) (s .args .t) (s .pre .0) _ _ refl refl z (eqb-true _ _ (sym (d .0) ∙ y)) (d .1) (d .2))
+    let d = c .no-draft3 .ensures in (
+      d .0 ∙ rule-none W (s .args .s) (s .args .is) (s .args .t) (s .pre .0) (i1 .if1 .left) (i2 .if2 .left ∙ ol) z,
+      λ y. acts-none W (s .args .s) (s .args .is) (s .args .t) (s .pre .0) _ _ refl refl z (eqb-true _ _ (sym (d .0) ∙ y)) (d .1) (d .2),
+    )
 
 chain-ok-requires : tie.Need-chain-ok-requires
 chain-ok-requires c κs = search needs
@@ -169,9 +170,14 @@ read-draft-requires c κs =
     rw nn at (sym (i4 .before .chain-ok .ensures) ∙ not-false _ (i4 .if4 .left)) in
     let g = s .pre .0 in
     let f = ap finished (g .are) ∙ finished-of (inputs (s .args .s)) in
-    let small : 1023 * i3 .before .blocks-for .result < 4294967296 = omega (arith, bf) in
-    (inputs-few W (s .args .s) (s .args .is) (s .args .t) (s .pre .0), rw f (readable W (s .args .s) (s .args .is) (s .args .t) (s .pre .0)), rw f (s .pre .1), rw nn (rule-chained W (blocks (s .args .s)) (s .args .s .merge .first) _ (g .long) (g .few) ck), small,
-    rw (pairs-read W (s .args .s) (s .args .is) (s .args .t) (s .pre .0), nn) (room-held W (s .args .s) (s .args .is) (s .args .t) (s .pre .0) (i1 .if1 .left) (i2 .if2 .left ∙ ol) (λ z. i3 .if3 .left (nn ∙ z))))
+    let small : 1023 * i3 .before .blocks-for .result < 4294967296 = omega (arith, bf) in (
+      inputs-few W (s .args .s) (s .args .is) (s .args .t) (s .pre .0),
+      rw f (readable W (s .args .s) (s .args .is) (s .args .t) (s .pre .0)),
+      rw f (s .pre .1),
+      rw nn (rule-chained W (blocks (s .args .s)) (s .args .s .merge .first) _ (g .long) (g .few) ck),
+      small,
+      rw (pairs-read W (s .args .s) (s .args .is) (s .args .t) (s .pre .0), nn) (room-held W (s .args .s) (s .args .is) (s .args .t) (s .pre .0) (i1 .if1 .left) (i2 .if2 .left ∙ ol) (λ z. i3 .if3 .left (nn ∙ z))),
+    )
 
 returns-6 : tie.Need-returns-6
 returns-6 c =

@@ -36,7 +36,7 @@ run-of-requires c κs =
     let d = due-is (finished (s .args .p)) (g .0 .0) (sym (g .1) ∙ m .due-level .ensures) in
     let len : length (s .args .p .records) ≡ 51 = search (unmapped, needs) in
     let l : length (finished (s .args .p)) ≡ s .args .p .used = length-take-le (s .args .p .used) (s .args .p .records) (omega (arith, s .pre .0)) in
-    (s .pre .0, rw (c .due-at .ensures, c .before .place-of .ensures) (omega (arith, due-within (finished (s .args .p)) (g .0 .0) d)), s .pre .1)
+    (s .pre .0, rw (c .due-at .ensures, c .before .place-of .ensures) (omega (arith, due-within (finished (s .args .p)) (g .0 .0) d)), s .pre .1 len)
 
 enum-told : tie.Need-enum-told
 enum-told c = search needs

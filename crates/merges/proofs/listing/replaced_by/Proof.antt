@@ -36,7 +36,7 @@ replace-requires c κs =
     let d = due-is (finished (s .args .p)) (g .0 .0) (sym (g .1) ∙ m .due-level .ensures) in
     let len : length (s .args .p .records) ≡ 51 = search (unmapped, needs) in
     let l : length (finished (s .args .p)) ≡ s .args .p .used = length-take-le (s .args .p .used) (s .args .p .records) (omega (arith, s .pre .0)) in
-    rw (c .before .due-at .ensures, c .before .before .place-of .ensures) (due-some (g .0 .0), omega (arith, due-within (finished (s .args .p)) (g .0 .0) d), s .pre .1)
+    rw (c .before .due-at .ensures, c .before .before .place-of .ensures) (due-some (g .0 .0), omega (arith, due-within (finished (s .args .p)) (g .0 .0) d), s .pre .1 len)
 
 returns : tie.Need-returns
 returns c =
@@ -55,7 +55,7 @@ cut-requires c κs =
     let d = due-is (finished (s .args .p)) (g .0 .0) (sym (g .1) ∙ m .due-level .ensures) in
     let len : length (s .args .p .records) ≡ 51 = search (unmapped, needs) in
     let l : length (finished (s .args .p)) ≡ s .args .p .used = length-take-le (s .args .p .used) (s .args .p .records) (omega (arith, s .pre .0)) in
-    rw (c .before .due-at .ensures, c .before .before .place-of .ensures) (omega (arith, due-within (finished (s .args .p)) (g .0 .0) d), s .pre .1)
+    rw (c .before .due-at .ensures, c .before .before .place-of .ensures) (omega (arith, due-within (finished (s .args .p)) (g .0 .0) d), s .pre .1 len)
 
 enum-told : tie.Need-enum-told
 enum-told c = search needs
@@ -74,7 +74,8 @@ returns-3 c =
     let m = c .before .before in
     let s = m .before in
     let e = due-none (tagOf the-type) (λ v. refl) (dueLevels levelOf (finished (s .args .p))) (ap (tagOf the-type) (sym (m .due-level .ensures)) ∙ c .before .match .keys2) in
-    s .pre .1 ∙ rw e
+    let len : length (s .args .p .records) ≡ 51 = search (unmapped, needs) in
+    s .pre .1 len ∙ rw e
 
 pub replaced-by-spec : {M : Type 1} → statement M
 replaced-by-spec =

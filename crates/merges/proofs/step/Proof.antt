@@ -1,0 +1,219 @@
+-- `merges::step` meets its contract. Assumes nothing.
+use mathlib.Core.Bool.{true, false, not}
+use mathlib.Core.Path.{_≡_, refl, sym, ap, _∙_}
+use Prim.Native.Nat.{ℕ, _≤_}
+use native.Mathlib.Omega.{arith}
+use borrow.Author.Needs.{needs}
+use borrow.Author.Tests.{not-true, not-false, eq-eqb, ne-eqb}
+use Rattle.words.specs.Words.{words}
+use Rattle.state.specs.Views.{finished}
+use Rattle.state.proofs.Kept.{state-kept}
+use Rattle.inputs.specs.declared.Totals.{Totals}
+use Rattle.inputs.specs.Judging.{inputsFormed}
+use Rattle.inputs.proofs.Judged.{judged-fine}
+use Rattle.windows.proofs.Outcomes.{stopped, passed}
+use Rattle.merges.specs.Merging.{inputs}
+use Rattle.merges.specs.Step.{stepOf}
+use Rattle.merges.proofs.Choosing.{finished-of}
+use Rattle.merges.proofs.Stepping.{card-long, card-words, judged, inputs-read, formed-first, formed-inputs, formed-idle, formed-output}
+use Rattle.merges.proofs.step.Statement.{statement}
+use Rattle.merges.proofs.step.Tie as tie
+
+state-ok-requires : tie.Need-state-ok-requires
+state-ok-requires c κs = search needs
+
+refuse-requires : tie.Need-refuse-requires
+refuse-requires c κs = search needs
+
+returns : tie.Need-returns
+unfolding stepOf
+returns c =
+    let a = c .before in
+    rw (c .refuse .ensures) (stopped _ 1 _ (ap not (sym (a .before .state-ok .ensures)) ∙ a .if1 .taken))
+
+cast-if2 : tie.Need-cast-if2
+cast-if2 c = search needs
+
+refuse-requires-2 : tie.Need-refuse-requires-2
+refuse-requires-2 c κs = search needs
+
+returns-2 : tie.Need-returns-2
+unfolding stepOf
+returns-2 c =
+    let i2 = c .before in
+    let i1 = i2 .before .before in
+    rw (c .refuse2 .ensures) (passed _ 1 _ (ap not (sym (i1 .before .state-ok .ensures)) ∙ i1 .if1 .left) (stopped _ 2 _ (ap not (ne-eqb _ _ (i2 .if2 .taken)))))
+
+partitions-ok-requires : tie.Need-partitions-ok-requires
+partitions-ok-requires c κs =
+    let i2 = c .before .before in
+    let i1 = i2 .before .before in
+    let s = i1 .before .before .before in
+    let W = words (s .args .card .now) in
+    let ok = sym (i1 .before .state-ok .ensures) ∙ not-false _ (i1 .if1 .left) in
+    let same = i2 .if2 .left in
+    let k = state-kept (s .args .s) ok in
+    (card-long (s .args .s) (s .args .card .now) ok same, k .lengths .mostBlocks, k .partitions .used, k .partitions .rules)
+
+refuse-requires-3 : tie.Need-refuse-requires-3
+refuse-requires-3 c κs = search needs
+
+same-length : tie.Need-same-length
+same-length c = search needs
+
+returns-3 : tie.Need-returns-3
+unfolding stepOf
+returns-3 c =
+    let i2 = c .before .before .before .before .before in
+    let i1 = i2 .before .before in
+    let s = i1 .before .before .before in
+    let W = words (s .args .card .now) in
+    let ok = sym (i1 .before .state-ok .ensures) ∙ not-false _ (i1 .if1 .left) in
+    let same = i2 .if2 .left in
+    let no = sym (c .before .before .partitions-ok .ensures) ∙ not-true _ (c .before .if3 .taken) in
+    rw (c .refuse3 .ensures) (passed _ 1 _ (ap not (sym (i1 .before .state-ok .ensures)) ∙ i1 .if1 .left) (passed _ 2 _ (ap not (eq-eqb _ _ (i2 .if2 .left))) (stopped _ 3 _ (ap not (formed-first W (s .args .s) no)))))
+
+inputs-of-requires : tie.Need-inputs-of-requires
+inputs-of-requires c κs =
+    let i2 = c .before .before .before .before in
+    let i1 = i2 .before .before in
+    let s = i1 .before .before .before in
+    let W = words (s .args .card .now) in
+    let ok = sym (i1 .before .state-ok .ensures) ∙ not-false _ (i1 .if1 .left) in
+    let same = i2 .if2 .left in
+    let k = state-kept (s .args .s) ok in
+    (k .partitions .used, k .partitions .form)
+
+judge-requires : tie.Need-judge-requires
+judge-requires c κs =
+    let i2 = c .before .before .before .before .before .before in
+    let i1 = i2 .before .before in
+    let s = i1 .before .before .before in
+    let W = words (s .args .card .now) in
+    let ok = sym (i1 .before .state-ok .ensures) ∙ not-false _ (i1 .if1 .left) in
+    let same = i2 .if2 .left in
+    let pok = sym (c .before .before .before .partitions-ok .ensures) ∙ not-false _ (c .before .before .if3 .left) in
+    inputs-read (s .args .s) (s .args .card .now) ok same pok (c .before .inputs-of .result) (c .before .inputs-of .ensures)
+
+refuse-requires-4 : tie.Need-refuse-requires-4
+refuse-requires-4 c κs = search needs
+
+same-length-2 : tie.Need-same-length-2
+same-length-2 c = search needs
+
+returns-4 : tie.Need-returns-4
+unfolding stepOf
+returns-4 c =
+    let i2 = c .before .before .before .before .before .before .before .before .before .before in
+    let i1 = i2 .before .before in
+    let s = i1 .before .before .before in
+    let W = words (s .args .card .now) in
+    let ok = sym (i1 .before .state-ok .ensures) ∙ not-false _ (i1 .if1 .left) in
+    let same = i2 .if2 .left in
+    let pok = sym (c .before .before .before .before .before .before .before .partitions-ok .ensures) ∙ not-false _ (c .before .before .before .before .before .before .if3 .left) in
+    let io = c .before .before .before .before .before .inputs-of in
+    let ju = c .before .before .before .judge in
+    let f = ap finished (io .ensures) ∙ finished-of (inputs (s .args .s)) in
+    let fine = ap (λ (t : Totals). t .fine) (ju .ensures .0) ∙ judged-fine W (finished (io .result)) in
+    let no : inputsFormed W (inputs (s .args .s)) ≡ false = rw f at (sym fine ∙ not-true _ (c .before .if4 .taken)) in
+    rw (c .refuse4 .ensures) (passed _ 1 _ (ap not (sym (i1 .before .state-ok .ensures)) ∙ i1 .if1 .left) (passed _ 2 _ (ap not (eq-eqb _ _ (i2 .if2 .left))) (stopped _ 3 _ (ap not (formed-inputs W (s .args .s) pok no)))))
+
+begin-requires : tie.Need-begin-requires
+begin-requires c κs =
+    let i2 = c .before .before .before .before .before .before .before .before .before .before .before .before in
+    let i1 = i2 .before .before in
+    let s = i1 .before .before .before in
+    let W = words (s .args .card .now) in
+    let ok = sym (i1 .before .state-ok .ensures) ∙ not-false _ (i1 .if1 .left) in
+    let same = i2 .if2 .left in
+    let pok = sym (c .before .before .before .before .before .before .before .before .before .partitions-ok .ensures) ∙ not-false _ (c .before .before .before .before .before .before .before .before .if3 .left) in
+    let io = c .before .before .before .before .before .before .before .inputs-of in
+    let ju = c .before .before .before .before .before .judge in
+    let f = ap finished (io .ensures) ∙ finished-of (inputs (s .args .s)) in
+    let fine = ap (λ (t : Totals). t .fine) (ju .ensures .0) ∙ judged-fine W (finished (io .result)) in
+    let formed : inputsFormed W (inputs (s .args .s)) ≡ true = rw f at (sym fine ∙ not-false _ (c .before .before .before .if4 .left)) in
+    (card-words (s .args .s) (s .args .card .now) ok same, judged (s .args .s) (s .args .card .now) ok same pok formed (io .result) (ju .result) (io .ensures) (ju .ensures .0) (ju .ensures .1), formed, state-kept (s .args .s) ok .taken, c .before .if5 .taken)
+
+same-length-3 : tie.Need-same-length-3
+same-length-3 c = search needs
+
+returns-5 : tie.Need-returns-5
+unfolding stepOf
+returns-5 c =
+    let i2 = c .before .before .before .before .before .before .before .before .before .before .before .before .before .before .before in
+    let i1 = i2 .before .before in
+    let s = i1 .before .before .before in
+    let W = words (s .args .card .now) in
+    let ok = sym (i1 .before .state-ok .ensures) ∙ not-false _ (i1 .if1 .left) in
+    let same = i2 .if2 .left in
+    let pok = sym (c .before .before .before .before .before .before .before .before .before .before .before .before .partitions-ok .ensures) ∙ not-false _ (c .before .before .before .before .before .before .before .before .before .before .before .if3 .left) in
+    let io = c .before .before .before .before .before .before .before .before .before .before .inputs-of in
+    let ju = c .before .before .before .before .before .before .before .before .judge in
+    let f = ap finished (io .ensures) ∙ finished-of (inputs (s .args .s)) in
+    let fine = ap (λ (t : Totals). t .fine) (ju .ensures .0) ∙ judged-fine W (finished (io .result)) in
+    let formed : inputsFormed W (inputs (s .args .s)) ≡ true = rw f at (sym fine ∙ not-false _ (c .before .before .before .before .before .before .if4 .left)) in
+    let idle = ap not (eq-eqb (s .args .s .merge .steps) 0 (c .before .before .before .before .if5 .taken)) in
+    passed _ 1 _ (ap not (sym (i1 .before .state-ok .ensures)) ∙ i1 .if1 .left) (passed _ 2 _ (ap not (eq-eqb _ _ (i2 .if2 .left))) (passed _ 3 _ (ap not (formed-idle W (s .args .s) pok formed idle)) (c .before .before .begin .ensures)))
+
+go-on-requires : tie.Need-go-on-requires
+go-on-requires c κs =
+    let i2 = c .before .before .before .before .before .before .before .before .before .before .before .before in
+    let i1 = i2 .before .before in
+    let s = i1 .before .before .before in
+    let W = words (s .args .card .now) in
+    let ok = sym (i1 .before .state-ok .ensures) ∙ not-false _ (i1 .if1 .left) in
+    let same = i2 .if2 .left in
+    let pok = sym (c .before .before .before .before .before .before .before .before .before .partitions-ok .ensures) ∙ not-false _ (c .before .before .before .before .before .before .before .before .if3 .left) in
+    let io = c .before .before .before .before .before .before .before .inputs-of in
+    let ju = c .before .before .before .before .before .judge in
+    let f = ap finished (io .ensures) ∙ finished-of (inputs (s .args .s)) in
+    let fine = ap (λ (t : Totals). t .fine) (ju .ensures .0) ∙ judged-fine W (finished (io .result)) in
+    let formed : inputsFormed W (inputs (s .args .s)) ≡ true = rw f at (sym fine ∙ not-false _ (c .before .before .before .if4 .left)) in
+    (card-words (s .args .s) (s .args .card .now) ok same, judged (s .args .s) (s .args .card .now) ok same pok formed (io .result) (ju .result) (io .ensures) (ju .ensures .0) (ju .ensures .1), formed, omega (arith, c .before .if5 .left))
+
+same-length-4 : tie.Need-same-length-4
+same-length-4 c = search needs
+
+returns-6 : tie.Need-returns-6
+unfolding stepOf
+returns-6 c =
+    let i2 = c .before .before .before .before .before .before .before .before .before .before .before .before .before .before .before in
+    let i1 = i2 .before .before in
+    let s = i1 .before .before .before in
+    let W = words (s .args .card .now) in
+    let ok = sym (i1 .before .state-ok .ensures) ∙ not-false _ (i1 .if1 .left) in
+    let same = i2 .if2 .left in
+    let pok = sym (c .before .before .before .before .before .before .before .before .before .before .before .before .partitions-ok .ensures) ∙ not-false _ (c .before .before .before .before .before .before .before .before .before .before .before .if3 .left) in
+    let io = c .before .before .before .before .before .before .before .before .before .before .inputs-of in
+    let ju = c .before .before .before .before .before .before .before .before .judge in
+    let f = ap finished (io .ensures) ∙ finished-of (inputs (s .args .s)) in
+    let fine = ap (λ (t : Totals). t .fine) (ju .ensures .0) ∙ judged-fine W (finished (io .result)) in
+    let formed : inputsFormed W (inputs (s .args .s)) ≡ true = rw f at (sym fine ∙ not-false _ (c .before .before .before .before .before .before .if4 .left)) in
+    let busy = ap not (ne-eqb (s .args .s .merge .steps) 0 (c .before .before .before .before .if5 .left)) in
+    passed _ 1 _ (ap not (sym (i1 .before .state-ok .ensures)) ∙ i1 .if1 .left) (passed _ 2 _ (ap not (eq-eqb _ _ (i2 .if2 .left))) (rw (formed-output W (s .args .s) pok formed busy) (c .before .before .go-on .ensures)))
+
+pub step-spec : {M : Type 1} → statement M
+step-spec =
+    tie.close
+    (tie.spec
+    state-ok-requires
+    refuse-requires
+    returns
+    cast-if2
+    refuse-requires-2
+    returns-2
+    partitions-ok-requires
+    refuse-requires-3
+    same-length
+    returns-3
+    inputs-of-requires
+    judge-requires
+    refuse-requires-4
+    same-length-2
+    returns-4
+    begin-requires
+    same-length-3
+    returns-5
+    go-on-requires
+    same-length-4
+    returns-6)
