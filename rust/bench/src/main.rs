@@ -1,50 +1,165 @@
-//! Prints times of the proved engine, each beside the second engine's on the same input in the same run.
+//! Prints times of the proved engine, each beside the second engine's on the same input in the same run, and the stack that its
+//! calls take.
 
+mod probes;
+mod stack;
+mod timing;
+
+use probes::{Probe, half_full, name, register, with_full_buffer};
+use second::engine;
+use second::state::Hit;
 use std::hint::black_box;
-use std::time::Instant;
+use timing::{compare, title};
 
-/// Microseconds of one call, as the least of several rounds of many calls.
-fn micros(calls: u32, mut call: impl FnMut()) -> f64 {
-    (0..7)
-        .map(|_| {
-            let began = Instant::now();
-            (0..calls).for_each(|_| call());
-            began.elapsed().as_secs_f64() * 1e6 / f64::from(calls)
-        })
-        .fold(f64::INFINITY, f64::min)
+const BLOCKS: [usize; 4] = [64, 256, 1_024, 4_096];
+const BLOCK: usize = 4_096;
+const ENTRIES: usize = 1_024;
+const PLACES: usize = 32;
+
+fn registers() {
+    title("judging a full register", "entries");
+    for entries in [64, 256, 1_024] {
+        let register = register(entries);
+        assert!(proved::register_ok(&register) && second::register::read(&register).is_some());
+        compare(
+            &entries.to_string(),
+            || {
+                black_box(proved::register_ok(black_box(&register)));
+            },
+            || {
+                black_box(second::register::read(black_box(&register)));
+            },
+        );
+    }
 }
 
-/// A full register of different identifiers of 1 to 64 bytes.
-fn full_register(entries: usize) -> Vec<u8> {
-    let mut register = vec![0; entries * 65];
-    for (number, entry) in register.chunks_exact_mut(65).enumerate() {
-        let length = 2 + number % 63;
-        entry[0] = length as u8;
-        entry[1] = (number % 256) as u8;
-        entry[2] = (number / 256) as u8;
-        entry[3..=length].fill(b'A');
+/// Times an event of an identifier on copies of one probe. What it writes is put back, a block of the card too.
+fn event(case: &str, start: &Probe, identifier: &[u8]) {
+    let (mut first, mut other) = (start.clone(), start.clone());
+    let next = (usize::from(start.state.taken) + 1) * BLOCK;
+    let free = |card: &mut [u8]| card[next..next + BLOCK].fill(255);
+    compare(
+        case,
+        || {
+            first.image.copy_from_slice(&start.image);
+            free(&mut first.card);
+            let Probe {
+                image,
+                card,
+                register,
+                ..
+            } = &mut first;
+            assert_eq!(proved::event(image, card, register, identifier), Ok(()));
+        },
+        || {
+            other.state.clone_from(&start.state);
+            free(&mut other.card);
+            let Probe {
+                state,
+                card,
+                register,
+                ..
+            } = &mut other;
+            assert_eq!(engine::event(state, card, register, identifier), Ok(()));
+        },
+    );
+}
+
+fn events() {
+    title("an event, with a full register of 1,024", "blocks");
+    for blocks in BLOCKS {
+        let probe = half_full(blocks, ENTRIES);
+        event(&format!("{blocks}, counted"), &probe, &name(0));
+        let full = with_full_buffer(probe);
+        event(&format!("{blocks}, flushing first"), &full, &name(900));
     }
-    register
+}
+
+fn queries() {
+    title("a query with 32 places", "blocks, identifiers, postings");
+    for blocks in BLOCKS {
+        let probe = half_full(blocks, ENTRIES);
+        for count in 1..=5 {
+            query(blocks, &probe, count);
+        }
+    }
+}
+
+fn query(blocks: usize, probe: &Probe, count: usize) {
+    let names: Vec<Vec<u8>> = (0..count).map(|place| name(20 * place + 3)).collect();
+    let ids: Vec<&[u8]> = names.iter().map(|name| &name[..]).collect();
+    let (mut bytes, mut hits) = ([0; PLACES * proved::HIT], [Hit::default(); PLACES]);
+    let (image, card, register) = (&probe.image, &probe.card, &probe.register);
+    let found = proved::query(image, card, register, &ids, &mut bytes).expect("a fitting query");
+    compare(
+        &format!("{blocks}, {count}, {}", found.taken),
+        || assert!(proved::query(image, card, register, &ids, &mut bytes).is_ok()),
+        || assert!(engine::query(&probe.state, card, register, &ids, &mut hits).is_ok()),
+    );
+}
+
+/// The most stack of a call over some probes.
+fn stack(what: &str, probes: &[Probe], mut call: impl FnMut(&mut Probe)) {
+    let most = probes.iter().map(|probe| {
+        let mut probe = probe.clone();
+        stack::used(&mut || call(&mut probe))
+    });
+    println!("{what:>32} {:>12}", most.max().unwrap_or(0));
+}
+
+fn stacks() {
+    println!("\nstack of a call of the proved engine, with the caller's frames: bytes");
+    let half = half_full(64, 64);
+    let probes = [
+        half.clone(),
+        half_full(256, ENTRIES),
+        with_full_buffer(half),
+    ];
+    stack("no call", &probes, |probe| {
+        black_box(probe);
+    });
+    stack("start", &probes, |probe| {
+        let Probe {
+            image,
+            card,
+            register,
+            ..
+        } = probe;
+        assert!(proved::start(image, card, register).is_ok());
+    });
+    stack("open", &probes, |probe| {
+        black_box(proved::open(&mut probe.image)).unwrap_err();
+    });
+    stack("close", &probes, |probe| {
+        assert!(proved::close(&mut probe.image).is_ok());
+    });
+    stack("event", &probes, |probe| {
+        let Probe {
+            image,
+            card,
+            register,
+            ..
+        } = probe;
+        assert!(proved::event(image, card, register, &name(60)).is_ok());
+    });
+    stack("flush", &probes, |probe| {
+        assert!(proved::flush(&mut probe.image, &mut probe.card).is_ok());
+    });
+    stack("remove", &probes, |probe| {
+        assert!(proved::remove(&mut probe.image, &mut probe.card, 1).is_ok());
+    });
+    let names: Vec<Vec<u8>> = (0..5).map(name).collect();
+    let ids: Vec<&[u8]> = names.iter().map(|name| &name[..]).collect();
+    stack("query", &probes, |probe| {
+        let mut hits = [0; PLACES * proved::HIT];
+        let (image, card, register) = (&probe.image, &probe.card, &probe.register);
+        assert!(proved::query(image, card, register, &ids, &mut hits).is_ok());
+    });
 }
 
 fn main() {
-    println!("judging a full register: microseconds a call");
-    println!(
-        "{:>8} {:>10} {:>10} {:>8}",
-        "entries", "proved", "second", "ratio"
-    );
-    for entries in [64, 256, 1_024] {
-        let register = full_register(entries);
-        assert!(proved::register_ok(&register) && second::register::read(&register).is_some());
-        let proved = micros(200, || {
-            black_box(proved::register_ok(black_box(&register)));
-        });
-        let second = micros(200, || {
-            black_box(second::register::read(black_box(&register)));
-        });
-        println!(
-            "{entries:>8} {proved:>10.1} {second:>10.1} {:>8.2}",
-            proved / second
-        );
-    }
+    registers();
+    events();
+    queries();
+    stacks();
 }

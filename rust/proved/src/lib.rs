@@ -6,11 +6,23 @@
 /// Bytes of a state's image: 614 little-endian words.
 pub const IMAGE: usize = 2_456;
 
+/// Bytes of a place in a list of hits: the window and the score, a little-endian word each.
+pub const HIT: usize = 8;
+
 /// A number above every window: an open's refusals are told from there on.
 const REFUSED: u32 = 65_536;
 
+/// A slice as `capi` takes it.
+#[repr(C)]
+struct Bytes {
+    start: *const u8,
+    length: usize,
+}
+
 /// What `capi` exports.
 mod exported {
+    use super::Bytes;
+
     unsafe extern "C" {
         pub fn gemsilver_register_ok(register: *const u8, length: usize) -> u8;
         pub fn gemsilver_start(
@@ -39,7 +51,35 @@ mod exported {
             card: *mut u8,
             card_length: usize,
         ) -> u32;
+        pub fn gemsilver_remove(
+            image: *mut u8,
+            image_length: usize,
+            card: *mut u8,
+            card_length: usize,
+            window: u32,
+        ) -> u32;
+        pub fn gemsilver_query(
+            image: *const u8,
+            image_length: usize,
+            card: *const u8,
+            card_length: usize,
+            register: *const u8,
+            register_length: usize,
+            identifiers: *const Bytes,
+            count: usize,
+            hits: *mut u8,
+            hits_length: usize,
+        ) -> u64;
     }
+}
+
+/// What a query answers beside its list of hits.
+#[derive(Clone, Copy, PartialEq, Eq, Debug)]
+pub struct Found {
+    /// How many places of the list are filled.
+    pub hits: u32,
+    /// How many stored postings were taken up.
+    pub taken: u64,
 }
 
 /// Whether a register of at most 1,024 entries is well formed.
@@ -119,4 +159,58 @@ pub fn flush(image: &mut [u8], card: &mut [u8]) -> Result<(), u32> {
             card.len(),
         )
     })
+}
+
+/// Takes out a closed window.
+pub fn remove(image: &mut [u8], card: &mut [u8], window: u32) -> Result<(), u32> {
+    // Sound: each pointer and length are those of one slice, and slices lent for writing do not overlap.
+    done(unsafe {
+        exported::gemsilver_remove(
+            image.as_mut_ptr(),
+            image.len(),
+            card.as_mut_ptr(),
+            card.len(),
+            window,
+        )
+    })
+}
+
+/// Fills the list, of [`HIT`] bytes a place, with the windows that score highest on the identifiers.
+pub fn query(
+    image: &[u8],
+    card: &[u8],
+    register: &[u8],
+    identifiers: &[&[u8]],
+    hits: &mut [u8],
+) -> Result<Found, u32> {
+    let slices: Vec<Bytes> = identifiers
+        .iter()
+        .map(|identifier| Bytes {
+            start: identifier.as_ptr(),
+            length: identifier.len(),
+        })
+        .collect();
+    // Sound: each pointer and length are those of one slice, those of the identifiers live as long as the call, and all but the
+    // list of hits, which overlaps nothing, are only read.
+    let number = unsafe {
+        exported::gemsilver_query(
+            image.as_ptr(),
+            image.len(),
+            card.as_ptr(),
+            card.len(),
+            register.as_ptr(),
+            register.len(),
+            slices.as_ptr(),
+            slices.len(),
+            hits.as_mut_ptr(),
+            hits.len(),
+        )
+    };
+    match (number % 256) as u32 {
+        0 => Ok(Found {
+            hits: (number / 256 % 256) as u32,
+            taken: number / 65_536,
+        }),
+        refusal => Err(refusal),
+    }
 }

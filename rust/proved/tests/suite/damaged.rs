@@ -78,6 +78,7 @@ fn both_engines_take_foreign_probes_alike() {
     tally.expect("open", &[6], 20);
     tally.expect("event", &[6, 9, 10, 11, 12], 10);
     tally.expect("flush", &[10, 11, 12], 20);
+    tally.expect("remove", &[10, 11, 12], 5);
 }
 
 /// Every refusal that a call can give to damaged inputs.
@@ -86,4 +87,6 @@ fn expect_all(tally: &Tally, times: usize) {
     tally.expect("close", &[0, 1, 5], times);
     tally.expect("event", &[0, 1, 2, 3, 4, 5, 8], times);
     tally.expect("flush", &[0, 1, 2, 11, 12], times);
+    tally.expect("remove", &[0, 1, 2, 3, 5, 7], times);
+    tally.expect("query", &[0, 1, 2, 3, 4, 14], times);
 }

@@ -43,7 +43,7 @@ impl Call {
 
     /// Whether the proved engine exports the call.
     pub fn is_exported(&self) -> bool {
-        !matches!(self, Call::Remove(_) | Call::Step | Call::Query(..))
+        !matches!(self, Call::Step)
     }
 
     /// What the list of hits holds before the call.
@@ -77,8 +77,11 @@ pub fn proved(probe: &mut Probe, call: &Call, hits: &mut [u8]) -> Answer {
         Call::Close => proved::close(image).map(|()| NOTHING),
         Call::Event(name) => proved::event(image, card, register, name).map(|()| NOTHING),
         Call::Flush => proved::flush(image, card).map(|()| NOTHING),
+        Call::Remove(window) => proved::remove(image, card, *window).map(|()| NOTHING),
         // Not exported: the second engine moves both sides on.
-        Call::Remove(_) | Call::Step | Call::Query(..) => second(probe, call, hits),
+        Call::Step => second(probe, call, hits),
+        Call::Query(names, _) => proved::query(image, card, register, &slices(names), hits)
+            .map(|found| (found.hits, found.taken)),
     }
 }
 

@@ -126,6 +126,9 @@ fn both_engines_go_through_histories_alike() {
     tally.expect("close", &[0, 5], 50);
     tally.expect("event", &[0, 4, 5, 8, 9, 10, 11], 20);
     tally.expect("flush", &[0, 10, 11], 20);
+    tally.expect("remove", &[0, 5, 7], 100);
+    tally.expect("remove", &[10, 11], 20);
+    tally.expect("query", &[0, 4, 14], 100);
 }
 
 /// Short histories on cards of 4 to 64 blocks and registers of 1 to 1,024 entries.

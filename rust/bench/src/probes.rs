@@ -1,0 +1,151 @@
+//! Probes to measure on: cards as full as they may be, and partitions to be merged.
+
+use second::image;
+use second::state::{Lengths, Partition, Posting, State, Windows};
+
+const BLOCK: usize = 4_096;
+const CONTENT: usize = 4_092;
+
+/// What both engines are called on.
+#[derive(Clone)]
+pub struct Probe {
+    pub state: State,
+    pub image: Vec<u8>,
+    pub card: Vec<u8>,
+    pub register: Vec<u8>,
+}
+
+/// The identifier of a number, of 2 to 64 bytes.
+pub fn name(number: usize) -> Vec<u8> {
+    let mut name = vec![b'A'; 2 + number % 63];
+    name[..2].copy_from_slice(&(number as u16).to_le_bytes());
+    name
+}
+
+/// A full register of different identifiers.
+pub fn register(entries: usize) -> Vec<u8> {
+    let mut register = vec![0; entries * 65];
+    for (number, entry) in register.chunks_exact_mut(65).enumerate() {
+        let name = name(number);
+        entry[0] = name.len() as u8;
+        entry[1..=name.len()].copy_from_slice(&name);
+    }
+    register
+}
+
+/// The content of a partition with a list of falling windows under each of so many identifiers.
+fn content(level: u16, identifiers: usize, list: impl Fn(usize) -> Vec<u16>) -> Vec<u8> {
+    let lists: Vec<Vec<u16>> = (0..identifiers).map(list).collect();
+    let postings = lists.iter().map(Vec::len).sum();
+    let start = 32 + 12 * identifiers;
+    let mut words = vec![identifiers, postings, 32, start, start + 4 * postings];
+    words.extend([usize::from(level), 0, 0]);
+    let mut first = 0;
+    for (id, list) in lists.iter().enumerate() {
+        words.extend([id, list.len(), first]);
+        first += list.len();
+    }
+    for window in lists.into_iter().flatten().map(usize::from) {
+        words.push(window << 16 | (1 + window % 9));
+    }
+    words
+        .into_iter()
+        .flat_map(|word| (word as u32).to_le_bytes())
+        .collect()
+}
+
+/// Lays a partition into the blocks after the one last taken.
+fn add(probe: &mut Probe, level: u16, content: &[u8]) {
+    let first = usize::from(probe.state.taken) + 1;
+    let count = content.len().div_ceil(CONTENT);
+    for (place, piece) in content.chunks(CONTENT).enumerate() {
+        let block = &mut probe.card[(first + place) * BLOCK..][..BLOCK];
+        block[..piece.len()].copy_from_slice(piece);
+        let next = if place + 1 < count {
+            first + place + 1
+        } else {
+            65_534
+        };
+        block[CONTENT..].copy_from_slice(&(next as u32).to_le_bytes());
+    }
+    let partitions = &mut probe.state.partitions;
+    partitions.records[usize::from(partitions.used)] = Partition {
+        first: first as u16,
+        level,
+        length: content.len() as u32,
+    };
+    partitions.used += 1;
+    probe.state.taken = (first + count - 1) as u16;
+}
+
+/// A probe without partitions, with an open window and a buffer half full. Block 0 counts as last taken.
+fn empty(blocks: usize, entries: usize) -> Probe {
+    let mut probe = Probe {
+        state: State {
+            lengths: Lengths {
+                card: (blocks * BLOCK) as u32,
+                register: entries as u32 * 65,
+            },
+            windows: Windows {
+                last: 65_000,
+                live: 60_000,
+                open: 65_000,
+                events: 100,
+            },
+            ..State::default()
+        },
+        image: Vec::new(),
+        card: vec![255; blocks * BLOCK],
+        register: register(entries),
+    };
+    buffer(&mut probe.state, 64);
+    probe.image = image::write(&probe.state);
+    probe
+}
+
+/// Buffers so many postings, of which a few are the open window's.
+fn buffer(state: &mut State, used: u16) {
+    state.buffer.used = used;
+    for place in 0..used {
+        state.buffer.postings[usize::from(place)] = Posting {
+            id: place / 2,
+            window: 65_000 - place % 2,
+            count: 1 + (place % 7) as i16,
+        };
+    }
+}
+
+/// The windows from one on upward by a stride, falling.
+fn windows(first: usize, stride: usize, count: usize) -> Vec<u16> {
+    let number = |place: usize| (first + stride * place) as u16;
+    (0..count).rev().map(number).collect()
+}
+
+/// A card of which a little less than half is in use, in partitions of all levels, each a third of what the ones before leave.
+/// Older windows are in older partitions, and a window has at most 33 identifiers.
+pub fn half_full(blocks: usize, entries: usize) -> Probe {
+    let mut probe = empty(blocks, entries);
+    let mut room = blocks / 2 - 12;
+    let mut before = 0;
+    for level in [5, 5, 4, 4, 3, 2, 1, 0, 0] {
+        let share = (room / 3).max(1);
+        let words = share * CONTENT / 4 - 8;
+        let identifiers = entries.min(words / 8);
+        let count = (words - 3 * identifiers) / identifiers;
+        let content = content(level, identifiers, |id| {
+            windows(1 + id % 32 + 32 * before, 32, count)
+        });
+        room -= share.min(room);
+        before += count;
+        add(&mut probe, level, &content);
+    }
+    probe.image = image::write(&probe.state);
+    probe
+}
+
+/// The same probe with a full buffer.
+pub fn with_full_buffer(mut probe: Probe) -> Probe {
+    buffer(&mut probe.state, 128);
+    probe.image = image::write(&probe.state);
+    probe
+}
