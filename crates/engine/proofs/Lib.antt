@@ -1,1 +1,5 @@
 pub mod Refused
+pub mod Unchanged
+pub mod Filling
+pub mod Loop
+pub mod Part

@@ -1,11 +1,24 @@
 // The engine's public calls in one place. Each asks nothing of its caller, and promises its answer, the state and every buffer lent as its definition
 // says, whatever it is given.
+use answers::Found;
+use answers::Hit;
+use queries::Answered;
+use queries::Top;
 use state::State;
 use windows::Opening;
 use windows::Replied;
-ghost use Rattle.answers.specs.Numbers.{replied, openedAs};
+ghost use mathlib.Core.List.{map};
+ghost use mathlib.Core.Path.{_≡_};
+ghost use Prim.Native.Nat.{_≤_, _<_};
+ghost use lib.ListN.{length, getD};
+ghost use Rattle.answers.specs.Numbers.{replied, openedAs, foundAs};
 ghost use Rattle.windows.specs.Calls.{startOf, unstarted, openOf, closeOf, eventOf, flushOf};
 ghost use Rattle.windows.specs.Promises.{Gives, storeOf, probeOf};
+ghost use Rattle.queries.specs.Query.{queryOf, fill};
+ghost use Rattle.queries.specs.Top.{noHit, listedHits};
+ghost use Rattle.queries.specs.Finds.{Finds};
+ghost use Rattle.removals.specs.Removal.{removeOf};
+ghost use Rattle.engine.specs.Lent.{hitCount, answeredBy};
 
 // A fresh card, register and state.
 pub fn start(card: &mut [u8], register: &mut [u8]) -> Replied
@@ -37,9 +50,101 @@ pub fn close(s: State) -> Replied
     windows::close(s)
 }
 
+// A closed window is removed: each of its counts is buffered negated.
+pub fn remove(s: State, card: &mut [u8], window: u32) -> Replied
+    ensures { λ r. ⌜ Gives (storeOf s (now (card .entry))) (removeOf (storeOf s (now (card .entry))) window) (replied (r .reply)) (storeOf (r .state) (now (card .exit))) ⌝ }
+{
+    removals::remove(s, card, window)
+}
+
 // The buffered postings are written as one partition.
 pub fn flush(s: State, card: &mut [u8]) -> Replied
     ensures { λ r. ⌜ Gives (storeOf s (now (card .entry))) (flushOf (storeOf s (now (card .entry)))) (replied (r .reply)) (storeOf (r .state) (now (card .exit))) ⌝ }
 {
     windows::flush(s, card)
+}
+
+// How many hits are listed.
+fn listed(top: Top) -> usize
+    ensures { λ r. ⌜ r ≡ top .used ⌝ }
+{
+    top.used as usize
+}
+
+// The hit at a place.
+fn hit_at(top: Top, i: usize) -> Hit
+    requires { ⌜ i < 32 ⌝ }
+    ensures { λ r. ⌜ r ≡ getD (top .hits) i noHit ⌝ }
+{
+    top.hits[i]
+}
+
+// Writes the hits to the first places of a lent list.
+fn fill_by(hits: &mut [Hit], top: Top)
+    requires { ⌜ (top .used ≤ 32) × (top .used ≤ length (now hits)) ⌝ }
+    ensures { λ _. ⌜ now (hits .exit) ≡ fill (listedHits top) (now (hits .entry)) ⌝ }
+{
+    let n = listed(top);
+    let mut i = 0;
+    while i < n {
+        hits[i] = hit_at(top, i);
+        i += 1;
+    }
+}
+
+// The query: its hits go to the first places of the lent list.
+pub fn query(s: State, card: &[u8], register: &[u8], ids: &[&[u8]], hits: &mut [Hit]) -> Found
+    ensures { λ r. ⌜ Gives (now (hits .entry)) (queryOf (probeOf s (now (card .entry)) (now (register .entry))) (map now (now (ids .entry))) (now (hits .entry)))
+        (foundAs r (now (hits .exit))) (now (hits .exit)) × (hitCount r ≤ length (now (hits .exit))) ⌝ }
+{
+    let m = queries::search(s, card, register, ids, hits.len());
+    fill_by(hits, m.top);
+    m.answer
+}
+
+// How many hits an answer says.
+fn hit_count(answer: Found) -> u16
+    ensures { λ r. ⌜ r ≡ hitCount answer ⌝ }
+{
+    match answer {
+        Found::Hits(n, taken) => n,
+        Found::Refused(why) => 0,
+    }
+}
+
+// An answer, and the list that has its hits.
+fn answered(list: [Hit; 32], answer: Found) -> Answered
+    ensures { λ r. ⌜ r ≡ answeredBy answer list ⌝ }
+{
+    let top = Top {
+        used: hit_count(answer),
+        hits: list,
+    };
+    Answered {
+        answer: answer,
+        top: top,
+    }
+}
+
+// A query with at most 32 places, on a list of its own.
+fn query_here(s: State, card: &[u8], register: &[u8], ids: &[&[u8]], places: usize) -> Answered
+    requires { ⌜ places ≤ 32 ⌝ }
+    ensures { λ r. ⌜ Finds (probeOf s (now (card .entry)) (now (register .entry))) (map now (now (ids .entry))) places (r .answer) (r .top) ⌝ }
+{
+    let mut list = [Hit {
+        window: 0,
+        score: 0,
+    }; 32];
+    let r = query(s, card, register, ids, &mut list[..places]);
+    answered(list, r)
+}
+
+// The query by value, with a list of so many places.
+pub fn query_value(s: State, card: &[u8], register: &[u8], ids: &[&[u8]], places: usize) -> Answered
+    ensures { λ r. ⌜ Finds (probeOf s (now (card .entry)) (now (register .entry))) (map now (now (ids .entry))) places (r .answer) (r .top) ⌝ }
+{
+    if places > 32 {
+        return queries::search(s, card, register, ids, places);
+    }
+    query_here(s, card, register, ids, places)
 }

@@ -228,7 +228,7 @@ unfolding refuseIf
 fills-if places true n o e = refl
 fills-if places false n o e = e
 
-fills : (p : Probe) (ns : List Name) (places : List Hit) → fill (hitsIn (answerOf (queryOf p ns places))) places ≡ stateOf places (queryOf p ns places)
+pub fills : (p : Probe) (ns : List Name) (places : List Hit) → fill (hitsIn (answerOf (queryOf p ns places))) places ≡ stateOf places (queryOf p ns places)
 unfolding queryOf querying
 fills p ns places = fills-if places _ 1 _ (fills-if places _ 2 _ (fills-if places _ 3 _ (fills-if places _ 4 _ (fills-if places _ 14 _ refl))))
 
