@@ -1,3 +1,2 @@
-pub mod Cases
-pub mod Bytes
 pub mod Theorem
+pub mod Cases

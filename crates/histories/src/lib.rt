@@ -1,1 +1,1 @@
-// Histories of calls: the ledger, the account, and that the engine answers as they do.
+// Histories of calls: that the engine answers them as ledger and account do, and the worked cases.
