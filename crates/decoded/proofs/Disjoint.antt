@@ -60,9 +60,11 @@ different-parts [] y e = (refl, e, λ b m. absurd (true≢false (sym m)))
 different-parts (n ∷ x) y e =
     let new : elem n (x ++ y) ≡ false = not-true _ (and-left (not (elem n (x ++ y))) _ e) in
     let r = different-parts x y (and-right (not (elem n (x ++ y))) _ e) in
-    let both = elem-none n x y new in
-    (and-both (not (elem n x)) _ (ap not (both .0)) (r .0), r .1,
-    λ b m. by-test (eqb n b) (λ q. ap (λ c. elem c y) (sym (eqb-true n b q)) ∙ both .1) (λ q. r .2 b (sym (ap (λ t. t || elem b x) q) ∙ m)))
+    let both = elem-none n x y new in (
+      and-both (not (elem n x)) _ (ap not (both .0)) (r .0),
+      r .1,
+      λ b m. by-test (eqb n b) (λ q. ap (λ c. elem c y) (sym (eqb-true n b q)) ∙ both .1) (λ q. r .2 b (sym (ap (λ t. t || elem b x) q) ∙ m)),
+    )
 
 pub different-join : (x y : List ℕ) → different x ≡ true → different y ≡ true → Apart x y → different (x ++ y) ≡ true
 different-join [] y d e h = e

@@ -276,9 +276,9 @@ module _ (s : State) (W : List ℕ) (e : Lists) (h : Holds s W e) (b : ℕ) (on 
     idle = λ z. merge-after ∙ h .idle (ap (λ (m : MergeJob). m .steps) (sym merge-after) ∙ z);
     portions = portions-after;
     sizes = ap (every sized) parts-after ∙ every-append sized qs (r ∷ [])
-      ∙ and-both (every sized qs) _ (sizes-kept qs keeps ∙ h .sizes) (ap (λ t. t && true) (eq-eqb (lengthOf held-there) (lengthOf (postingsOf W′ r)) (ap lengthOf (sym written))));
+        ∙ and-both (every sized qs) _ (sizes-kept qs keeps ∙ h .sizes) (ap (λ t. t && true) (eq-eqb (lengthOf held-there) (lengthOf (postingsOf W′ r)) (ap lengthOf (sym written))));
     formed = ap₂ (λ (n : ℕ) (l : List Partition). partitionsFormed W′ n l) blocks-after parts-after
-      ∙ flush-formed W (blocks s) b held-there (h .long) on few fine qs most freed (h .formed);
+        ∙ flush-formed W (blocks s) b held-there (h .long) on few fine qs most freed (h .formed);
     output = λ y. rule-after (sym going-after ∙ y);
     free = λ c low. free-after c (subst (λ n. c < n) blocks-after low);
   }

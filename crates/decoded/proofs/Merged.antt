@@ -51,9 +51,10 @@ chains-append W x y = joined-append (chainOf W) x y
 pub agree-all : (W′ W : List ℕ) (qs : List Partition) → Agree W′ W (chainsOf W qs) → AgreeAll W′ W qs
 unfolding AllOf
 agree-all W′ W [] h = tt
-agree-all W′ W (q ∷ qs) h =
-    (λ d m. h d (ap (elem d) (chains-more W q qs) ∙ elem-left d (chainOf W q) (chainsOf W qs) m),
-    agree-all W′ W qs (λ d m. h d (ap (elem d) (chains-more W q qs) ∙ elem-right d (chainOf W q) (chainsOf W qs) m)))
+agree-all W′ W (q ∷ qs) h = (
+  λ d m. h d (ap (elem d) (chains-more W q qs) ∙ elem-left d (chainOf W q) (chainsOf W qs) m),
+  agree-all W′ W qs (λ d m. h d (ap (elem d) (chains-more W q qs) ∙ elem-right d (chainOf W q) (chainsOf W qs) m)),
+)
 
 module _ (s : State) (W : List ℕ) (e : Lists) (h : Holds s W e) (bs : List ℕ) (out : Output W s bs) (t : ℕ) (low : t < blocks s)
     (v : ℕ) (vs : List ℕ) (due : dueIn s ≡ v ∷ vs) (fine : empty (result (taking W s)) ≡ false → Writable (result (taking W s))) where

@@ -52,8 +52,8 @@ result-writable : (n m : ℕ) (l : Ledger) (a : Account) → Kept n m l a → em
 result-writable n m l a k some = record {
   some = full (merged a) some;
   formed = unfold listRule in and-both (ordered (merged a)) _ (merged-ordered a)
-    (every-from counts (storedRule (top l)) (λ p. leb 1 (p .window) && not (isZero (p .count)))
-    (λ p c r. and-both (leb 1 (p .window)) _ (le-leb _ _ (stored-kept (top l) p r .some)) c) (merged a) (merged-counts a) ranged);
+      (every-from counts (storedRule (top l)) (λ p. leb 1 (p .window) && not (isZero (p .count)))
+      (λ p c r. and-both (leb 1 (p .window)) _ (le-leb _ _ (stored-kept (top l) p r .some)) c) (merged a) (merged-counts a) ranged);
   numbered = every-from (storedRule (top l)) (storedRule (top l)) (λ p. leb (p .id) 1023) (λ p x y. le-leb _ _ (stored-kept (top l) p x .id)) (merged a) ranged ranged;
   fitting = fit;
 }

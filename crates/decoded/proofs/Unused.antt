@@ -56,8 +56,11 @@ keep-without n [] d e = ap (λ m. m + 0) (ap length (keep-all (λ (b : ℕ). tru
 keep-without n (x ∷ l) d e =
     let low : x < n = ltb-true x n (and-left (ltb x n) _ e) in
     let new : elem x l ≡ false = not-true _ (and-left (not (elem x l)) _ d) in
-    omega (arith, keep-without n l (and-right (not (elem x l)) _ d) (and-right (ltb x n) _ e),
-    keep-less (λ b. not (elem b l)) (λ b. not (elem b (x ∷ l))) x 0 n (omega arith) (omega arith) (rw new) (rw (eq-eqb x x refl)) (λ b r. rw (ne-eqb x b r)))
+    omega (
+      arith,
+      keep-without n l (and-right (not (elem x l)) _ d) (and-right (ltb x n) _ e),
+      keep-less (λ b. not (elem b l)) (λ b. not (elem b (x ∷ l))) x 0 n (omega arith) (omega arith) (rw new) (rw (eq-eqb x x refl)) (λ b r. rw (ne-eqb x b r)),
+    )
 
 -- ---- the blocks of finished partitions
 
@@ -103,7 +106,7 @@ output-kept W s once rule =
       none = λ y. eqb-true _ _ (sym (ap (λ t. cond t (eqb (s .merge .first) noBlock) (rest ps)) y) ∙ b);
       on = by-test (empty (result ps)) (λ y. nothing ps y) (λ n. rule-on W (blocks s) (s .merge .first) (outputBlocks (result ps)) (and-left (chainRule W (blocks s) (s .merge .first) (outputBlocks (result ps))) _ (some ps b n)));
       apart = by-test (empty (result ps)) (λ y. ap (λ l. different (l ++ chainsOf W (finished (s .partitions)))) (no-chain ps y) ∙ once)
-        (λ n. and-left (different (outputChain W s ps ++ chainsOf W (finished (s .partitions)))) _ (and-right (chainRule W (blocks s) (s .merge .first) (outputBlocks (result ps))) _ (some ps b n)));
+          (λ n. and-left (different (outputChain W s ps ++ chainsOf W (finished (s .partitions)))) _ (and-right (chainRule W (blocks s) (s .merge .first) (outputBlocks (result ps))) _ (some ps b n)));
     }
   where
     rest : List Posting → Bool
@@ -213,8 +216,16 @@ module _ (s : State) (W : List ℕ) (e : Lists) (h : Holds s W e) where
     -- every block is free or occupied
     pub free-left : length (freeBlocks W (blocks s) (s .taken)) + (blocksIn (e .account) + blocksAhead (e .account)) ≡ blocks s
     free-left =
-        omega (arith, free-count W (blocks s) (s .taken), kept, keep-without (blocks s) (occupied W s) occupied-once occupied-on,
-        length-append (outputOf W s) (chainsOf W (finished (s .partitions))), output-length, chains-length W (finished (s .partitions)), counted)
+        omega (
+          arith,
+          free-count W (blocks s) (s .taken),
+          kept,
+          keep-without (blocks s) (occupied W s) occupied-once occupied-on,
+          length-append (outputOf W s) (chainsOf W (finished (s .partitions))),
+          output-length,
+          chains-length W (finished (s .partitions)),
+          counted,
+        )
       where
         kept : length (keep (isFree W) (upTo (blocks s))) ≡ length (keep (λ b. not (elem b (occupied W s))) (upTo (blocks s)))
         kept = ap length (keep-rising (isFree W) (λ b. not (elem b (occupied W s))) 0 (blocks s) (λ b x y. h .free b (omega arith)))
