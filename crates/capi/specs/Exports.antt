@@ -16,6 +16,7 @@ use Rattle.identifiers.specs.Names.{Name}
 use Rattle.windows.specs.Promises.{storeOf, probeOf}
 use Rattle.windows.specs.Calls.{startOf, unstarted, openOf, closeOf, eventOf, flushOf}
 use Rattle.removals.specs.Removal.{removeOf}
+use Rattle.merges.specs.Step.{stepOf}
 use Rattle.images.specs.Images.{imageOf, stateIn, imageRule}
 
 -- the bytes that a call is lent: a state's image with a card, or with both buffers
@@ -84,6 +85,9 @@ flushOn l = refuseIf (not (imageRule (l .image))) 1 (carry imagedStore (flushOf 
 
 unfoldable pub removeOn : Carded → ℕ → Outcome Carded
 removeOn l w = refuseIf (not (imageRule (l .image))) 1 (carry imagedStore (removeOf (storeOf (stateOn (l .image)) (l .card)) w))
+
+unfoldable pub stepOn : Carded → Outcome Carded
+stepOn l = refuseIf (not (imageRule (l .image))) 1 (carry imagedStore (stepOf (storeOf (stateOn (l .image)) (l .card))))
 
 -- the image after a call: the new state's where it is done, else as it was
 abbrev pub settledOn : Reply → State → List ℕ → List ℕ

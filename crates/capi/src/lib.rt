@@ -17,7 +17,7 @@ ghost use Rattle.answers.specs.Numbers.{refusalNumber, replied, openedAs, found
 ghost use Rattle.identifiers.specs.Register.{registerRule};
 ghost use Rattle.windows.specs.Promises.{Gives};
 ghost use Rattle.queries.specs.Top.{listedHits};
-ghost use Rattle.capi.specs.Exports.{cardedOf, lentOf, repliedBy, openedBy, startOn, unstartedOn, openOn, closeOn, eventOn, flushOn, removeOn, settledOn, openedOn};
+ghost use Rattle.capi.specs.Exports.{cardedOf, lentOf, repliedBy, openedBy, startOn, unstartedOn, openOn, closeOn, eventOn, flushOn, removeOn, stepOn, settledOn, openedOn};
 ghost use Rattle.capi.specs.Queries.{hitsIn, hitBytes, foundBy, queryOn};
 
 // Is a register well formed? 1 where it is; 0 where it is not, or has more than 1,024 entries.
@@ -227,6 +227,21 @@ pub extern "C" fn gemsilver_remove(image: &mut [u8], card: &mut [u8], window: u3
     }
     let s = images::read_state(image);
     let r = removals::remove(s, card, window);
+    let reply = r.reply;
+    settle(image, reply, r.state)
+}
+
+// A merge is taken one step further, or begun.
+#[no_mangle]
+pub extern "C" fn gemsilver_step(image: &mut [u8], card: &mut [u8]) -> u32
+    ensures { λ r. ⌜ Gives (cardedOf (now (image .entry)) (now (card .entry))) (stepOn (cardedOf (now (image .entry)) (now (card .entry))))
+        (repliedBy r) (cardedOf (now (image .exit)) (now (card .exit))) ⌝ }
+{
+    if !images::image_ok(image) {
+        return 1;
+    }
+    let s = images::read_state(image);
+    let r = merges::step(s, card);
     let reply = r.reply;
     settle(image, reply, r.state)
 }

@@ -1,0 +1,66 @@
+-- `capi::gemsilver_step` meets its contract. Assumes nothing.
+use mathlib.Core.Bool.{not}
+use mathlib.Core.Path.{refl, sym, ap, _∙_}
+use native.Mathlib.Omega.{arith}
+use borrow.Author.Tests.{not-false}
+use Rattle.words.specs.Words.{words}
+use Rattle.windows.proofs.Outcomes.{stopped, passed}
+use Rattle.merges.proofs.Refused.{step-unchanged}
+use Rattle.images.proofs.Fits.{image-length}
+use Rattle.capi.specs.Exports.{stepOn}
+use Rattle.capi.proofs.Carried.{imaged-back, on-store}
+use borrow.Author.Needs.{needs}
+use Rattle.capi.proofs.gemsilver_step.Statement.{statement}
+use Rattle.capi.proofs.gemsilver_step.Tie as tie
+
+image-ok-requires : tie.Need-image-ok-requires
+image-ok-requires c κs = search needs
+
+same-length : tie.Need-same-length
+same-length c = search needs
+
+returns : tie.Need-returns
+unfolding stepOn
+returns c = stopped _ 1 _ (ap not (sym (c .before .image-ok .ensures)) ∙ c .if1 .taken)
+
+read-state-requires : tie.Need-read-state-requires
+read-state-requires c κs = sym (c .before .before .image-ok .ensures) ∙ not-false _ (c .before .if1 .left)
+
+step-requires : tie.Need-step-requires
+step-requires c κs = search needs
+
+settle-requires : tie.Need-settle-requires
+settle-requires c κs = image-length (c .before .before .before .before .before .before .before .before .before .before .before .before .args .image .now) (sym (c .before .before .before .before .before .before .before .before .image-ok .ensures) ∙ not-false _ (c .before .before .before .before .before .before .before .if1 .left))
+
+same-length-2 : tie.Need-same-length-2
+same-length-2 c = search needs
+
+same-length-3 : tie.Need-same-length-3
+same-length-3 c = search needs
+
+returns-2 : tie.Need-returns-2
+unfolding stepOn
+returns-2 c =
+    let s = c .before .before .before .before .before .before .before .before .before .before .before .before .before .before .before .args in
+    let ok = sym (c .before .before .before .before .before .before .before .before .before .before .before .image-ok .ensures) ∙ not-false _ (c .before .before .before .before .before .before .before .before .before .before .if1 .left) in
+    let back = imaged-back (s .image .now) (λ i. omega (arith, c .before .before .before .before .before .before .before .before .before .before .before .before .before .before .slice-known .given i)) ok in
+    let read = c .before .before .before .before .before .before .before .before .read-state .ensures in
+    let r = c .before .before .before .before .before .before .step in
+    let out = c .before .before .settle in
+    passed _ 1 _ (ap not (sym (c .before .before .before .before .before .before .before .before .before .before .before .image-ok .ensures)) ∙ c .before .before .before .before .before .before .before .before .before .before .if1 .left)
+    (rw (out .ensures .0, out .ensures .1)
+    (on-store (s .image .now) (s .card .now) back _ (step-unchanged _) (r .result .reply) (r .result .state) (r .last .1 .0) (rw read at (r .ensures))))
+
+pub gemsilver-step-spec : {M : Type 1} → statement M
+gemsilver-step-spec =
+    tie.close
+    (tie.spec
+    image-ok-requires
+    same-length
+    returns
+    read-state-requires
+    step-requires
+    settle-requires
+    same-length-2
+    same-length-3
+    returns-2)
