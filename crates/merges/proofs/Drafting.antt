@@ -55,7 +55,7 @@ use Rattle.merges.proofs.Merged.{Part, oldest-part, part-all, part-ever
 use Rattle.merges.proofs.Progress.{front, progress-more, length-progress, result-room, progress-room, completed}
 
 -- a chain of at least one block begins with its first
-chain-first : (W : List ℕ) (b n : ℕ) → 0 < n → getD (chain W b n) 0 0 ≡ b
+pub chain-first : (W : List ℕ) (b n : ℕ) → 0 < n → getD (chain W b n) 0 0 ≡ b
 unfolding chain
 chain-first W b zero h = absurd (omega arith)
 chain-first W b (suc n) h = refl

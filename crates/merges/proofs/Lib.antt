@@ -6,3 +6,4 @@ pub mod Drafting
 pub mod Refusing
 pub mod Beginning
 pub mod Stepping
+pub mod Filling
