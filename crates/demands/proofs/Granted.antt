@@ -1,0 +1,191 @@
+-- What a call that is not refused has found and left.
+use mathlib.Core.Bool.{Bool, true, false, _||_, _&&_, not, cond}
+use mathlib.Core.List.{List, [], _∷_, _++_}
+use mathlib.Core.Path.{_≡_, refl, sym, ap, ap₂, _∙_, subst}
+use Prim.Native.Nat.{ℕ, suc, _+_, _*_, _/_, _≤_, _<_}
+use native.Mathlib.Omega.{arith}
+use lib.Dec.{eqb, ltb, leb}
+use lib.ListN.{length}
+use borrow.Author.Tests.{eqb-true, leb-false, not-true, not-false}
+use Rattle.lists.specs.Lists.{any, every, empty, elem, down}
+use Rattle.lists.proofs.Bools.{by-test, and-left, and-right, and-both}
+use Rattle.words.specs.Words.{words, bytes}
+use Rattle.answers.specs.Answers.{Answer, done, number, hits, refused, Outcome, refuse, leave, refuseIf, choose, answerOf, stateOf}
+use Rattle.answers.specs.declared.Hit.{Hit}
+use Rattle.state.specs.declared.State.{State}
+use Rattle.state.specs.Views.{entries}
+use Rattle.state.specs.Rules.{stateRule}
+use Rattle.state.specs.Probe.{Probe, sameLength}
+use Rattle.identifiers.specs.Names.{Name, badLength, among, numberOf}
+use Rattle.identifiers.specs.Register.{names, registerRule, added}
+use Rattle.identifiers.proofs.Added.{good-length, names-added}
+use Rattle.windows.specs.Flush.{flushing, flushingIf}
+use Rattle.windows.specs.Calls.{isNew, counted, eventOf}
+use Rattle.queries.specs.Hits.{ranked}
+use Rattle.queries.specs.Query.{countIn, numbers, takenUp, queryFormed, hitsOf, fill, querying, queryOf}
+use Rattle.accounts.specs.Ledger.{including}
+use Rattle.accounts.proofs.Numbers.{new-is}
+use Rattle.demands.specs.Words.{Sound, Listing}
+use Rattle.demands.proofs.Listing.{listed-scores, listed-falls, left-out-only-when-full, all-once}
+
+-- where a is answered, what is left is as G says
+record Where {S : Type 0} (s : S) (a : Answer) (G : S → Type 0) (o : Outcome S) : Type 0 where
+  holds : answerOf o ≡ a → G (stateOf s o)
+
+module _ {S : Type 0} {s : S} {a : Answer} {G : S → Type 0} (fine : (m : ℕ) → refused m ≡ a → ⊥) where
+  where-if : (t : Bool) (n : ℕ) (o : Outcome S) → (t ≡ false → Where s a G o) → Where s a G (refuseIf t n o)
+  unfolding refuseIf
+  where-if true n o h = record { holds = λ e. absurd (fine n e) }
+  where-if false n o h = h refl
+
+  where-choose : (t : Bool) (o p : Outcome S) → Where s a G o → Where s a G p → Where s a G (choose t o p)
+  unfolding choose
+  where-choose true o p h k = h
+  where-choose false o p h k = k
+
+  -- a flush first or not
+  where-flush : (t : Bool) (x : State) (card : List ℕ) (k : State → List ℕ → Outcome S) → ((y : State) (c : List ℕ) → Where s a G (k y c)) → Where s a G (flushingIf t x card k)
+  unfolding flushingIf flushing
+  where-flush t x card k h =
+      where-choose t _ _ (where-choose _ _ _ (h x card) (where-if _ 10 _ (λ _. where-if _ 11 _ (λ _. where-if _ 12 _ (λ _. h _ _))))) (h x card)
+
+done-granted : (m : ℕ) → refused m ≡ done → ⊥
+done-granted m e = let z : _≡_ {A = ℕ} 0 1 = cc in absurd (omega arith)
+
+hits-granted : (hs : List Hit) (k m : ℕ) → refused m ≡ hits hs k → ⊥
+hits-granted hs k m e = let z : _≡_ {A = ℕ} 0 1 = cc in absurd (omega arith)
+
+-- ---- events
+
+-- the register with an identifier that it has, or that finds an unused entry
+noted : (r : List ℕ) (n : Name) → registerRule r ≡ true → badLength n ≡ false → (isNew r n ≡ true → 65 * length (names r) + 65 ≤ length r)
+    → names (cond (isNew r n) (added r n) r) ≡ including (names r) n
+noted r n rule good room =
+    by-test (isNew r n)
+    (λ y. ap (λ t. names (cond t (added r n) r)) y ∙ names-added r n rule good (room y)
+    ∙ sym (ap (λ t. cond t (names r) (names r ++ (n ∷ []))) (new y)))
+    (λ z. ap (λ t. names (cond t (added r n) r)) z ∙ sym (ap (λ t. cond t (names r) (names r ++ (n ∷ []))) (old z)))
+  where
+    new : isNew r n ≡ true → among n (names r) ≡ false
+    new y = not-true _ (sym (new-is (names r) n) ∙ y)
+
+    old : isNew r n ≡ false → among n (names r) ≡ true
+    old z = not-false _ (sym (new-is (names r) n) ∙ z)
+
+-- a counted event's identifier has 1 to 64 bytes and stands in the register, whole
+pub record Noted (p : Probe) (n : Name) (q : Probe) : Type 0 where
+  pub some : 1 ≤ length n
+  pub most : length n ≤ 64
+  pub whole : names (q .register) ≡ including (names (p .register)) n
+
+event-where : (p : Probe) (n : Name) → Where p done (Noted p n) (eventOf p n)
+unfolding eventOf
+event-where p n =
+    where-if done-granted _ 1 _ λ one. where-if done-granted _ 2 _ λ two. where-if done-granted _ 3 _ λ three. where-if done-granted _ 4 _ λ four.
+    where-if done-granted _ 5 _ λ _. where-if done-granted _ 6 _ λ _. where-if done-granted _ 8 _ λ eight. where-if done-granted _ 9 _ λ _.
+    where-flush done-granted _ (p .state) (p .card) _ λ x card. record {
+      holds = λ e. record {
+        some = omega (arith, good-length n four .0);
+        most = good-length n four .1;
+        whole = noted (p .register) n (not-false _ three) four (λ y. room two eight y);
+      };
+    }
+  where
+    room : not (sameLength (p .card) (p .state .lengths .card) && sameLength (p .register) (p .state .lengths .register)) ≡ false
+        → (isNew (p .register) n && leb (entries (p .state)) (length (names (p .register)))) ≡ false
+        → isNew (p .register) n ≡ true → 65 * length (names (p .register)) + 65 ≤ length (p .register)
+    room two eight y =
+        let low : leb (entries (p .state)) (length (names (p .register))) ≡ false = sym (ap (λ t. t && leb (entries (p .state)) (length (names (p .register)))) y) ∙ eight in
+        let long : length (p .register) ≡ p .state .lengths .register =
+        eqb-true _ _ (and-right (sameLength (p .card) (p .state .lengths .card)) _ (not-false _ two)) in
+        omega (arith, leb-false (entries (p .state)) (length (names (p .register))) low, long)
+
+pub event-noted : (p : Probe) (n : Name) → answerOf (eventOf p n) ≡ done → Noted p n (stateOf p (eventOf p n))
+event-noted p n e = event-where p n .holds e
+
+-- ---- queries
+
+-- the hits answered, the postings taken, and the lent list
+pub record Answered (p : Probe) (ns : List Name) (places found : List Hit) (taken : ℕ) (left : List Hit) : Type 0 where
+  pub hitsAre : hitsOf (words (p .card)) (p .state) (length places) (numbers (p .register) ns) ≡ found
+  pub takenIs : takenUp (words (p .card)) (p .state) (numbers (p .register) ns) ≡ taken
+  pub leftIs : left ≡ fill found places
+
+abbrev listOf : Answer → List Hit
+listOf done = []
+listOf (number n) = []
+listOf (hits hs k) = hs
+listOf (refused n) = []
+
+abbrev takenOf : Answer → ℕ
+takenOf done = 0
+takenOf (number n) = 0
+takenOf (hits hs k) = k
+takenOf (refused n) = 0
+
+-- an answer with these hits and postings taken
+query-last : (p : Probe) (ns : List Name) (places found : List Hit) (taken : ℕ) (hs : List Hit) (k : ℕ)
+    → hitsOf (words (p .card)) (p .state) (length places) (numbers (p .register) ns) ≡ hs → takenUp (words (p .card)) (p .state) (numbers (p .register) ns) ≡ k
+    → Where places (hits found taken) (Answered p ns places found taken) (leave (hits hs k) (fill hs places))
+query-last p ns places found taken hs k a b = record {
+  holds = λ e. record { hitsAre = a ∙ ap listOf e; takenIs = b ∙ ap takenOf e; leftIs = ap (λ (l : List Hit). fill l places) (ap listOf e) };
+}
+
+query-where : (p : Probe) (ns : List Name) (places found : List Hit) (taken : ℕ) → Where places (hits found taken) (Answered p ns places found taken) (queryOf p ns places)
+unfolding queryOf querying
+query-where p ns places found taken =
+    where-if (hits-granted found taken) _ 1 _ λ _. where-if (hits-granted found taken) _ 2 _ λ _. where-if (hits-granted found taken) _ 3 _ λ _.
+    where-if (hits-granted found taken) _ 4 _ λ _. where-if (hits-granted found taken) _ 14 _ λ _.
+    query-last p ns places found taken _ _ refl refl
+
+pub query-answered : (p : Probe) (ns : List Name) (places found : List Hit) (taken : ℕ) → answerOf (queryOf p ns places) ≡ hits found taken
+    → Answered p ns places found taken (stateOf places (queryOf p ns places))
+query-answered p ns places found taken e = query-where p ns places found taken .holds e
+
+-- the hits of the definition are a listing
+ranked-listing : (N : ℕ) (count : ℕ → ℕ → ℕ) (k : ℕ) (is : List ℕ) → Listing N count k is (ranked N count (down 65535) k is)
+ranked-listing N count k is = record {
+  exact = listed-scores N count (down 65535) k is;
+  falling = listed-falls N count (down 65535) k is all-once;
+  full = left-out-only-when-full N count (down 65535) k is all-once;
+}
+
+-- so are those of an answer
+pub answered-listing : (p : Probe) (ns : List Name) (places found : List Hit) (taken : ℕ) → answerOf (queryOf p ns places) ≡ hits found taken
+    → Listing (p .state .windows .live) (countIn (words (p .card)) (p .state)) (length places) (numbers (p .register) ns) found
+answered-listing p ns places found taken e =
+    subst (Listing (p .state .windows .live) (countIn (words (p .card)) (p .state)) (length places) (numbers (p .register) ns))
+    (ranked-is ∙ query-answered p ns places found taken e .hitsAre)
+    (ranked-listing (p .state .windows .live) (countIn (words (p .card)) (p .state)) (length places) (numbers (p .register) ns))
+  where
+    ranked-is : ranked (p .state .windows .live) (countIn (words (p .card)) (p .state)) (down 65535) (length places) (numbers (p .register) ns) ≡ hitsOf (words (p .card)) (p .state) (length places) (numbers (p .register) ns)
+    ranked-is = unfold hitsOf in refl
+
+-- ---- identifiers of a bad length
+
+refuse-now : {S : Type 0} (t : Bool) (n : ℕ) (o : Outcome S) → t ≡ true → answerOf (refuseIf t n o) ≡ refused n
+unfolding refuseIf
+refuse-now true n o e = refl
+refuse-now false n o e = absurd (let z : _≡_ {A = ℕ} 0 1 = cc in omega arith)
+
+refuse-later : {S : Type 0} (t : Bool) (n : ℕ) (o : Outcome S) (a : Answer) → t ≡ true → answerOf o ≡ a → answerOf (refuseIf (not t) n o) ≡ a
+unfolding refuseIf
+refuse-later true n o a e f = f
+refuse-later false n o a e f = absurd (let z : _≡_ {A = ℕ} 0 1 = cc in omega arith)
+
+pub event-bad : (p : Probe) (n : Name) → Sound p → badLength n ≡ true → answerOf (eventOf p n) ≡ refused 4
+unfolding eventOf
+event-bad p n s bad =
+    refuse-later _ 1 _ (refused 4) (s .state)
+    (refuse-later _ 2 _ (refused 4) (and-both (sameLength (p .card) (p .state .lengths .card)) _ (s .card) (s .register))
+    (refuse-later _ 3 _ (refused 4) (s .entries)
+    (refuse-now _ 4 _ bad)))
+
+pub query-bad : (p : Probe) (ns : List Name) (places : List Hit) → Sound p → queryFormed (words (p .card)) (p .state) (p .register) (numbers (p .register) ns) ≡ true
+    → any badLength ns ≡ true → answerOf (queryOf p ns places) ≡ refused 4
+unfolding queryOf querying
+query-bad p ns places s formed bad =
+    refuse-later _ 1 _ (refused 4) (s .state)
+    (refuse-later _ 2 _ (refused 4) (and-both (sameLength (p .card) (p .state .lengths .card)) _ (s .card) (s .register))
+    (refuse-later _ 3 _ (refused 4) formed
+    (refuse-now _ 4 _ bad)))

@@ -1,0 +1,1 @@
+// The three demands, stated as theorems on one page.
