@@ -5,11 +5,11 @@ mod probes;
 mod stack;
 mod timing;
 
-use probes::{Probe, half_full, name, register, with_full_buffer};
+use probes::{Probe, half_full, name, register, to_merge, with_full_buffer};
 use second::engine;
 use second::state::Hit;
 use std::hint::black_box;
-use timing::{compare, title};
+use timing::{compare, once, print, title};
 
 const BLOCKS: [usize; 4] = [64, 256, 1_024, 4_096];
 const BLOCK: usize = 4_096;
@@ -98,6 +98,39 @@ fn query(blocks: usize, probe: &Probe, count: usize) {
     );
 }
 
+/// Steps to the end, or so many; gives how many were taken.
+fn steps(most: usize, mut step: impl FnMut() -> bool) -> usize {
+    (0..most).take_while(|_| step()).count()
+}
+
+fn merges() {
+    title("merging 8 partitions", "postings each, steps");
+    for postings in [128, 1_024, 8_192] {
+        let (mut first, mut other) = (to_merge(postings), to_merge(postings));
+        let mut taken = 0;
+        let whole = once(|| {
+            taken = steps(usize::MAX, || {
+                proved::step(&mut first.image, &mut first.card).is_ok()
+            });
+        });
+        // The second engine reads all inputs at each step: a few steps of a large merge tell their time.
+        let most = if postings > 1_024 { 16 } else { taken };
+        let few = once(|| {
+            let count = steps(most, || {
+                engine::step(&mut other.state, &mut other.card).is_ok()
+            });
+            assert_eq!(count, most);
+        });
+        let (proved, second) = (whole / taken as f64, few / most as f64);
+        print(&format!("{postings}, a step of {taken}"), proved, second);
+        print(
+            &format!("{postings}, all {taken}"),
+            whole,
+            second * taken as f64,
+        );
+    }
+}
+
 /// The most stack of a call over some probes.
 fn stack(what: &str, probes: &[Probe], mut call: impl FnMut(&mut Probe)) {
     let most = probes.iter().map(|probe| {
@@ -114,6 +147,8 @@ fn stacks() {
         half.clone(),
         half_full(256, ENTRIES),
         with_full_buffer(half),
+        to_merge(128),
+        to_merge(1_024),
     ];
     stack("no call", &probes, |probe| {
         black_box(probe);
@@ -127,8 +162,12 @@ fn stacks() {
         } = probe;
         assert!(proved::start(image, card, register).is_ok());
     });
-    stack("open", &probes, |probe| {
-        black_box(proved::open(&mut probe.image)).unwrap_err();
+    let closed = probes.clone().map(|mut probe| {
+        proved::close(&mut probe.image).expect("an open window");
+        probe
+    });
+    stack("open", &closed, |probe| {
+        assert!(proved::open(&mut probe.image).is_ok());
     });
     stack("close", &probes, |probe| {
         assert!(proved::close(&mut probe.image).is_ok());
@@ -148,6 +187,9 @@ fn stacks() {
     stack("remove", &probes, |probe| {
         assert!(proved::remove(&mut probe.image, &mut probe.card, 1).is_ok());
     });
+    stack("all steps of a merge", &probes, |probe| {
+        while proved::step(&mut probe.image, &mut probe.card).is_ok() {}
+    });
     let names: Vec<Vec<u8>> = (0..5).map(name).collect();
     let ids: Vec<&[u8]> = names.iter().map(|name| &name[..]).collect();
     stack("query", &probes, |probe| {
@@ -161,5 +203,6 @@ fn main() {
     registers();
     events();
     queries();
+    merges();
     stacks();
 }

@@ -143,6 +143,19 @@ pub fn half_full(blocks: usize, entries: usize) -> Probe {
     probe
 }
 
+/// Eight partitions of so many postings each, to be merged: each pair is in two of them.
+pub fn to_merge(postings: usize) -> Probe {
+    let level = if postings > 128 { 1 } else { 0 };
+    let blocks = (8 * (postings / 1_000 + 1) * 2 + 8).max(64);
+    let mut probe = empty(blocks, 64);
+    for number in 0..8 {
+        let content = content(level, 16, |_| windows(1 + number / 2, 4, postings / 16));
+        add(&mut probe, level, &content);
+    }
+    probe.image = image::write(&probe.state);
+    probe
+}
+
 /// The same probe with a full buffer.
 pub fn with_full_buffer(mut probe: Probe) -> Probe {
     buffer(&mut probe.state, 128);

@@ -45,9 +45,14 @@ pub fn compare(case: &str, mut proved: impl FnMut(), mut second: impl FnMut()) {
 }
 
 /// Prints the times of both engines and their ratio.
-fn print(case: &str, proved: f64, second: f64) {
+pub fn print(case: &str, proved: f64, second: f64) {
     let ratio = proved / second;
     println!("{case:>32} {proved:>12.2} {second:>12.2} {ratio:>8.3}");
+}
+
+/// Microseconds of one run.
+pub fn once(mut run: impl FnMut()) -> f64 {
+    round(1, &mut run)
 }
 
 /// How many calls take about 20 milliseconds.

@@ -58,6 +58,12 @@ mod exported {
             card_length: usize,
             window: u32,
         ) -> u32;
+        pub fn gemsilver_step(
+            image: *mut u8,
+            image_length: usize,
+            card: *mut u8,
+            card_length: usize,
+        ) -> u32;
         pub fn gemsilver_query(
             image: *const u8,
             image_length: usize,
@@ -171,6 +177,19 @@ pub fn remove(image: &mut [u8], card: &mut [u8], window: u32) -> Result<(), u32>
             card.as_mut_ptr(),
             card.len(),
             window,
+        )
+    })
+}
+
+/// Takes a step of the merge in progress, or begins the one that is due.
+pub fn step(image: &mut [u8], card: &mut [u8]) -> Result<(), u32> {
+    // Sound: each pointer and length are those of one slice, and slices lent for writing do not overlap.
+    done(unsafe {
+        exported::gemsilver_step(
+            image.as_mut_ptr(),
+            image.len(),
+            card.as_mut_ptr(),
+            card.len(),
         )
     })
 }

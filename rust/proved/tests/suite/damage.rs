@@ -170,6 +170,36 @@ fn other_length(bytes: &mut Vec<u8>, unit: usize, fill: u8, rng: &mut Rng) {
     bytes.resize(length, fill);
 }
 
+/// Changes a word of the merge in progress, of its output or of a partition, or links the oldest partition to the output.
+pub fn damage_merge(probe: &mut Probe, rng: &mut Rng) {
+    let output = word(&probe.image, at::MERGE) as usize;
+    let link = |block: usize| block * BLOCK / 4 + CONTENT / 4;
+    if rng.one_in(3) {
+        let place = at::MERGE + rng.below(3);
+        let old = word(&probe.image, place);
+        return put(&mut probe.image, place, changed(old, rng));
+    }
+    if output >= probe.card.len() / BLOCK || rng.one_in(4) {
+        return damage_card(probe, rng);
+    }
+    let next = word(&probe.card, link(output)) as usize;
+    if rng.one_in(4) {
+        let oldest = word(&probe.image, at::PARTITIONS + 1) as usize;
+        let shared = rng.pick(&[output, next, next]);
+        return put(&mut probe.card, link(oldest), shared as u32);
+    }
+    let is_block = next < probe.card.len() / BLOCK;
+    let number = if is_block && rng.one_in(2) {
+        next
+    } else {
+        output
+    };
+    let block = &mut probe.card[number * BLOCK..][..BLOCK];
+    let place = rng.below(BLOCK / 4);
+    let old = word(block, place);
+    put(block, place, changed(old, rng));
+}
+
 /// Changes one thing.
 pub fn damage(probe: &mut Probe, rng: &mut Rng) {
     match rng.below(40) {

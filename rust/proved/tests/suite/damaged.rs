@@ -1,11 +1,13 @@
 //! Inputs that no start and no call has left: both engines refuse them alike and change nothing, or go on alike.
 
-use crate::damage::{any_call, damage, spoil};
+use crate::damage::{any_call, damage, damage_merge, spoil};
+use crate::engines::{Call, Probe};
 use crate::history::{History, Odds, Plan};
 use crate::pair::Pair;
-use crate::parts::{advance, build, mix};
+use crate::parts::{BLOCK, CONTENT, Mix, advance, build, mix};
 use crate::rng::Rng;
 use crate::tally::Tally;
+use crate::words::{at, put, word};
 
 const PLAN: Plan = Plan {
     blocks: 40,
@@ -81,6 +83,83 @@ fn both_engines_take_foreign_probes_alike() {
     tally.expect("remove", &[10, 11, 12], 5);
 }
 
+/// Partitions to be merged into one of at most two blocks, some beside an older one and a newer one.
+fn to_merge(rng: &mut Rng) -> Mix {
+    let level = rng.below(6) as u16;
+    let mut levels = vec![level; if level == 5 { 3 } else { 8 }];
+    if level < 5 && rng.one_in(2) {
+        levels.insert(0, level + 1);
+    }
+    if level == 0 && rng.one_in(2) {
+        levels.push(0);
+    }
+    let (windows, spread) = rng.pick(&[(5, 2), (20, 3), (100, 4), (100, 1), (300, 1)]);
+    Mix {
+        blocks: 48,
+        entries: 4,
+        ids: (0..1 + rng.below(6) as u16).collect(),
+        windows,
+        spread,
+        sizes: vec![1, 1, 2, 3_000],
+        levels,
+        hollow: usize::MAX,
+        cancels: rng.one_in(5),
+    }
+}
+
+/// A merge in progress with nothing left to take: the last step's postings are there, its header and entries are not. `None`
+/// where nothing is written.
+fn all_taken(probe: &Probe) -> Option<Probe> {
+    let mut taken = probe.clone();
+    let mut after = probe.clone();
+    while word(&after.image, at::STEPS) > 0 {
+        let steps = word(&after.image, at::STEPS) + 1;
+        put(&mut taken.image, at::STEPS, steps);
+        advance(&mut after, 1);
+    }
+    let first = word(&probe.image, at::MERGE) as usize;
+    let head = after.card.get(first * BLOCK..first * BLOCK + 16)?;
+    let head = word(head, 3) as usize;
+    let mut block = first;
+    while let Some(bytes) = taken.card.get_mut(block * BLOCK..(block + 1) * BLOCK) {
+        bytes.copy_from_slice(&after.card[block * BLOCK..][..BLOCK]);
+        block = word(bytes, CONTENT / 4) as usize;
+    }
+    taken.card[first * BLOCK..][..head.min(CONTENT)].fill(255);
+    Some(taken)
+}
+
+/// Merges in progress, with something changed in their record, their output or their inputs.
+#[test]
+fn both_engines_judge_a_merge_in_progress_alike() {
+    let mut tally = Tally::default();
+    let mut rng = Rng(31);
+    for _ in 0..400 {
+        let mut probe = build(&to_merge(&mut rng), &mut rng);
+        advance(&mut probe, rng.pick(&[1, 1, 2, 3, 10, 20]));
+        if word(&probe.image, at::STEPS) == 0 {
+            continue;
+        }
+        if rng.one_in(4)
+            && let Some(taken) = all_taken(&probe)
+        {
+            assert_eq!(Pair::of(taken).make(&Call::Step, &mut tally), Err(3));
+        }
+        for round in 0..12 {
+            let mut damaged = probe.clone();
+            if round > 1 {
+                damage_merge(&mut damaged, &mut rng);
+            }
+            let mut pair = Pair::of(damaged);
+            for _ in 0..1 + rng.below(2) {
+                let _ = pair.make(&Call::Step, &mut tally);
+            }
+        }
+    }
+    tally.print("merges in progress");
+    tally.expect("step", &[0, 3], 500);
+}
+
 /// Every refusal that a call can give to damaged inputs.
 fn expect_all(tally: &Tally, times: usize) {
     tally.expect("open", &[0, 1, 5], times);
@@ -88,5 +167,6 @@ fn expect_all(tally: &Tally, times: usize) {
     tally.expect("event", &[0, 1, 2, 3, 4, 5, 8], times);
     tally.expect("flush", &[0, 1, 2, 11, 12], times);
     tally.expect("remove", &[0, 1, 2, 3, 5, 7], times);
+    tally.expect("step", &[0, 1, 2, 3, 12, 13], times);
     tally.expect("query", &[0, 1, 2, 3, 4, 14], times);
 }

@@ -41,11 +41,6 @@ impl Call {
         }
     }
 
-    /// Whether the proved engine exports the call.
-    pub fn is_exported(&self) -> bool {
-        !matches!(self, Call::Step)
-    }
-
     /// What the list of hits holds before the call.
     pub fn list(&self) -> Vec<u8> {
         match self {
@@ -78,8 +73,7 @@ pub fn proved(probe: &mut Probe, call: &Call, hits: &mut [u8]) -> Answer {
         Call::Event(name) => proved::event(image, card, register, name).map(|()| NOTHING),
         Call::Flush => proved::flush(image, card).map(|()| NOTHING),
         Call::Remove(window) => proved::remove(image, card, *window).map(|()| NOTHING),
-        // Not exported: the second engine moves both sides on.
-        Call::Step => second(probe, call, hits),
+        Call::Step => proved::step(image, card).map(|()| NOTHING),
         Call::Query(names, _) => proved::query(image, card, register, &slices(names), hits)
             .map(|found| (found.hits, found.taken)),
     }

@@ -128,6 +128,7 @@ fn both_engines_go_through_histories_alike() {
     tally.expect("flush", &[0, 10, 11], 20);
     tally.expect("remove", &[0, 5, 7], 100);
     tally.expect("remove", &[10, 11], 20);
+    tally.expect("step", &[0, 13], 1_000);
     tally.expect("query", &[0, 4, 14], 100);
 }
 

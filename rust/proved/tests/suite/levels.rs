@@ -69,6 +69,7 @@ fn both_engines_merge_alike_up_to_the_highest_level() {
             sizes: vec![1, 2, 3, 100],
             levels: brink(),
             hollow: usize::MAX,
+            cancels: false,
         };
         let mut pair = Pair::of(ready(&mix, &mut rng));
         pair.make(&Call::Flush, &mut tally).expect("there is room");
@@ -78,15 +79,16 @@ fn both_engines_merge_alike_up_to_the_highest_level() {
         assert_eq!(state.partitions.records[0].level, 5);
     }
     tally.print("levels");
+    tally.expect("step", &[0], 200);
 }
 
-/// Partitions grow flush by flush, one event each, until level 5 is reached.
+/// Partitions grow flush by flush, one event each, until three of level 5 are merged into one.
 #[test]
 fn both_engines_agree_on_a_long_history() {
     let mut tally = Tally::default();
     let mut pair = Pair::start(88, 5, &mut tally);
     let mut oldest = 1;
-    for flush in 0..8usize.pow(5) {
+    for flush in 0..3 * 8usize.pow(5) {
         if flush % 100 == 0 {
             let _ = pair.make(&Call::Close, &mut tally);
             let window = pair.make(&Call::Open, &mut tally).expect("a number").0;
@@ -105,7 +107,9 @@ fn both_engines_agree_on_a_long_history() {
     }
     tally.print("long history");
     let state = image::read(&pair.probe().image).expect("an image");
+    assert_eq!(state.partitions.used, 1);
     assert_eq!(state.partitions.records[0].level, 5);
+    tally.expect("step", &[0], 10_000);
 }
 
 /// The largest card, with outputs of several blocks that go round its end.
@@ -122,6 +126,7 @@ fn both_engines_agree_on_the_largest_card() {
         sizes: vec![1, 2, 3],
         levels: vec![5, 5, 5, 1, 0, 0],
         hollow: usize::MAX,
+        cancels: false,
     };
     let mut probe = ready(&mix, &mut rng);
     put(&mut probe.image, at::TAKEN, 4_094);

@@ -47,9 +47,7 @@ impl Pair {
         assert_eq!(answer, second, "proved and second: {call:?}");
         assert!(found == expected, "hits: {call:?}");
         same(&self.proved, &self.second, call);
-        if call.is_exported() {
-            tally.record(call.name(), answer.err());
-        }
+        tally.record(call.name(), answer.err());
         // A start refused for a length leaves a state of zeros.
         if answer.is_ok() || matches!(call, Call::Start) {
             self.remember();

@@ -11,7 +11,7 @@ pub const BLOCK: usize = 4_096;
 pub const CONTENT: usize = 4_092;
 
 /// The content of a partition of these identifiers' lists, which may be empty where it is to be malformed.
-fn encode(level: u16, lists: &[(u16, Vec<Posting>)]) -> Vec<u8> {
+fn encode(level: u16, lists: &[Listed]) -> Vec<u8> {
     let postings: Vec<&Posting> = lists.iter().flat_map(|(_, list)| list).collect();
     let start = 32 + 12 * lists.len();
     let total = start + 4 * postings.len();
@@ -60,6 +60,8 @@ pub struct Mix {
     pub levels: Vec<u16>,
     /// One partition in so many has entries without postings, or no entries.
     pub hollow: usize,
+    /// Whether every other partition takes back what the one before it holds.
+    pub cancels: bool,
 }
 
 /// An identifier's list, by falling window.
@@ -75,10 +77,20 @@ fn list(mix: &Mix, id: u16, rng: &mut Rng) -> Vec<Posting> {
     list
 }
 
+/// An identifier and its list.
+type Listed = (u16, Vec<Posting>);
+
+/// The lists with every count negated.
+fn negated(mut lists: Vec<Listed>) -> Vec<Listed> {
+    for posting in lists.iter_mut().flat_map(|(_, list)| list) {
+        posting.count = -posting.count;
+    }
+    lists
+}
+
 /// The lists of a partition.
-fn lists(mix: &Mix, rng: &mut Rng) -> Vec<(u16, Vec<Posting>)> {
-    let mut lists: Vec<(u16, Vec<Posting>)> =
-        mix.ids.iter().map(|&id| (id, list(mix, id, rng))).collect();
+fn lists(mix: &Mix, rng: &mut Rng) -> Vec<Listed> {
+    let mut lists: Vec<Listed> = mix.ids.iter().map(|&id| (id, list(mix, id, rng))).collect();
     if rng.one_in(mix.hollow) {
         match rng.below(3) {
             0 => lists.clear(),
@@ -146,6 +158,7 @@ pub fn mix(rng: &mut Rng) -> Mix {
         sizes,
         levels: levels(rng, most),
         hollow: 100,
+        cancels: rng.one_in(8),
     }
 }
 
@@ -229,8 +242,17 @@ pub fn build(mix: &Mix, rng: &mut Rng) -> Probe {
     };
     fill(&mut state, mix, rng);
     let mut records = state.partitions.records.iter_mut();
+    let mut before = None;
     for &level in &mix.levels {
-        let content = encode(level, &lists(mix, rng));
+        let lists = match before.take() {
+            Some(before) => negated(before),
+            None => {
+                let lists = lists(mix, rng);
+                before = mix.cancels.then(|| lists.clone());
+                lists
+            }
+        };
+        let content = encode(level, &lists);
         let count = content.len().div_ceil(CONTENT);
         if count > free.len() {
             break;

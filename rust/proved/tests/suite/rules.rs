@@ -9,6 +9,7 @@ use crate::tally::Tally;
 use crate::words::{at, put, word};
 use second::image;
 use second::state::{Partition, Posting, State, Windows};
+use std::collections::BTreeMap;
 
 /// Judges a state by calls that read nothing else.
 fn judge(image: &[u8], tally: &mut Tally) {
@@ -21,12 +22,12 @@ fn judge(image: &[u8], tally: &mut Tally) {
     let _ = pair.make(&Call::Close, tally);
 }
 
-/// Images of histories and of foreign states, with and without a merge in progress.
+/// Images of a history, one of each kind, and of a foreign state.
 fn bases() -> Vec<Vec<u8>> {
     let plan = Plan {
         blocks: 40,
         entries: 12,
-        calls: 400,
+        calls: 1_200,
         names: 14,
         keep: 4,
         odds: Odds {
@@ -39,23 +40,21 @@ fn bases() -> Vec<Vec<u8>> {
             odd: 0,
         },
     };
-    let mut rng = Rng(3);
-    let mut images: Vec<Vec<u8>> = (0..2)
-        .map(|_| build(&mix(&mut rng), &mut rng).image)
-        .collect();
     let mut history = History::new(&plan, 8, &mut Tally::default());
-    let mut merging = false;
+    let mut kinds = BTreeMap::new();
     for turn in 0..plan.calls {
         history.act(&plan, &mut Tally::default());
         let image = &history.pair.probe().image;
-        let merges = word(image, at::STEPS) > 0;
-        if turn % 150 == 0 || merges && !merging {
-            images.push(image.clone());
+        let kind = [at::OPEN, at::EVENTS, at::STEPS].map(|place| word(image, place) > 0);
+        if turn > plan.calls / 4 {
+            kinds.entry(kind).or_insert_with(|| image.clone());
         }
-        merging |= merges;
     }
-    assert!(merging);
-    images
+    // With a merge in progress and without: no window, one without events, one with events.
+    assert_eq!(kinds.len(), 6);
+    let mut rng = Rng(3);
+    let foreign = build(&mix(&mut rng), &mut rng).image;
+    kinds.into_values().chain([foreign]).collect()
 }
 
 #[test]

@@ -4,10 +4,12 @@
 pub mod at {
     pub const LAST: usize = 2;
     pub const OPEN: usize = 4;
+    pub const EVENTS: usize = 5;
     pub const LISTED: usize = 6;
     pub const BUFFER: usize = 71;
     pub const PARTITIONS: usize = 456;
     pub const TAKEN: usize = 610;
+    pub const MERGE: usize = 611;
     pub const STEPS: usize = 613;
 }
 
