@@ -1,18 +1,17 @@
 -- The three demands as theorems, each under a plain sentence. Who believes the definitions that they name, and the promises of the public functions,
 -- which equate result and lent buffers with those definitions, need read no further: every proof here cites a law.
-use mathlib.Core.Bool.{true, false}
+use mathlib.Core.Bool.{true}
 use mathlib.Core.List.{List, map}
 use mathlib.Core.Path.{_≡_, ap, _∙_}
-use Prim.Native.Nat.{ℕ, _+_, _*_, _/_, _≤_}
-use lib.IntN.{ℤ, pos}
-use lib.ListN.{length, getD}
+use Prim.Native.Nat.{ℕ, _*_, _/_, _≤_}
+use lib.IntN.{pos}
+use lib.ListN.{length}
 use Rattle.lists.specs.All.{AllOf}
 use Rattle.lists.specs.Lists.{any, different}
-use Rattle.words.specs.Words.{words}
+use Rattle.words.specs.Words.{words, Below}
 use Rattle.postings.specs.declared.Posting.{Posting}
 use Rattle.postings.specs.Sums.{sum}
-use Rattle.answers.specs.Answers.{Answer, done, hits, refused, Outcome, answerOf, stateOf}
-use Rattle.answers.specs.Unchanged.{Unchanged}
+use Rattle.answers.specs.Answers.{done, hits, refused, Outcome, answerOf, stateOf}
 use Rattle.answers.specs.declared.Hit.{Hit}
 use Rattle.state.specs.Probe.{Probe}
 use Rattle.state.specs.Views.{blocks, finished}
@@ -20,6 +19,7 @@ use Rattle.state.specs.Rules.{cardLength, registerLength}
 use Rattle.identifiers.specs.Names.{Name, badLength}
 use Rattle.identifiers.specs.Register.{names}
 use Rattle.card.specs.Writes.{store}
+use Rattle.card.specs.Moves.{MovesBytes}
 use Rattle.card.specs.Chains.{blocksFor}
 use Rattle.card.proofs.Links.{onCard}
 use Rattle.partitions.specs.Layout.{lengthOf, encode}
@@ -32,7 +32,8 @@ use Rattle.queries.specs.Query.{countIn, numbers, takenUp, queryFormed, fill, q
 use Rattle.queries.proofs.Refused.{query-unchanged}
 use Rattle.engine.specs.Calls.{Call, probeCall, afterwards}
 use Rattle.engine.proofs.Refused.{call-unchanged}
-use Rattle.accounts.specs.Account.{Account, Portion, emptyAccount, storedIn, steppedAccount}
+use Rattle.engine.proofs.ByteRule.{call-moved}
+use Rattle.accounts.specs.Account.{Account, emptyAccount, storedIn, steppedAccount}
 use Rattle.accounts.specs.Ledger.{emptyLedger, including}
 use Rattle.accounts.specs.Books.{Books, booksCall, expected}
 use Rattle.accounts.specs.Lists.{Lists}
@@ -40,11 +41,11 @@ use Rattle.accounts.proofs.Held.{byNumber}
 use Rattle.accounts.proofs.Stored.{sum-stored-stepped}
 use Rattle.accounts.proofs.Unrefused.{Granted}
 use Rattle.decoded.proofs.Holds.{portionOn}
-use Rattle.decoded.proofs.Simulated.{Left, left-sums}
+use Rattle.decoded.proofs.Simulated.{left-sums}
 use Rattle.histories.specs.Statement.{answers, SameAnswers}
 use Rattle.histories.proofs.Theorem.{entries-most, same-answers, none-malformed, history-left}
 use Rattle.demands.specs.Words.{Sound, Listing}
-use Rattle.demands.proofs.Granted.{Noted, event-bad, query-bad, event-noted, query-answered, answered-listing}
+use Rattle.demands.proofs.Granted.{event-bad, query-bad, event-noted, query-answered, answered-listing}
 
 -- ==== 1. Every call does what the page says, on every input
 
@@ -59,6 +60,10 @@ refused-unchanged p c n e = call-unchanged p c .same n e
 -- A refused query leaves the lent list as it was.
 pub refused-list-unchanged : (p : Probe) (ns : List Name) (places : List Hit) (n : ℕ) → answerOf (queryOf p ns places) ≡ refused n → stateOf places (queryOf p ns places) ≡ places
 refused-list-unchanged p ns places n e = query-unchanged p ns places .same n e
+
+-- On a card of bytes a call, refused or not, keeps the card's length, and each byte stays, or was 255, or goes to 255 with its whole block.
+pub bytes-move : (p : Probe) → Below 256 (p .card) → (c : Call) → (length (stateOf p (probeCall p c) .card) ≡ length (p .card)) × MovesBytes (p .card) (stateOf p (probeCall p c) .card)
+bytes-move p b c = let m = call-moved p b c in (m .long, m .rule)
 
 -- An event whose identifier is empty or longer than 64 bytes is refused with 4 (with 1 to 3 where these come first).
 pub bad-event : (p : Probe) (n : Name) → Sound p → badLength n ≡ true → answerOf (eventOf p n) ≡ refused 4

@@ -1,26 +1,25 @@
 -- What a call that is not refused has found and left.
-use mathlib.Core.Bool.{Bool, true, false, _||_, _&&_, not, cond}
+use mathlib.Core.Bool.{Bool, true, false, _&&_, not, cond}
 use mathlib.Core.List.{List, [], _∷_, _++_}
-use mathlib.Core.Path.{_≡_, refl, sym, ap, ap₂, _∙_, subst}
-use Prim.Native.Nat.{ℕ, suc, _+_, _*_, _/_, _≤_, _<_}
+use mathlib.Core.Path.{_≡_, refl, sym, ap, _∙_, subst}
+use Prim.Native.Nat.{ℕ, _+_, _*_, _≤_}
 use native.Mathlib.Omega.{arith}
-use lib.Dec.{eqb, ltb, leb}
+use lib.Dec.{leb}
 use lib.ListN.{length}
 use borrow.Author.Tests.{eqb-true, leb-false, not-true, not-false}
-use Rattle.lists.specs.Lists.{any, every, empty, elem, down}
-use Rattle.lists.proofs.Bools.{by-test, and-left, and-right, and-both}
-use Rattle.words.specs.Words.{words, bytes}
-use Rattle.answers.specs.Answers.{Answer, done, number, hits, refused, Outcome, refuse, leave, refuseIf, choose, answerOf, stateOf}
+use Rattle.lists.specs.Lists.{any, down}
+use Rattle.lists.proofs.Bools.{by-test, and-right, and-both}
+use Rattle.words.specs.Words.{words}
+use Rattle.answers.specs.Answers.{Answer, done, number, hits, refused, Outcome, leave, refuseIf, choose, answerOf, stateOf}
 use Rattle.answers.specs.declared.Hit.{Hit}
 use Rattle.state.specs.declared.State.{State}
 use Rattle.state.specs.Views.{entries}
-use Rattle.state.specs.Rules.{stateRule}
 use Rattle.state.specs.Probe.{Probe, sameLength}
-use Rattle.identifiers.specs.Names.{Name, badLength, among, numberOf}
+use Rattle.identifiers.specs.Names.{Name, badLength, among}
 use Rattle.identifiers.specs.Register.{names, registerRule, added}
 use Rattle.identifiers.proofs.Added.{good-length, names-added}
 use Rattle.windows.specs.Flush.{flushing, flushingIf}
-use Rattle.windows.specs.Calls.{isNew, counted, eventOf}
+use Rattle.windows.specs.Calls.{isNew, eventOf}
 use Rattle.queries.specs.Hits.{ranked}
 use Rattle.queries.specs.Query.{countIn, numbers, takenUp, queryFormed, hitsOf, fill, querying, queryOf}
 use Rattle.accounts.specs.Ledger.{including}

@@ -10,7 +10,7 @@ use Rattle.lists.specs.Lists.{keep, any, every, elem, different, down}
 use Rattle.lists.proofs.Bools.{by-test, and-left, and-right, and-both, or-none, or-swap}
 use Rattle.lists.proofs.Tests.{every-from, every-take}
 use Rattle.lists.proofs.Sets.{elem-every, different-keep}
-use Rattle.lists.proofs.TopK.{Ranks, falling-different, down-falling}
+use Rattle.lists.proofs.TopK.{falling-different, down-falling}
 use Rattle.answers.specs.declared.Hit.{Hit}
 use Rattle.queries.specs.Hits.{outranks, place, score, matching, ranked}
 use Rattle.queries.proofs.Ranking.{ranks}

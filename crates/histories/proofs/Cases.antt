@@ -1,6 +1,6 @@
 -- The table of worked cases: one computation on ledger and account, which the history theorem carries over to the engine's bytes.
 use mathlib.Core.Bool.{true}
-use mathlib.Core.Path.{_≡_, refl, ap, ap₂, _∙_}
+use mathlib.Core.Path.{_≡_, refl, ap₂, _∙_}
 use mathlib.Core.List.{List, [], _∷_, map}
 use Prim.Native.Nat.{ℕ, _*_, _/_}
 use Rattle.lists.specs.Lists.{every, down, rising}

@@ -7,9 +7,11 @@ use Rattle.answers.specs.declared.Hit.{Hit}
 use Rattle.identifiers.specs.Names.{Name}
 use Rattle.engine.specs.Calls.{Call, Open, Event, Close, Remove, Flush, Step, Query}
 
+-- a window with its score
 abbrev pub hit : ℕ → ℕ → Hit
 hit w s = record { window = w; score = s }
 
+-- the document's identifiers
 abbrev pub LUCKY : Name
 LUCKY = 76 ∷ 85 ∷ 67 ∷ 75 ∷ 89 ∷ []
 
@@ -19,7 +21,7 @@ TILT = 84 ∷ 73 ∷ 76 ∷ 84 ∷ []
 abbrev pub DOOR : Name
 DOOR = 68 ∷ 79 ∷ 79 ∷ 82 ∷ []
 
--- so many bytes A, and after the first sixteen of them B or C
+-- so many bytes A; and sixteen of them with B or C behind
 abbrev pub As : ℕ → Name
 As n = replicate n 65
 
@@ -55,6 +57,7 @@ pub record Case : Type 0 where
 abbrev pub latest : List Answer → List Answer → List Answer
 latest told all = reverse (take (length told) (reverse all))
 
+-- the cases, those that the document marks P first
 unfoldable pub table : List Case
 table =
     -- 64 bytes accepted, 65 refused with 4, and so is an empty identifier
