@@ -7,28 +7,25 @@ use native.Mathlib.Nat.{zero-add}
 use native.Mathlib.Numerals.{add-one}
 use native.Mathlib.Omega.{arith}
 use lib.ListN.{length, getD, set, take, drop, length-append, length-drop, drop-of-length-le}
-use lib.Seq.{sets, sets-eq, take-all, take-at, drop-drop, drop-cons, length-take-le}
+use lib.Seq.{sets, sets-eq, take-all, drop-drop, drop-cons, length-take-le}
 use Rattle.lists.specs.Lists.{joined}
 use Rattle.lists.proofs.Ranges.{length-joined}
 use Rattle.lists.proofs.Stores.{joined-append}
 use Rattle.words.specs.Words.{joined4, words, bytes, Below}
-use Rattle.words.proofs.Views.{apart, length-words, length-bytes, words-drop, words-append, words-bytes}
+use Rattle.words.proofs.Views.{apart, length-words, words-drop}
 use Rattle.answers.specs.declared.Hit.{Hit}
-use Rattle.answers.specs.declared.Refusal.{Refusal}
-use Rattle.answers.specs.declared.Refusal.the-variants.{BrokenState, WrongLength, Malformed, BadIdentifier, OutOfTurn, Exhausted, NotLive, RegisterFull, WindowFull, LevelFull, HalfFull, TooFewFree, NothingDue, BadQuery}
 use Rattle.answers.specs.declared.Found.{Found}
 use Rattle.answers.specs.declared.Found.the-variants as found
-use Rattle.answers.specs.Answers.{hits, refused, carry}
-use Rattle.answers.specs.Numbers.{refusalNumber, foundAs}
+use Rattle.answers.specs.Answers.{Outcome, refuseIf, carry}
+use Rattle.answers.specs.Numbers.{foundAs}
 use Rattle.state.specs.Probe.{Probe}
 use Rattle.identifiers.specs.Names.{Name}
-use Rattle.windows.specs.Promises.{Gives}
 use Rattle.queries.specs.declared.Top.{Top}
 use Rattle.queries.specs.Query.{fill, queryOf}
 use Rattle.queries.specs.Top.{listedHits}
 use Rattle.queries.specs.Finds.{Finds}
 use Rattle.queries.proofs.Outcomes.{found-filled}
-use Rattle.capi.specs.Queries.{hitWords, hitsIn, hitBytes, foundBy}
+use Rattle.capi.specs.Queries.{hitWords, hitsIn, hitBytes, numberFor, numberFound, Tells}
 use Rattle.capi.proofs.Carried.{carried}
 
 -- Bytes --------------------------------------------------------------------------------------------------------------
@@ -83,11 +80,6 @@ hits-words (w ∷ []) = refl
 hits-words (w ∷ s ∷ ws) =
     let k : 2 * suc (length (hitsIn ws)) ≡ suc (suc (2 * length (hitsIn ws))) = omega arith in
     rw k (rw (hits-words ws))
-
--- hits read from words that hits were written to
-pub hits-written : (hs : List Hit) (ws : List ℕ) → hitsIn (joined (map hitWords hs) ++ ws) ≡ hs ++ hitsIn ws
-hits-written [] ws = refl
-hits-written (h ∷ hs) ws = rw (hits-written hs ws)
 
 -- the hits that bytes hold, as bytes with what is past them, are these bytes
 pub hits-back : (b : List ℕ) → Below 256 b → hitBytes b (hitsIn (words b)) ≡ b
@@ -163,63 +155,30 @@ hits-end W hs i l = rw (drop-of-length-le hs l)
 pub places-of : (b : List ℕ) → length (hitsIn (words b)) ≡ length b / 8
 places-of b = omega (arith, length-hits (words b), length-words b)
 
--- the number of an answer, whatever the list is
-pub number-hits : (n taken : ℕ) (l : List ℕ) → n ≤ 32 → foundBy (256 * n + 65536 * taken) l ≡ hits (take n (hitsIn (words l))) taken
-number-hits n taken l h =
-    let a : (256 * n + 65536 * taken) % 256 ≡ 0 = omega arith in
-    let d : (256 * n + 65536 * taken) / 256 ≡ n + 256 * taken = omega arith in
-    let b : (256 * n + 65536 * taken) / 256 % 256 ≡ n = rw d (omega arith) in
-    let c : (256 * n + 65536 * taken) / 65536 ≡ taken = omega arith in
-    rw (a, b, c)
+-- the number of an answer of the code is that of the answer it stands for
+number-found : (p : Probe) (ns : List Name) (k : ℕ) (a : Found) (t : Top) → length (t .hits) ≡ 32 → Finds p ns k a t → numberFound a ≡ numberFor (foundAs a (t .hits))
+number-found p ns k (found.Refused why) t long v = refl
+number-found p ns k (found.Hits n taken) t long v =
+    let e : length (take n (t .hits)) ≡ n = length-take-le n (t .hits) (omega (arith, v .used n taken refl, v .most)) in
+    rw e
 
-pub number-refusal : (why : Refusal) (l : List ℕ) → foundBy (refusalNumber why) l ≡ refused (refusalNumber why)
-number-refusal BrokenState l = refl
-number-refusal WrongLength l = refl
-number-refusal Malformed l = refl
-number-refusal BadIdentifier l = refl
-number-refusal OutOfTurn l = refl
-number-refusal Exhausted l = refl
-number-refusal NotLive l = refl
-number-refusal RegisterFull l = refl
-number-refusal WindowFull l = refl
-number-refusal LevelFull l = refl
-number-refusal HalfFull l = refl
-number-refusal TooFewFree l = refl
-number-refusal NothingDue l = refl
-number-refusal BadQuery l = refl
+-- a test that refuses, and one that does not
+pub tells-stopped : {S : Type 0} (s : S) (t : Bool) (n : ℕ) (o : Outcome S) → t ≡ true → Tells s (refuseIf t n o) n s
+unfolding refuseIf
+tells-stopped s t n o e = rw e (record { number = refl; left = refl })
 
--- the words of filled bytes
-words-filled : (b : List ℕ) (hs : List Hit) → words (hitBytes b hs) ≡ joined (map hitWords hs) ++ words (drop (8 * length hs) b)
-unfolding hitBytes
-words-filled b hs =
-    let H = joined (map hitWords hs) in
-    words-append (bytes H) (drop (8 * length hs) b) (omega (arith, length-bytes H)) ∙ ap (λ (w : List ℕ). w ++ words (drop (8 * length hs) b)) (words-bytes H)
-
--- what is listed of filled bytes is what was filled in
-pub listed-back : (b : List ℕ) (hs : List Hit) → take (length hs) (hitsIn (words (hitBytes b hs))) ≡ hs
-listed-back b hs =
-    rw (words-filled b hs, hits-written hs (words (drop (8 * length hs) b))) (take-at hs (hitsIn (words (drop (8 * length hs) b))) (length hs) refl)
-
--- the answer of filled bytes is that of the hits beside it
-found-same : (p : Probe) (ns : List Name) (k : ℕ) (a : Found) (t : Top) (b : List ℕ) → length (t .hits) ≡ 32 → Finds p ns k a t
-    → foundAs a (hitsIn (words (hitBytes b (listedHits t)))) ≡ foundAs a (t .hits)
-found-same p ns k (found.Refused why) t b long v = refl
-found-same p ns k (found.Hits n taken) t b long v =
-    let e : n ≡ t .used = v .used n taken refl in
-    let l : length (listedHits t) ≡ t .used = length-take-le (t .used) (t .hits) (omega (arith, v .most)) in
-    let m : n ≡ length (listedHits t) = e ∙ sym l in
-    let x : take n (hitsIn (words (hitBytes b (listedHits t)))) ≡ listedHits t = ap (λ (j : ℕ). take j (hitsIn (words (hitBytes b (listedHits t))))) m ∙ listed-back b (listedHits t) in
-    let y : take n (t .hits) ≡ listedHits t = ap (λ (j : ℕ). take j (t .hits)) e in
-    ap (λ (h : List Hit). hits h taken) (x ∙ sym y)
+pub tells-passed : {S : Type 0} (s : S) (t : Bool) (n : ℕ) (o : Outcome S) (r : ℕ) (after : S) → t ≡ false → Tells s o r after → Tells s (refuseIf t n o) r after
+unfolding refuseIf
+tells-passed s t n o r after e g = rw e g
 
 -- a search promises the exported query
 pub on-query : (p : Probe) (ns : List Name) (b : List ℕ) → Below 256 b → (a : Found) (t : Top) → length (t .hits) ≡ 32 → Finds p ns (length b / 8) a t
-    → Gives b (carry (hitBytes b) (queryOf p ns (hitsIn (words b)))) (foundAs a (hitsIn (words (hitBytes b (listedHits t))))) (hitBytes b (listedHits t))
+    → Tells b (carry (hitBytes b) (queryOf p ns (hitsIn (words b)))) (numberFound a) (hitBytes b (listedHits t))
 on-query p ns b h a t long v =
     let places = hitsIn (words b) in
     let w : Finds p ns (length places) a t = rw (places-of b) v in
     let f = found-filled p ns places a t w in
     let l : length (listedHits t) ≡ t .used = length-take-le (t .used) (t .hits) (omega (arith, v .most)) in
     let same = filled-bytes b h (listedHits t) (omega (arith, v .fits)) in
-    rw (found-same p ns (length b / 8) a t b long v, ← same)
-    (carried (hitBytes b) places b (hits-back b h) (queryOf p ns places) (foundAs a (t .hits)) (fill (listedHits t) places) (record { answer = f .0; left = f .1 }))
+    let g = carried (hitBytes b) places b (hits-back b h) (queryOf p ns places) (foundAs a (t .hits)) (fill (listedHits t) places) (record { answer = f .0; left = f .1 }) in
+    record { number = number-found p ns (length b / 8) a t long v ∙ ap numberFor (g .answer); left = sym same ∙ g .left }

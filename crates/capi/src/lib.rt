@@ -6,19 +6,17 @@ use answers::Reply;
 use queries::Top;
 use state::State;
 ghost use mathlib.Core.Bool.{cond, _&&_};
-ghost use mathlib.Core.List.{List, map};
+ghost use mathlib.Core.List.{map};
 ghost use mathlib.Core.Path.{_≡_};
-ghost use Prim.Native.Nat.{ℕ, _*_, _≤_};
+ghost use Prim.Native.Nat.{_*_, _≤_};
 ghost use lib.Dec.{leb};
 ghost use lib.ListN.{length};
-ghost use Rattle.words.specs.Words.{words as wordsOf};
-ghost use Rattle.answers.specs.declared.Found.the-variants as found;
-ghost use Rattle.answers.specs.Numbers.{refusalNumber, replied, openedAs, foundAs};
+ghost use Rattle.answers.specs.Numbers.{refusalNumber, replied, openedAs};
 ghost use Rattle.identifiers.specs.Register.{registerRule};
 ghost use Rattle.windows.specs.Promises.{Gives};
 ghost use Rattle.queries.specs.Top.{listedHits};
 ghost use Rattle.capi.specs.Exports.{cardedOf, lentOf, repliedBy, openedBy, startOn, unstartedOn, openOn, closeOn, eventOn, flushOn, removeOn, stepOn, settledOn, openedOn};
-ghost use Rattle.capi.specs.Queries.{hitsIn, hitBytes, foundBy, queryOn};
+ghost use Rattle.capi.specs.Queries.{hitBytes, numberFound, Tells, queryOn};
 
 // Is a register well formed? 1 where it is; 0 where it is not, or has more than 1,024 entries.
 #[no_mangle]
@@ -185,8 +183,7 @@ fn put_hits(hits: &mut [u8], t: Top)
 
 // The number of a query's answer.
 fn found_number(answer: Found) -> u64
-    requires { ⌜ ((n taken : ℕ) → answer ≡ found.Hits n taken → n ≤ 32) ⌝ }
-    ensures { λ r. ⌜ ((lent : List ℕ) → foundBy r lent ≡ foundAs answer (hitsIn (wordsOf lent))) ⌝ }
+    ensures { λ r. ⌜ r ≡ numberFound answer ⌝ }
 {
     match answer {
         Found::Refused(why) => number_of(why) as u64,
@@ -203,8 +200,8 @@ pub extern "C" fn gemsilver_query(
     ids: &[&[u8]],
     hits: &mut [u8],
 ) -> u64
-    ensures { λ r. ⌜ Gives (now (hits .entry)) (queryOn (lentOf (now (image .entry)) (now (card .entry)) (now (register .entry))) (map now (now (ids .entry))) (now (hits .entry)))
-        (foundBy r (now (hits .exit))) (now (hits .exit)) ⌝ }
+    ensures { λ r. ⌜ Tells (now (hits .entry)) (queryOn (lentOf (now (image .entry)) (now (card .entry)) (now (register .entry))) (map now (now (ids .entry))) (now (hits .entry)))
+        r (now (hits .exit)) ⌝ }
 {
     if !images::image_ok(image) {
         return 1;

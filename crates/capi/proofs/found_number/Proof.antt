@@ -1,6 +1,4 @@
 -- `capi::found_number` meets its contract. Assumes nothing.
-use native.Mathlib.Omega.{arith}
-use Rattle.capi.proofs.Places.{number-hits, number-refusal}
 use borrow.Author.Needs.{needs}
 use Rattle.capi.proofs.found_number.Statement.{statement}
 use Rattle.capi.proofs.found_number.Tie as tie
@@ -33,11 +31,10 @@ add-result : tie.Need-add-result
 add-result c = search needs
 
 returns : tie.Need-returns
-returns c = λ lent. rw (c .before .before .answer .given .1, c .number-of .ensures) (number-refusal (c .before .before .answer .given .0 .0) lent)
+returns c = search needs
 
 returns-2 : tie.Need-returns-2
-returns-2 c = λ lent.
-    rw (c .before .answer2 .given .1) (number-hits (c .before .answer2 .given .0 .0) (c .before .answer2 .given .0 .1 .0) lent (c .before .before .before .pre _ _ (c .before .answer2 .given .1)))
+returns-2 c = rw (c .before .answer2 .given .1)
 
 pub found-number-spec : {M : Type 1} → statement M
 found-number-spec =

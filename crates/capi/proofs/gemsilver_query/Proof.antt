@@ -6,10 +6,9 @@ use native.Mathlib.Omega.{arith}
 use borrow.Author.Tests.{not-false}
 use denote.Ref.{now}
 use Rattle.windows.specs.Promises.{probeOf}
-use Rattle.windows.proofs.Outcomes.{stopped, passed}
 use Rattle.capi.specs.Exports.{stateOn}
 use Rattle.capi.specs.Queries.{queryOn}
-use Rattle.capi.proofs.Places.{on-query}
+use Rattle.capi.proofs.Places.{tells-stopped, tells-passed, on-query}
 use borrow.Author.Needs.{needs}
 use Rattle.capi.proofs.gemsilver_query.Statement.{statement}
 use Rattle.capi.proofs.gemsilver_query.Tie as tie
@@ -19,7 +18,7 @@ image-ok-requires c κs = search needs
 
 returns : tie.Need-returns
 unfolding queryOn
-returns c = stopped _ 1 _ (ap not (sym (c .before .image-ok .ensures)) ∙ c .if1 .taken)
+returns c = tells-stopped _ _ 1 _ (ap not (sym (c .before .image-ok .ensures)) ∙ c .if1 .taken)
 
 read-state-requires : tie.Need-read-state-requires
 read-state-requires c κs = sym (c .before .image-ok .ensures) ∙ not-false _ (c .if1 .left)
@@ -31,7 +30,7 @@ put-hits-requires : tie.Need-put-hits-requires
 put-hits-requires c κs = search needs
 
 found-number-requires : tie.Need-found-number-requires
-found-number-requires c κs = λ n taken e. let v = c .before .before .before .before .search .ensures in omega (arith, v .used n taken e, v .most)
+found-number-requires c κs = search needs
 
 same-length : tie.Need-same-length
 same-length c = search needs
@@ -44,8 +43,8 @@ returns-2 c =
     let r = c .before .before .before .before .before .search in
     let w = c .before .before .before .put-hits .ensures in
     let g = on-query (probeOf (stateOn (s .image .now)) (s .card .now) (s .register .now)) (map now (now (s .ids))) (s .hits .now) (λ i. omega (arith, c .before .before .before .before .before .before .before .before .before .slice-known .given i)) (r .result .answer) (r .result .top) (w .1) (rw read at (r .ensures)) in
-    passed _ 1 _ (ap not (sym (c .before .before .before .before .before .before .before .before .image-ok .ensures)) ∙ c .before .before .before .before .before .before .before .if1 .left)
-    (rw (c .found-number .ensures (c .before .before .before .put-hits .last .0), w .0) g)
+    tells-passed _ _ 1 _ _ _ (ap not (sym (c .before .before .before .before .before .before .before .before .image-ok .ensures)) ∙ c .before .before .before .before .before .before .before .if1 .left)
+    (rw (c .found-number .ensures, w .0) g)
 
 pub gemsilver-query-spec : {M : Type 1} → statement M
 gemsilver-query-spec =
