@@ -1,0 +1,5 @@
+pub mod Splitting
+pub mod Reading
+pub mod Appending
+pub mod Decimals
+pub mod Hits

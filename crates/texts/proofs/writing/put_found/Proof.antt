@@ -1,0 +1,33 @@
+-- `texts::writing::put_found` meets its contract.
+use mathlib.Core.Path.{_≡_}
+use native.Mathlib.Omega.{arith}
+use lib.ListN.{length, take}
+use lib.Seq.{length-take-le}
+use Rattle.lists.proofs.Arrays.{unmapped}
+use Rattle.texts.specs.Texts.{answerText}
+use Rattle.texts.proofs.Appending.{wrote-then, says-all}
+use borrow.Author.Needs.{needs}
+use Rattle.texts.proofs.writing.put_found.Statement.{statement}
+use Rattle.texts.proofs.writing.put_found.Tie as tie
+
+put-pair-requires : tie.Need-put-pair-requires
+put-pair-requires c κs = search needs
+
+put-hits-requires : tie.Need-put-hits-requires
+put-hits-requires c κs = search needs
+
+same-length : tie.Need-same-length
+same-length c = search needs
+
+returns : tie.Need-returns
+unfolding answerText
+returns c =
+    let a = c .before .before .before .before .before .before .before .before .before in
+    let m : length (a .args .hits) ≡ 32 = search (unmapped, needs) in
+    let e : length (take (a .args .used) (a .args .hits)) ≡ a .args .used = length-take-le _ _ (omega (arith, a .pre .1)) in
+    let u = c .before .before .before .before .before .before .put-pair .ensures in
+    let v = c .before .before .put-hits .ensures in
+    rw e (says-all (wrote-then (u .0) (v .0)) (omega (arith, u .1, v .1, a .pre .0, a .pre .1)))
+
+pub put-found-spec : {M : Type 1} → statement M
+put-found-spec = tie.close (tie.spec put-pair-requires put-hits-requires same-length returns)

@@ -1,0 +1,69 @@
+-- `texts::writing::put_hits` meets its contract.
+use mathlib.Core.Path.{_≡_}
+use Prim.Native.Nat.{_-_}
+use native.Mathlib.Omega.{arith}
+use borrow.Author.Needs.{needs}
+use Rattle.lists.proofs.Arrays.{unmapped}
+use Rattle.texts.proofs.Hits.{Listing, list-none, list-more}
+use Rattle.texts.proofs.writing.put_hits.Statement.{statement}
+use Rattle.texts.proofs.writing.put_hits.Tie as tie
+
+abbrev Inv-loop : tie.InvT-loop
+Inv-loop out₀ n used hits m₀ i₀ out m i = Listing out₀ n used hits out m i
+
+abbrev μ-loop : tie.MeasureT-loop
+μ-loop out₀ n used hits m₀ i₀ out m i = used - i
+
+loop-holds : tie.Need-loop-holds Inv-loop μ-loop
+loop-holds c = list-none _ _ _ _ (c .before .pre .0) (search (unmapped, needs)) (c .before .pre .1)
+
+mul-h : tie.Need-mul-h Inv-loop μ-loop
+mul-h c = omega arith
+
+array-copy-out-h : tie.Need-array-copy-out-h Inv-loop μ-loop
+array-copy-out-h c = search needs
+
+cast-put-pair : tie.Need-cast-put-pair Inv-loop μ-loop
+cast-put-pair c = search needs
+
+put-pair-requires : tie.Need-put-pair-requires Inv-loop μ-loop
+put-pair-requires c κs =
+    let i = c .before .before .before .before .loop .inv in
+    omega (arith, i .few, i .most, i .room, i .within, i .wrote .long, c .before .before .before .loop-test .taken)
+
+add-i : tie.Need-add-i Inv-loop μ-loop
+add-i c = omega arith
+
+loop-less : tie.Need-loop-less Inv-loop μ-loop
+loop-less c = omega arith
+
+loop-again : tie.Need-loop-again Inv-loop μ-loop
+loop-again c =
+    let p = c .before .before .put-pair in
+    list-more (c .before .before .before .before .before .before .before .loop .inv) (omega arith) (p .ensures .0) (p .ensures .1)
+
+same-length : tie.Need-same-length Inv-loop μ-loop
+same-length c = search needs
+
+returns : tie.Need-returns Inv-loop μ-loop
+returns c =
+    let i = c .before .loop .inv in
+    let e : c .before .loop .i ≡ c .before .before .before .args .used = omega (arith, i .within) in
+    (rw e at (i .wrote), omega (arith, i .most))
+
+pub put-hits-spec : {M : Type 1} → statement M
+put-hits-spec =
+    tie.close
+    (tie.spec
+    Inv-loop
+    μ-loop
+    loop-holds
+    mul-h
+    array-copy-out-h
+    cast-put-pair
+    put-pair-requires
+    add-i
+    loop-less
+    loop-again
+    same-length
+    returns)

@@ -1,0 +1,46 @@
+-- `texts::writing::put_number` meets its contract.
+use mathlib.Core.Path.{sym, _∙_}
+use native.Mathlib.Omega.{arith}
+use Rattle.texts.proofs.Decimals.{fewest-decimal, few-digits}
+use Rattle.texts.proofs.Appending.{wrote-as}
+use borrow.Author.Needs.{needs}
+use Rattle.texts.proofs.writing.put_number.Statement.{statement}
+use Rattle.texts.proofs.writing.put_number.Tie as tie
+
+decimal-requires : tie.Need-decimal-requires
+decimal-requires c κs = search needs
+
+array-share-prefix-digits : tie.Need-array-share-prefix-digits
+array-share-prefix-digits c = search needs
+
+slice-aggregate-put-bytes : tie.Need-slice-aggregate-put-bytes
+slice-aggregate-put-bytes c = search needs
+
+put-bytes-requires : tie.Need-put-bytes-requires
+put-bytes-requires c κs =
+    let d = c .before .before .decimal in
+    let a = c .before .before .before .before .before in
+    omega (arith, few-digits (d .result) (a .args .value) (d .ensures .1 .0) (omega arith), d .ensures .0 .1, a .pre)
+
+same-length : tie.Need-same-length
+same-length c = search needs
+
+returns : tie.Need-returns
+returns c =
+    let d = c .before .before .before .before .before .decimal in
+    let p = c .before .before .put-bytes in
+    let a = c .before .before .before .before .before .before .before .before in (
+      wrote-as (d .ensures .1 .1 ∙ fewest-decimal (d .result) (a .args .value) (d .ensures .1 .0)) (p .ensures),
+      omega (arith, few-digits (d .result) (a .args .value) (d .ensures .1 .0) (omega arith), d .ensures .0 .1, p .ensures .count),
+    )
+
+pub put-number-spec : {M : Type 1} → statement M
+put-number-spec =
+    tie.close
+    (tie.spec
+    decimal-requires
+    array-share-prefix-digits
+    slice-aggregate-put-bytes
+    put-bytes-requires
+    same-length
+    returns)

@@ -1,0 +1,42 @@
+-- `texts::writing::put_pair` meets its contract.
+use native.Mathlib.Omega.{arith}
+use Rattle.texts.proofs.Appending.{wrote-then}
+use borrow.Author.Needs.{needs}
+use Rattle.texts.proofs.writing.put_pair.Statement.{statement}
+use Rattle.texts.proofs.writing.put_pair.Tie as tie
+
+put-number-requires : tie.Need-put-number-requires
+put-number-requires c κs = search needs
+
+put-byte-requires : tie.Need-put-byte-requires
+put-byte-requires c κs = search needs
+
+put-number-requires-2 : tie.Need-put-number-requires-2
+put-number-requires-2 c κs = search needs
+
+put-byte-requires-2 : tie.Need-put-byte-requires-2
+put-byte-requires-2 c κs = search needs
+
+same-length : tie.Need-same-length
+same-length c = search needs
+
+returns : tie.Need-returns
+returns c =
+    let x = c .before .before .put-byte2 in
+    let w = c .before .before .before .before .before .before .put-number2 in
+    let v = c .before .before .before .before .before .before .before .before .before .before .put-byte in
+    let u = c .before .before .before .before .before .before .before .before .before .before .before .before .before .before .put-number in (
+      wrote-then (u .ensures .0) (wrote-then (v .ensures) (wrote-then (w .ensures .0) (x .ensures))),
+      omega (arith, u .ensures .1, v .ensures .count, w .ensures .1, x .ensures .count),
+    )
+
+pub put-pair-spec : {M : Type 1} → statement M
+put-pair-spec =
+    tie.close
+    (tie.spec
+    put-number-requires
+    put-byte-requires
+    put-number-requires-2
+    put-byte-requires-2
+    same-length
+    returns)

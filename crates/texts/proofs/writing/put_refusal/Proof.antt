@@ -1,0 +1,42 @@
+-- `texts::writing::put_refusal` meets its contract.
+use native.Mathlib.Omega.{arith}
+use Rattle.texts.specs.Texts.{answerText}
+use Rattle.texts.proofs.Appending.{wrote-then, says-all}
+use borrow.Author.Needs.{needs}
+use Rattle.texts.proofs.writing.put_refusal.Statement.{statement}
+use Rattle.texts.proofs.writing.put_refusal.Tie as tie
+
+put-byte-requires : tie.Need-put-byte-requires
+put-byte-requires c κs = search needs
+
+refusal-number-requires : tie.Need-refusal-number-requires
+refusal-number-requires c κs = search needs
+
+put-number-requires : tie.Need-put-number-requires
+put-number-requires c κs = search needs
+
+put-byte-requires-2 : tie.Need-put-byte-requires-2
+put-byte-requires-2 c κs = search needs
+
+same-length : tie.Need-same-length
+same-length c = search needs
+
+returns : tie.Need-returns
+unfolding answerText
+returns c =
+    let x = c .before .before .put-byte2 in
+    let w = c .before .before .before .before .before .before .put-number in
+    let v = c .before .before .before .before .before .before .before .before .before .before .before .put-byte in
+    rw (← c .before .before .before .before .before .before .before .refusal-number .ensures)
+    (says-all (wrote-then (v .ensures) (wrote-then (w .ensures .0) (x .ensures))) (omega (arith, v .ensures .count, w .ensures .1, x .ensures .count, c .before .before .before .before .before .before .before .before .before .before .before .before .before .before .pre)))
+
+pub put-refusal-spec : {M : Type 1} → statement M
+put-refusal-spec =
+    tie.close
+    (tie.spec
+    put-byte-requires
+    refusal-number-requires
+    put-number-requires
+    put-byte-requires-2
+    same-length
+    returns)
