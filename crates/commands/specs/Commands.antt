@@ -1,0 +1,108 @@
+-- What a line says: a call of the engine, or nothing.
+use mathlib.Core.Bool.{cond}
+use mathlib.Core.List.{List, [], _∷_}
+use mathlib.Core.Option.{Option, none, some}
+use mathlib.Core.Path.{_≡_}
+use Prim.Native.Nat.{ℕ, _+_, _≤_}
+use lib.Dec.{eqb}
+use lib.ListN.{length, getD, drop}
+use Rattle.identifiers.specs.Names.{Name}
+use Rattle.engine.specs.Calls.{Call, Open, Event, Close, Remove, Flush, Step, Query}
+use Rattle.texts.specs.Fields.{partsOf, numberIn}
+use Rattle.commands.specs.declared.Order.{Order}
+use Rattle.commands.specs.declared.Order.the-variants as order
+
+-- a command without further fields
+unfoldable pub alone : Call → List Name → Option Call
+alone c [] = some c
+alone c (f ∷ fs) = none
+
+-- an event has one identifier
+unfoldable pub eventIn : List Name → Option Call
+eventIn [] = none
+eventIn (id ∷ []) = some (Event id)
+eventIn (id ∷ f ∷ fs) = none
+
+-- a removal of the window with this number, if it is one
+unfoldable pub removeBy : Option ℕ → Option Call
+removeBy none = none
+removeBy (some w) = some (Remove w)
+
+-- a removal has one number
+unfoldable pub removeIn : List Name → Option Call
+removeIn [] = none
+removeIn (f ∷ []) = removeBy (numberIn f)
+removeIn (f ∷ g ∷ fs) = none
+
+-- a query with so many places, if that is a number
+unfoldable pub queryBy : Option ℕ → List Name → Option Call
+queryBy none ids = none
+queryBy (some k) ids = some (Query k ids)
+
+-- a query has its number of places, and none or more identifiers
+unfoldable pub queryIn : List Name → Option Call
+queryIn [] = none
+queryIn (f ∷ ids) = queryBy (numberIn f) ids
+
+-- by the command's letter, O E C R F M Q, and the fields after it
+unfoldable pub byLetter : ℕ → List Name → Option Call
+byLetter b fs =
+    cond (eqb b 79) (alone Open fs)
+    (cond (eqb b 69) (eventIn fs)
+    (cond (eqb b 67) (alone Close fs)
+    (cond (eqb b 82) (removeIn fs)
+    (cond (eqb b 70) (alone Flush fs)
+    (cond (eqb b 77) (alone Step fs)
+    (cond (eqb b 81) (queryIn fs) none))))))
+
+-- the call that a line's fields say; the first is one letter
+unfoldable pub callIn : List Name → Option Call
+callIn [] = none
+callIn ([] ∷ fs) = none
+callIn ((b ∷ []) ∷ fs) = byLetter b fs
+callIn ((b ∷ c ∷ f) ∷ fs) = none
+
+-- the call that a line says
+abbrev pub commandOf : List ℕ → Option Call
+commandOf line = callIn (partsOf line)
+
+-- the call of an order of the code, whose identifiers are fields
+abbrev pub meant : Order → List Name → Option Call
+meant order.Open fs = some Open
+meant order.Event fs = some (Event (getD fs 1 []))
+meant order.Close fs = some Close
+meant (order.Remove w) fs = some (Remove w)
+meant order.Flush fs = some Flush
+meant order.Step fs = some Step
+meant (order.Query k) fs = some (Query k (drop 2 fs))
+meant order.Unknown fs = none
+
+-- how many fields an order needs
+abbrev pub reach : Order → ℕ
+reach order.Open = 0
+reach order.Event = 2
+reach order.Close = 0
+reach (order.Remove w) = 0
+reach order.Flush = 0
+reach order.Step = 0
+reach (order.Query k) = 2
+reach order.Unknown = 0
+
+-- the orders of a removal and of a query, by the number that they have
+abbrev pub removeOrder : Option ℕ → Order
+removeOrder none = order.Unknown
+removeOrder (some w) = order.Remove w
+
+abbrev pub queryOrder : Option ℕ → Order
+queryOrder none = order.Unknown
+queryOrder (some k) = order.Query k
+
+-- the order that a letter and the fields after it give, whatever the field before them
+pub record Names (b : ℕ) (fs : List Name) (o : Order) : Type 0 where
+  pub call : (f : Name) → meant o (f ∷ fs) ≡ byLetter b fs
+  pub held : reach o ≤ length fs + 1
+
+-- the order that these fields give
+pub record Means (fs : List Name) (o : Order) : Type 0 where
+  pub call : meant o fs ≡ callIn fs
+  pub held : reach o ≤ length fs
