@@ -4,6 +4,7 @@ use answers::Found;
 use answers::Hit;
 use queries::Answered;
 use queries::Top;
+use state::MergeJob;
 use state::State;
 use windows::Opening;
 use windows::Replied;
@@ -12,13 +13,21 @@ ghost use mathlib.Core.Path.{_≡_};
 ghost use Prim.Native.Nat.{_≤_, _<_};
 ghost use lib.ListN.{length, getD};
 ghost use Rattle.answers.specs.Numbers.{replied, openedAs, foundAs};
+ghost use Rattle.state.specs.Views.{withMerge};
 ghost use Rattle.windows.specs.Calls.{startOf, unstarted, openOf, closeOf, eventOf, flushOf};
 ghost use Rattle.windows.specs.Promises.{Gives, storeOf, probeOf};
 ghost use Rattle.queries.specs.Query.{queryOf, fill};
 ghost use Rattle.queries.specs.Top.{noHit, listedHits};
 ghost use Rattle.queries.specs.Finds.{Finds};
 ghost use Rattle.removals.specs.Removal.{removeOf};
+ghost use Rattle.merges.specs.Step.{stepOf};
 ghost use Rattle.engine.specs.Lent.{hitCount, answeredBy};
+
+// What a step gives back beside the state: the record of the merge in progress.
+struct Stepped {
+    replied: Replied,
+    job: MergeJob,
+}
 
 // A fresh card, register and state.
 pub fn start(card: &mut [u8], register: &mut [u8]) -> Replied
@@ -62,6 +71,40 @@ pub fn flush(s: State, card: &mut [u8]) -> Replied
     ensures { λ r. ⌜ Gives (storeOf s (now (card .entry))) (flushOf (storeOf s (now (card .entry)))) (replied (r .reply)) (storeOf (r .state) (now (card .exit))) ⌝ }
 {
     windows::flush(s, card)
+}
+
+// A step with the record of the merge beside the state.
+fn step_beside(s: State, job: MergeJob, card: &mut [u8]) -> Stepped
+    ensures { λ r. ⌜ Gives (storeOf (withMerge s job) (now (card .entry))) (stepOf (storeOf (withMerge s job) (now (card .entry))))
+        (replied (r .replied .reply)) (storeOf (r .replied .state) (now (card .exit))) × (r .job ≡ r .replied .state .merge) ⌝ }
+{
+    let mut t = s;
+    t.merge = job;
+    let replied = merges::step(t, card);
+    let after = replied.state;
+    let moved = after.merge;
+    Stepped {
+        replied: replied,
+        job: moved,
+    }
+}
+
+// A merge step: the lent record of the merge in progress is moved on.
+pub fn step(s: State, job: &mut MergeJob, card: &mut [u8]) -> Replied
+    ensures { λ r. ⌜ Gives (storeOf (withMerge s (now (job .entry))) (now (card .entry))) (stepOf (storeOf (withMerge s (now (job .entry))) (now (card .entry))))
+        (replied (r .reply)) (storeOf (r .state) (now (card .exit))) × (now (job .exit) ≡ r .state .merge) ⌝ }
+{
+    let m = step_beside(s, *job, card);
+    *job = m.job;
+    m.replied
+}
+
+// The step, with the record in the state.
+pub fn step_value(s: State, card: &mut [u8]) -> Replied
+    ensures { λ r. ⌜ Gives (storeOf s (now (card .entry))) (stepOf (storeOf s (now (card .entry)))) (replied (r .reply)) (storeOf (r .state) (now (card .exit))) ⌝ }
+{
+    let mut j = s.merge;
+    step(s, &mut j, card)
 }
 
 // How many hits are listed.
