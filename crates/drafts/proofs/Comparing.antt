@@ -1,13 +1,12 @@
 -- The output in progress compared in three parts: the space of header and entries, the postings, and the rest.
 use mathlib.Core.Bool.{Bool, true, false, _&&_}
-use mathlib.Core.List.{List, [], _∷_, _++_, map, append-assoc}
+use mathlib.Core.List.{List, [], _∷_, _++_, append-assoc}
 use mathlib.Core.Path.{_≡_, refl, sym, ap, ap₂, _∙_}
-use Prim.Native.Nat.{ℕ, zero, suc, _+_, _-_, _*_, _<_, _≤_}
+use Prim.Native.Nat.{ℕ, zero, suc, _+_, _-_, _*_, _≤_}
 use native.Mathlib.Omega.{arith}
 use lib.Dec.{eqb}
 use lib.ListN.{length, take, drop, replicate, length-append, length-take, length-drop, length-replicate, length-map, take-append-drop}
 use lib.Seq.{take-all, length-take-le}
-use Rattle.lists.specs.All.{AllOf}
 use Rattle.lists.specs.Lists.{every, same}
 use Rattle.lists.proofs.Runs.{eqb-swap}
 use Rattle.lists.proofs.Same.{same-swap}
@@ -17,12 +16,12 @@ use Rattle.postings.specs.Merge.{nonzero, counts}
 use Rattle.lists.proofs.Tests.{keep-append}
 use Rattle.card.specs.Blocks.{block, contentOf}
 use Rattle.card.specs.Chains.{chain, content}
-use Rattle.card.specs.Cursors.{Chained, ahead}
+use Rattle.card.specs.Cursors.{Chained}
 use Rattle.card.proofs.Links.{length-chain}
 use Rattle.partitions.proofs.Headers.{content-room}
 use Rattle.partitions.specs.Layout.{wordOf}
 use Rattle.inputs.specs.Ahead.{outWords, Matched}
-use Rattle.drafts.specs.Drafted.{drafted, holdsDraft}
+use Rattle.drafts.specs.Drafted.{holdsDraft}
 
 -- Lists ------------------------------------------------------------------------------------------------------------------
 

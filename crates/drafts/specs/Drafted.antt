@@ -1,5 +1,5 @@
 -- The output of a merge in progress: what its blocks hold after so many pairs.
-use mathlib.Core.Bool.{Bool, _&&_}
+use mathlib.Core.Bool.{Bool}
 use mathlib.Core.List.{List, _++_}
 use Prim.Native.Nat.{ℕ, _*_}
 use lib.ListN.{replicate}

@@ -1,15 +1,14 @@
 -- A merge begins: on its blocks, linked and all ones, the output stands as after no step.
-use mathlib.Core.Bool.{Bool, true, false, cond, not, _&&_}
-use mathlib.Core.List.{List, [], _∷_, _++_, map}
-use mathlib.Core.Path.{_≡_, refl, sym, ap, ap₂, _∙_}
-use Prim.Native.Nat.{ℕ, zero, suc, _+_, _-_, _*_, _<_, _≤_}
+use mathlib.Core.Bool.{Bool, true, false, not}
+use mathlib.Core.List.{List, [], _∷_, _++_}
+use mathlib.Core.Path.{_≡_, refl, sym, ap, _∙_}
+use Prim.Native.Nat.{ℕ, suc, _+_, _-_, _*_, _<_, _≤_}
 use native.Mathlib.Omega.{arith}
-use lib.Dec.{eqb, ltb, leb}
-use lib.ListN.{length, getD, take, drop, replicate, length-append, length-replicate, replicate-append-replicate}
+use lib.Dec.{eqb, ltb}
+use lib.ListN.{length, getD, take, drop, replicate, length-replicate, replicate-append-replicate}
 use lib.Seq.{length-take-le}
 use borrow.Author.Tests.{eqb-true, eqb-false}
-use Rattle.lists.specs.All.{AllOf}
-use Rattle.lists.specs.Lists.{every, elem, empty, joined, different}
+use Rattle.lists.specs.Lists.{every, elem, empty, different}
 use Rattle.lists.proofs.Bools.{by-test, and-left, and-right, and-both}
 use Rattle.lists.proofs.Runs.{apart as apartBy, apart-append, apart-none}
 use Rattle.lists.proofs.Sets.{different-take}
@@ -22,30 +21,30 @@ use Rattle.state.specs.declared.Partitions.{Partitions}
 use Rattle.state.specs.declared.State.{State}
 use Rattle.state.specs.Views.{padded, blocks, finished}
 use Rattle.card.specs.Blocks.{noBlock, isFree, freeBlocks}
-use Rattle.card.specs.Chains.{blocksFor, chain, chainRule, content}
-use Rattle.card.specs.Writes.{store, release}
+use Rattle.card.specs.Chains.{blocksFor, chain, content}
+use Rattle.card.specs.Writes.{store}
 use Rattle.card.proofs.FreeBlocks.{free-on, free-free, free-different}
 use Rattle.card.proofs.Links.{onCard}
 use Rattle.card.proofs.Stores.{Agree, apart, length-store}
 use Rattle.card.proofs.Stored.{chain-stored, rule-stored, content-stored}
-use Rattle.partitions.specs.Layout.{termCount, lengthOf, encode}
-use Rattle.partitions.specs.Reading.{chainOf, inPartitions}
-use Rattle.partitions.specs.Formed.{partitionRule, chainsOf}
+use Rattle.partitions.specs.Layout.{lengthOf}
+use Rattle.partitions.specs.Reading.{chainOf}
+use Rattle.partitions.specs.Formed.{chainsOf}
 use Rattle.partitions.proofs.Kept.{AgreeAll, chains-kept, all-kept, formed-kept, store-keeps, rules-apart}
 use Rattle.partitions.proofs.Lengths.{length-encode}
 use Rattle.inputs.specs.declared.Totals.{Totals}
 use Rattle.inputs.specs.declared.Batch.{Batch}
 use Rattle.inputs.specs.Judging.{totalsOf, allInRange}
 use Rattle.inputs.specs.Ahead.{batched}
-use Rattle.outputs.proofs.Contents.{Blocks, store-twice}
+use Rattle.outputs.proofs.Contents.{store-twice}
 use Rattle.merges.specs.declared.Output.{Output}
 use Rattle.merges.specs.Merging.{inputs, taking, result, outputBlocks, progress, isLast, outputLevel, outputContent}
 use Rattle.merges.specs.Step.{lastOf, writtenOn}
 use Rattle.merges.specs.Acting.{Drafted, Judged, Acts, lengthFrom}
 use Rattle.merges.proofs.Merged.{part-all}
-use Rattle.merges.proofs.Progress.{front, progress-none, progress-room, result-room, nonzero-take}
+use Rattle.merges.proofs.Progress.{front, progress-none, progress-room, result-room}
 use Rattle.merges.proofs.Drafting.{rules, chains-apart, part}
-use Rattle.merges.proofs.Refusing.{blocks-told, none-empty, some-there}
+use Rattle.merges.proofs.Refusing.{blocks-told, some-there}
 
 -- Lists ------------------------------------------------------------------------------------------------------------------
 

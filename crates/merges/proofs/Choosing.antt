@@ -2,16 +2,15 @@
 use mathlib.Core.Bool.{Bool, true, false, cond}
 use mathlib.Core.List.{List, [], _∷_, _++_, append-nil}
 use mathlib.Core.Path.{_≡_, refl, sym, ap, _∙_}
-use Prim.Native.Nat.{ℕ, zero, suc, _+_, _-_, _≤_}
+use Prim.Native.Nat.{ℕ, _+_, _-_, _≤_}
 use native.Mathlib.Omega.{arith}
 use lib.Dec.{eqb}
-use lib.ListN.{length, getD, take, drop, length-take, length-drop, drop-of-length-le}
-use lib.Seq.{take-add, take-all, drop-at, length-take-le}
+use lib.ListN.{length, getD, take, drop, length-drop, drop-of-length-le}
+use lib.Seq.{take-add, drop-at, length-take-le}
 use Rattle.state.specs.declared.Partition.{Partition}
-use Rattle.state.specs.declared.Partitions.{Partitions}
 use Rattle.state.specs.declared.Due.{Due}
 use Rattle.state.specs.Views.{finished, partitionsOf, noPartition}
-use Rattle.state.specs.Levels.{dueAt, nextLevel, ofLevel, dueLevels, placeOf, oldest, replaced}
+use Rattle.state.specs.Levels.{dueAt, nextLevel, dueLevels, placeOf, oldest, replaced}
 use Rattle.state.specs.Due.{dueOf}
 use Rattle.state.proofs.Forms.{held}
 use Rattle.state.proofs.Runs.{due-first, place-within}

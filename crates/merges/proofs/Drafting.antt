@@ -1,19 +1,18 @@
 -- The output on its blocks, from one step to the next.
 use mathlib.Core.Bool.{Bool, true, false, cond, not}
-use mathlib.Core.List.{List, [], _∷_, _++_, map}
+use mathlib.Core.List.{List, _++_, map}
 use mathlib.Core.Path.{_≡_, refl, sym, ap, _∙_}
 use Prim.Native.Nat.{ℕ, zero, suc, _+_, _-_, _*_, _<_, _≤_}
 use native.Mathlib.Omega.{arith}
 use lib.Dec.{leb, eqb}
-use lib.ListN.{length, getD, take, drop, replicate, length-append, length-map, length-take, length-drop}
+use lib.ListN.{length, getD, take, drop, length-append, length-map, length-take, length-drop}
 use lib.Seq.{sets, length-sets}
-use borrow.Author.Tests.{eqb-true, eqb-false, ne-eqb}
+use borrow.Author.Tests.{eqb-true, eqb-false}
 use Rattle.lists.specs.All.{AllOf}
-use Rattle.lists.specs.Lists.{every, elem, empty, joined, different}
+use Rattle.lists.specs.Lists.{every, empty, joined, different}
 use Rattle.lists.proofs.Bools.{by-test, and-left, and-right}
 use Rattle.lists.proofs.Tests.{every-take, every-drop, every-keep}
 use Rattle.lists.proofs.Ranges.{length-joined}
-use Rattle.words.specs.Words.{allOnes}
 use Rattle.postings.specs.declared.Posting.{Posting}
 use Rattle.postings.specs.Order.{ordered}
 use Rattle.postings.specs.Merge.{counts, nonzero, pairs}
@@ -21,9 +20,8 @@ use Rattle.postings.proofs.Merge.{pairs-ordered, nonzero-ordered}
 use Rattle.state.specs.declared.Partition.{Partition}
 use Rattle.state.specs.declared.Partitions.{Partitions}
 use Rattle.state.specs.declared.State.{State}
-use Rattle.state.specs.Views.{padded, blocks, finished, partitionsOf}
-use Rattle.card.specs.Blocks.{noBlock}
-use Rattle.card.specs.Chains.{blocksFor, chain, chainRule, content}
+use Rattle.state.specs.Views.{blocks, finished}
+use Rattle.card.specs.Chains.{blocksFor, chain, content}
 use Rattle.card.specs.Cursors.{Chained}
 use Rattle.card.specs.Writes.{store, release}
 use Rattle.card.proofs.Chains.{chain-none}
@@ -31,28 +29,27 @@ use Rattle.card.proofs.Links.{length-chain, rule-on}
 use Rattle.card.proofs.Seeking.{rule-chained}
 use Rattle.card.proofs.Stores.{apart}
 use Rattle.card.proofs.Stored.{chain-stored}
-use Rattle.partitions.specs.Layout.{identifiersOf, termCount, totalLength, lengthOf, header, entryOf, wordOf, encode}
+use Rattle.partitions.specs.Layout.{identifiersOf, termCount, lengthOf, header, entryOf, wordOf, encode}
 use Rattle.partitions.specs.Reading.{chainOf, inPartitions}
 use Rattle.partitions.specs.Formed.{partitionRule, partitionsFormed, chainsOf, inRange}
 use Rattle.partitions.specs.Terms.{Readable}
 use Rattle.partitions.proofs.Kept.{AgreeAll, chains-kept, store-keeps}
 use Rattle.inputs.specs.declared.Totals.{Totals}
 use Rattle.inputs.specs.declared.Batch.{Batch}
-use Rattle.inputs.specs.Judging.{totalsOf, Small, allInRange}
+use Rattle.inputs.specs.Judging.{totalsOf}
 use Rattle.inputs.specs.Ahead.{batched}
 use Rattle.outputs.specs.Contents.{written}
 use Rattle.outputs.specs.Entries.{entriesBy}
 use Rattle.outputs.proofs.Contents.{Blocks, Holds, holds-store, store-past, store-over}
-use Rattle.outputs.proofs.Entries.{entries-by, entries-length}
+use Rattle.outputs.proofs.Entries.{entries-by}
 use Rattle.outputs.proofs.Freeing.{Parted, different-parts, every-chains}
-use Rattle.outputs.proofs.Writing.{chain-written, chained-written}
+use Rattle.outputs.proofs.Writing.{chained-written}
 use Rattle.merges.specs.declared.Output.{Output}
 use Rattle.merges.specs.Merging.{dueIn, inputs, taking, result, outputBlocks, outputLevel, progress, isLast, outputContent}
 use Rattle.merges.specs.Step.{writtenOn}
 use Rattle.merges.specs.Acting.{Drafted, Judged, Acts}
-use Rattle.merges.proofs.Choosing.{levelOf}
 use Rattle.merges.proofs.Merged.{Part, oldest-part, part-all, part-every, part-different, all-readable, all-chained, chained-kept, agrees-self, numbered, pairs-numbered}
-use Rattle.merges.proofs.Progress.{front, progress-more, length-progress, result-room, progress-room, completed}
+use Rattle.merges.proofs.Progress.{progress-more, length-progress, result-room, progress-room, completed}
 
 -- a chain of at least one block begins with its first
 pub chain-first : (W : List ℕ) (b n : ℕ) → 0 < n → getD (chain W b n) 0 0 ≡ b

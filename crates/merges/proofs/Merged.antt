@@ -1,12 +1,11 @@
 -- The inputs of a merge are a part of the list of finished partitions: what holds of all holds of them.
-use mathlib.Core.Bool.{Bool, true, _&&_, not}
+use mathlib.Core.Bool.{Bool, true}
 use mathlib.Core.List.{List, [], _∷_, _++_, map}
 use mathlib.Core.Path.{_≡_, refl, sym, ap, _∙_}
 use Prim.Native.Nat.{ℕ, zero, suc, _*_, _≤_}
 use native.Mathlib.Omega.{arith}
 use lib.Dec.{leb}
 use lib.ListN.{length, take, drop, take-append-drop}
-use borrow.Author.Tests.{leb-true}
 use Rattle.lists.specs.All.{AllOf}
 use Rattle.lists.specs.Lists.{every, keep, joined, different, upTo}
 use Rattle.lists.proofs.Bools.{and-left, and-right, and-both}
@@ -22,7 +21,7 @@ use Rattle.card.specs.Chains.{blocksFor, content}
 use Rattle.card.specs.Cursors.{InCard, Chained}
 use Rattle.card.proofs.Stores.{chain-agree}
 use Rattle.partitions.specs.Reading.{entryNumber, entryCount, entryFirst, postingWords, field, listOf, decode, chainOf, postingsOf, inPartitions}
-use Rattle.partitions.specs.Formed.{partitionRule, entriesRule, chainsOf, ascending}
+use Rattle.partitions.specs.Formed.{partitionRule, chainsOf, ascending}
 use Rattle.partitions.specs.Terms.{Readable}
 use Rattle.partitions.proofs.Starts.{rule-readable}
 use Rattle.partitions.proofs.Kept.{AgreeAll}

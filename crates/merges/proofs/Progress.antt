@@ -1,23 +1,22 @@
 -- The content of the output, from step to step.
-use mathlib.Core.Bool.{Bool, true, false, cond}
+use mathlib.Core.Bool.{true, false}
 use mathlib.Core.List.{List, [], _∷_, _++_, map, append-nil, append-assoc}
 use mathlib.Core.Path.{_≡_, refl, sym, ap, _∙_}
-use Prim.Native.Nat.{ℕ, zero, suc, _+_, _-_, _*_, _/_, _<_, _≤_}
+use Prim.Native.Nat.{ℕ, suc, _+_, _-_, _*_, _≤_}
 use native.Mathlib.Omega.{arith}
-use lib.Dec.{leb}
-use lib.ListN.{length, take, drop, replicate, length-append, length-map, length-replicate, length-take, take-append-drop}
-use lib.Seq.{sets, sets-eq, take-all, take-add, take-at, drop-at, drop-append-add, length-sets}
+use lib.ListN.{length, take, drop, replicate, length-append, length-map, length-replicate, take-append-drop}
+use lib.Seq.{sets, sets-eq, take-all, take-add, drop-at}
 use borrow.Author.Tests.{leb-true}
-use Rattle.lists.specs.Lists.{keep, every, joined, empty}
-use Rattle.lists.proofs.Tests.{keep-append, length-keep}
+use Rattle.lists.specs.Lists.{joined, empty}
+use Rattle.lists.proofs.Tests.{keep-append}
 use Rattle.lists.proofs.Ranges.{length-joined}
 use Rattle.lists.proofs.Stores.{sets-append}
 use Rattle.words.specs.Words.{allOnes}
 use Rattle.postings.specs.declared.Posting.{Posting}
 use Rattle.postings.specs.Merge.{counts, nonzero}
 use Rattle.card.specs.Chains.{blocksFor}
-use Rattle.partitions.specs.Layout.{identifiersOf, termCount, totalLength, lengthOf, header, entryOf, wordOf, encode}
-use Rattle.merges.specs.Merging.{result, outputLength, outputBlocks, progress, isLast}
+use Rattle.partitions.specs.Layout.{identifiersOf, termCount, lengthOf, header, entryOf, wordOf, encode}
+use Rattle.merges.specs.Merging.{result, outputBlocks, progress, isLast}
 
 -- Sums other than 0 ------------------------------------------------------------------------------------------------------
 

@@ -1,35 +1,33 @@
 -- The rule of the output in progress, test by test.
-use mathlib.Core.Bool.{Bool, true, false, cond, not, _&&_}
-use mathlib.Core.List.{List, [], _∷_, _++_, map}
-use mathlib.Core.Path.{_≡_, refl, sym, ap, ap₂, _∙_}
-use Prim.Native.Nat.{ℕ, zero, suc, _+_, _-_, _*_, _/_, _<_, _≤_}
+use mathlib.Core.Bool.{Bool, true, false, cond, _&&_}
+use mathlib.Core.List.{List, [], _∷_}
+use mathlib.Core.Path.{_≡_, refl, sym, ap, _∙_}
+use Prim.Native.Nat.{ℕ, suc, _+_, _-_, _*_, _<_, _≤_}
 use native.Mathlib.Omega.{arith}
-use lib.Dec.{eqb, leb}
-use lib.ListN.{length, take, drop, replicate, length-append, take-append-drop}
-use borrow.Author.Tests.{eqb-true, eqb-false, eq-eqb, ne-eqb, le-leb, lt-leb}
-use Rattle.lists.specs.Lists.{empty, different, same}
+use lib.Dec.{eqb}
+use lib.ListN.{length, take, drop, length-append, take-append-drop}
+use borrow.Author.Tests.{eqb-true, eq-eqb, ne-eqb, le-leb, lt-leb}
+use Rattle.lists.specs.Lists.{empty}
 use Rattle.lists.proofs.Bools.{by-test}
 use Rattle.lists.proofs.Same.{same-true}
-use Rattle.words.specs.Words.{allOnes}
 use Rattle.postings.specs.declared.Posting.{Posting}
 use Rattle.postings.specs.Merge.{nonzero, pairs}
 use Rattle.state.specs.declared.Partition.{Partition}
 use Rattle.state.specs.declared.Partitions.{Partitions}
 use Rattle.state.specs.declared.State.{State}
-use Rattle.state.specs.Views.{padded, blocks, finished}
+use Rattle.state.specs.Views.{blocks, finished}
 use Rattle.card.specs.Blocks.{noBlock}
-use Rattle.card.specs.Chains.{blocksFor, chain, chainRule, content}
-use Rattle.partitions.specs.Layout.{termCount, totalLength, lengthOf, wordOf}
+use Rattle.card.specs.Chains.{blocksFor, chainRule}
+use Rattle.partitions.specs.Layout.{lengthOf}
 use Rattle.partitions.specs.Reading.{inPartitions}
 use Rattle.inputs.specs.declared.Totals.{Totals}
 use Rattle.inputs.specs.declared.Batch.{Batch}
-use Rattle.inputs.specs.Judging.{totalsOf}
 use Rattle.inputs.specs.Ahead.{batched}
 use Rattle.drafts.specs.Drafted.{holdsDraft, standsApart}
 use Rattle.merges.specs.declared.Output.{Output}
 use Rattle.merges.specs.Merging.{inputs, taking, result, outputLength, outputBlocks, progress, isLast}
 use Rattle.merges.specs.Step.{outputRule}
-use Rattle.merges.specs.Acting.{Drafted, Judged, Acts, lengthFrom}
+use Rattle.merges.specs.Acting.{Judged, Acts, lengthFrom}
 use Rattle.merges.proofs.Choosing.{finished-of}
 use Rattle.merges.proofs.Progress.{nonzero-append, nonzero-take, result-room}
 use Rattle.merges.proofs.Drafting.{terms-told, postings-told, pairs-told}

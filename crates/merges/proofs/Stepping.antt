@@ -1,46 +1,45 @@
 -- A step as its definition says: what is judged, the refusals in their order, and what is left.
 use mathlib.Core.Bool.{Bool, true, false, cond, not, _&&_, _||_}
-use mathlib.Core.List.{List, [], _∷_, _++_, map}
-use mathlib.Core.Path.{_≡_, refl, sym, ap, ap₂, _∙_}
-use Prim.Native.Nat.{ℕ, zero, suc, _+_, _-_, _*_, _/_, _%_, _<_, _≤_}
+use mathlib.Core.List.{List, [], _∷_}
+use mathlib.Core.Path.{_≡_, refl, sym, ap, _∙_}
+use Prim.Native.Nat.{ℕ, zero, suc, _-_, _*_, _%_, _<_, _≤_}
 use native.Mathlib.Omega.{arith}
 use lib.Dec.{eqb, leb, ltb}
 use lib.ListN.{length, getD, take, drop, length-take, length-drop}
-use borrow.Author.Tests.{eqb-true, eqb-false, eq-eqb, ne-eqb, leb-true, leb-false, lt-ltb, le-ltb, not-true}
+use borrow.Author.Tests.{eq-eqb, ne-eqb, leb-true, leb-false, lt-ltb, le-ltb, not-true}
 use Rattle.lists.specs.All.{AllOf}
 use Rattle.lists.specs.Lists.{every, empty}
-use Rattle.lists.proofs.Bools.{by-test, and-left, and-right, and-both}
+use Rattle.lists.proofs.Bools.{by-test, and-left, and-right}
 use Rattle.words.specs.Words.{words, bytes}
 use Rattle.words.proofs.Views.{length-words}
 use Rattle.postings.specs.declared.Posting.{Posting}
 use Rattle.postings.specs.Merge.{pairs}
-use Rattle.answers.specs.Answers.{Answer, Outcome, leave, refuseIf, done, refused}
+use Rattle.answers.specs.Answers.{done, refused}
 use Rattle.state.specs.declared.Partition.{Partition}
 use Rattle.state.specs.declared.Partitions.{Partitions}
 use Rattle.state.specs.declared.State.{State}
-use Rattle.state.specs.Views.{noMerge, blocks, finished, partitionsOf, withPartitions, withTaken, withMerge}
-use Rattle.state.specs.Levels.{dueAt, dueLevels, oldest, replaced}
-use Rattle.state.specs.Rules.{stateRule, recordRule}
+use Rattle.state.specs.Views.{blocks, finished, partitionsOf}
+use Rattle.state.specs.Levels.{dueLevels, oldest}
+use Rattle.state.specs.Rules.{stateRule}
 use Rattle.state.specs.Probe.{Store}
 use Rattle.state.proofs.Kept.{state-kept}
 use Rattle.state.proofs.Runs.{due-first, oldest-length}
 use Rattle.card.specs.Blocks.{noBlock, freeBlocks}
 use Rattle.card.specs.Chains.{blocksFor, chain}
-use Rattle.card.proofs.Chains.{chain-none}
 use Rattle.partitions.specs.Layout.{lengthOf}
 use Rattle.partitions.specs.Reading.{postingsOf, inPartitions}
 use Rattle.partitions.specs.Formed.{partitionRule, partitionsFormed, listRule}
 use Rattle.partitions.specs.Terms.{Readable}
 use Rattle.inputs.specs.declared.Totals.{Totals}
 use Rattle.inputs.specs.declared.Batch.{Batch}
-use Rattle.inputs.specs.Judging.{inputsFormed, judgedOf, totalsOf, Small, allInRange}
+use Rattle.inputs.specs.Judging.{inputsFormed, judgedOf, Small, allInRange}
 use Rattle.inputs.proofs.Judged.{judged-totals}
 use Rattle.windows.specs.Promises.{Gives, storeOf}
 use Rattle.windows.proofs.Outcomes.{stopped, passed, given}
 use Rattle.merges.specs.declared.Output.{Output}
-use Rattle.merges.specs.Merging.{dueIn, inputs, taking, result, outputBlocks, isLast}
-use Rattle.merges.specs.Step.{inProgress, outputChain, outputRule, stepFormed, outputOn, lastOf, steppedOn, writtenOn, stepping}
-use Rattle.merges.specs.Acting.{Judged, Acts, lengthFrom, recordFrom, nextState}
+use Rattle.merges.specs.Merging.{dueIn, inputs, taking, result, outputBlocks}
+use Rattle.merges.specs.Step.{inProgress, outputRule, stepFormed, outputOn, lastOf, steppedOn, writtenOn, stepping}
+use Rattle.merges.specs.Acting.{Judged, Acts, lengthFrom, nextState}
 use Rattle.merges.proofs.Choosing.{levelOf, finished-of, due-some}
 use Rattle.merges.proofs.Merged.{oldest-part, part-all, all-readable}
 use Rattle.merges.proofs.Drafting.{terms-told, postings-told, pairs-told}

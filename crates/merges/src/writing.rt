@@ -20,7 +20,7 @@ ghost use Rattle.state.specs.Levels.{replaced};
 ghost use Rattle.card.specs.Chains.{chain};
 ghost use Rattle.card.specs.Cursors.{Chained};
 ghost use Rattle.card.specs.Writes.{store};
-ghost use Rattle.partitions.specs.Layout.{totalLength, header, wordOf};
+ghost use Rattle.partitions.specs.Layout.{header, wordOf};
 ghost use Rattle.partitions.specs.Formed.{inRange};
 ghost use Rattle.inputs.specs.Judging.{Small};
 ghost use Rattle.inputs.specs.Ahead.{batched};

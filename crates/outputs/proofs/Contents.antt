@@ -1,11 +1,11 @@
 -- Words written into the content of blocks: what that does to a card on which they hold a stored content.
 use mathlib.Core.Bool.{true, false, true≢false}
 use mathlib.Core.List.{List, [], _∷_, _++_, append-nil, append-assoc}
-use mathlib.Core.Path.{_≡_, refl, sym, ap, ap₂, _∙_}
-use Prim.Native.Nat.{ℕ, zero, suc, _+_, _-_, _*_, _/_, _%_, _<_, _≤_}
+use mathlib.Core.Path.{_≡_, refl, sym, ap, _∙_}
+use Prim.Native.Nat.{ℕ, suc, _+_, _-_, _*_, _/_, _%_, _<_, _≤_}
 use native.Mathlib.Omega.{arith}
 use lib.Dec.{eqb, ltb}
-use lib.ListN.{length, getD, set, take, drop, replicate, length-append, length-set, length-replicate, replicate-append-replicate}
+use lib.ListN.{length, getD, set, take, replicate, length-append, length-set, length-replicate, replicate-append-replicate}
 use lib.Seq.{sets, length-sets, getD-set-same, getD-set-other, drop-set-lt, ext-getD}
 use borrow.Author.Tests.{eqb-true, eqb-false, ltb-true, ltb-false, eq-eqb}
 use Rattle.lists.specs.Lists.{elem, different}
@@ -16,7 +16,7 @@ use Rattle.lists.proofs.Padding.{padded-add, padded-set}
 use Rattle.lists.proofs.Places.{any-at}
 use Rattle.lists.proofs.Tests.{every-at}
 use Rattle.words.specs.Words.{allOnes}
-use Rattle.card.specs.Blocks.{noBlock, block, link}
+use Rattle.card.specs.Blocks.{block}
 use Rattle.card.specs.Chains.{chain, chainRule, content}
 use Rattle.card.specs.Writes.{store}
 use Rattle.card.proofs.Links.{onCard, chained-link, length-content, content-at}

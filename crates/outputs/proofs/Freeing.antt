@@ -1,8 +1,8 @@
 -- The blocks of partitions freed, one partition after another.
 use mathlib.Core.Bool.{Bool, true, false, _&&_, not}
 use mathlib.Core.List.{List, [], _∷_, _++_, map}
-use mathlib.Core.Path.{_≡_, refl, sym, ap, _∙_}
-use Prim.Native.Nat.{ℕ, suc, _+_, _*_, _<_, _≤_}
+use mathlib.Core.Path.{_≡_, refl, sym, _∙_}
+use Prim.Native.Nat.{ℕ, _+_, _*_, _<_, _≤_}
 use native.Mathlib.Omega.{arith}
 use lib.ListN.{length, getD, take, drop, replicate}
 use lib.Seq.{sets}
@@ -14,10 +14,10 @@ use Rattle.lists.proofs.Tests.{every-append}
 use Rattle.lists.proofs.Turns.{used-turn, used-end}
 use Rattle.words.specs.Words.{allOnes}
 use Rattle.state.specs.declared.Partition.{Partition}
-use Rattle.card.specs.Chains.{blocksFor, chain}
+use Rattle.card.specs.Chains.{blocksFor}
 use Rattle.card.specs.Cursors.{InCard, Chained}
 use Rattle.card.specs.Writes.{release}
-use Rattle.card.proofs.Stores.{Agree, apart, length-release, chain-agree}
+use Rattle.card.proofs.Stores.{apart, length-release, chain-agree}
 use Rattle.partitions.specs.Reading.{chainOf}
 use Rattle.partitions.specs.Formed.{chainsOf}
 use Rattle.partitions.proofs.Kept.{AgreeAll, chains-kept, release-keeps}

@@ -1,5 +1,5 @@
 -- `drafts::first_batch` meets its contract. Assumes nothing.
-use mathlib.Core.Path.{_≡_, ap, _∙_}
+use mathlib.Core.Path.{ap, _∙_}
 use lib.ListN.{take}
 use borrow.Author.Needs.{needs}
 use Rattle.postings.specs.Merge.{nonzero}

@@ -1,7 +1,7 @@
 -- `merges::begin` meets its contract. Assumes nothing.
-use mathlib.Core.Bool.{true, not}
-use mathlib.Core.Path.{_≡_, refl, sym, ap, _∙_}
-use Prim.Native.Nat.{ℕ, suc, _*_, _%_, _<_, _≤_}
+use mathlib.Core.Bool.{not}
+use mathlib.Core.Path.{sym, ap, _∙_}
+use Prim.Native.Nat.{suc}
 use native.Mathlib.Omega.{arith}
 use borrow.Author.Needs.{needs}
 use borrow.Author.Tests.{not-true, not-false, eq-eqb, leb-true}
@@ -10,7 +10,7 @@ use Rattle.words.specs.Words.{words, bytes}
 use Rattle.postings.specs.Merge.{nonzero}
 use Rattle.state.specs.Views.{blocks, finished}
 use Rattle.card.specs.Blocks.{freeBlocks}
-use Rattle.card.specs.Chains.{blocksFor, chain}
+use Rattle.card.specs.Chains.{blocksFor}
 use Rattle.merges.specs.Merging.{inputs}
 use Rattle.merges.proofs.Choosing.{finished-of}
 use Rattle.merges.proofs.Drafting.{readable, inputs-few}

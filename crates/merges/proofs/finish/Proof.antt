@@ -1,5 +1,4 @@
 -- `merges::finish` meets its contract. Assumes nothing.
-use mathlib.Core.Path.{_≡_}
 use borrow.Author.Needs.{needs}
 use Rattle.merges.proofs.finish.Statement.{statement}
 use Rattle.merges.proofs.finish.Tie as tie

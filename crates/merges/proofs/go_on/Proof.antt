@@ -1,14 +1,12 @@
 -- `merges::go_on` meets its contract. Assumes nothing.
-use mathlib.Core.Bool.{true, not}
-use mathlib.Core.Path.{_≡_, refl, sym, ap, _∙_}
-use Prim.Native.Nat.{ℕ, suc, _*_, _<_}
+use mathlib.Core.Bool.{not}
+use mathlib.Core.Path.{refl, sym, ap, _∙_}
 use native.Mathlib.Omega.{arith}
 use borrow.Author.Needs.{needs}
 use borrow.Author.Tests.{not-false, ne-eqb}
 use Rattle.words.specs.Words.{words}
-use Rattle.card.specs.Chains.{blocksFor, chain}
+use Rattle.card.specs.Chains.{blocksFor}
 use Rattle.windows.proofs.Outcomes.{stopped, passed}
-use Rattle.merges.specs.Acting.{Acts}
 use Rattle.merges.proofs.Stepping.{rule-early, go-done, state-told, first-told}
 use Rattle.merges.proofs.go_on.Statement.{statement}
 use Rattle.merges.proofs.go_on.Tie as tie

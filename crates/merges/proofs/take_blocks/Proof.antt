@@ -8,7 +8,6 @@ use lib.Seq.{length-take-le}
 use Rattle.words.specs.Words.{words}
 use Rattle.card.specs.Blocks.{freeBlocks}
 use Rattle.card.specs.Writes.{store}
-use Rattle.merges.specs.Step.{lastOf}
 use Rattle.merges.proofs.Beginning.{last-at, first-at}
 use Rattle.merges.proofs.take_blocks.Statement.{statement}
 use Rattle.merges.proofs.take_blocks.Tie as tie

@@ -1,6 +1,6 @@
 -- `outputs::free_after` meets its contract: as some block is free, one is found. Assumes nothing.
 use denote.Enum.Declared.{tagOf}
-use mathlib.Core.Path.{_≡_, refl, sym, ap, _∙_}
+use mathlib.Core.Path.{refl, sym, ap, _∙_}
 use borrow.Author.Needs.{needs}
 use Rattle.words.specs.Words.{words}
 use Rattle.card.specs.Blocks.{freeBlocks}

@@ -1,9 +1,9 @@
 -- `outputs::link_free` meets its contract. The invariant: so many of the wanted blocks are found, and linking the others gives the whole. Assumes nothing.
 use mathlib.Core.Path.{_≡_, refl, sym, _∙_}
-use Prim.Native.Nat.{_-_, _*_, _<_, _≤_}
+use Prim.Native.Nat.{_-_}
 use native.Mathlib.Omega.{arith}
 use borrow.Author.Needs.{needs}
-use lib.ListN.{length, getD}
+use lib.ListN.{length}
 use lib.Seq.{getD-take}
 use Rattle.words.specs.Words.{words}
 use Rattle.card.specs.Blocks.{freeBlocks}

@@ -1,12 +1,7 @@
 -- `outputs::place_at` meets its contract. The invariant: whole blocks were passed over, and k words are still to go. Assumes nothing.
-use mathlib.Core.Logic.{inl}
-use mathlib.Core.Path.{_≡_, refl, ap}
-use Prim.Native.Nat.{_≤_, _*_}
+use mathlib.Core.Path.{refl}
 use native.Mathlib.Omega.{arith}
-use lib.ListN.{getD}
 use Rattle.words.specs.Words.{words}
-use Rattle.card.specs.Chains.{chain}
-use Rattle.card.specs.Cursors.{Chained}
 use Rattle.outputs.proofs.Places.{Going, going-start, going-in, going-next, going-on, going-end}
 use Rattle.outputs.proofs.place_at.Statement.{statement}
 use Rattle.outputs.proofs.place_at.Tie as tie

@@ -1,10 +1,10 @@
 -- `outputs::release_inputs` meets its contract. The invariant: freeing the blocks of the partitions from i on gives the whole; they are different
 -- blocks of the card. Assumes nothing.
 use mathlib.Core.Path.{_≡_, refl, _∙_}
-use Prim.Native.Nat.{_-_, _≤_}
+use Prim.Native.Nat.{_-_}
 use native.Mathlib.Omega.{arith}
 use borrow.Author.Needs.{needs}
-use lib.ListN.{length, getD}
+use lib.ListN.{length}
 use Rattle.lists.proofs.Arrays.{unmapped}
 use Rattle.words.specs.Words.{words}
 use Rattle.state.specs.Views.{noPartition}

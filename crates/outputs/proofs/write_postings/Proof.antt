@@ -1,7 +1,7 @@
 -- `outputs::write_postings` meets its contract. The invariant: writing the words of the postings from i on gives the whole. Assumes nothing.
 use mathlib.Core.List.{map}
-use mathlib.Core.Path.{_≡_, refl, ap, _∙_}
-use Prim.Native.Nat.{_-_, _≤_}
+use mathlib.Core.Path.{_≡_, refl, _∙_}
+use Prim.Native.Nat.{_-_}
 use native.Mathlib.Omega.{arith}
 use borrow.Author.Needs.{needs}
 use lib.ListN.{length, getD, take}

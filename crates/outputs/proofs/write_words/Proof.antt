@@ -1,5 +1,5 @@
 -- `outputs::write_words` meets its contract. The invariant: writing the words that are left gives the whole, and the links are as they were. Assumes nothing.
-use mathlib.Core.Path.{_≡_, refl, sym, _∙_}
+use mathlib.Core.Path.{_≡_, refl, _∙_}
 use Prim.Native.Nat.{_-_}
 use native.Mathlib.Omega.{arith}
 use borrow.Author.Needs.{needs}

@@ -1,23 +1,16 @@
 -- `merges::judging::output_ok` meets its contract. Assumes nothing.
 use mathlib.Core.Bool.{true, true≢false}
 use mathlib.Core.Path.{_≡_, refl, sym, ap, _∙_}
-use Prim.Native.Nat.{ℕ, _+_, _*_, _<_, _≤_}
+use Prim.Native.Nat.{_*_, _<_}
 use native.Mathlib.Omega.{arith}
 use borrow.Author.Needs.{needs}
 use borrow.Author.Tests.{not-true, not-false, eqb-true}
-use lib.ListN.{length}
-use Rattle.lists.specs.All.{AllOf}
 use Rattle.words.specs.Words.{words}
-use Rattle.postings.specs.Merge.{nonzero, pairs}
 use Rattle.state.specs.Views.{blocks, finished}
 use Rattle.card.specs.Chains.{blocksFor, chainRule}
-use Rattle.card.specs.Cursors.{Chained}
 use Rattle.card.proofs.Seeking.{rule-chained}
-use Rattle.partitions.specs.Reading.{inPartitions}
-use Rattle.partitions.specs.Terms.{Readable}
-use Rattle.inputs.specs.Judging.{inputsFormed}
 use Rattle.drafts.specs.Drafted.{standsApart}
-use Rattle.merges.specs.Merging.{inputs, taking}
+use Rattle.merges.specs.Merging.{inputs}
 use Rattle.merges.specs.Acting.{lengthFrom}
 use Rattle.merges.proofs.Choosing.{finished-of}
 use Rattle.merges.proofs.Merged.{all-chained}

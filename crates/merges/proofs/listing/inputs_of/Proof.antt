@@ -1,18 +1,15 @@
 -- `merges::listing::inputs_of` meets its contract. Assumes nothing.
 use denote.Enum.Declared.{tagOf}
-use mathlib.Core.List.{[], _∷_, _++_}
 use mathlib.Core.Path.{_≡_, refl, sym, ap, _∙_}
-use Prim.Native.Nat.{_+_, _≤_}
 use native.Mathlib.Omega.{arith}
-use lib.ListN.{length, getD, take, drop}
+use lib.ListN.{length}
 use lib.Seq.{length-take-le}
 use borrow.Author.Needs.{needs}
-use borrow.Author.Tests.{eq-eqb, ne-eqb}
 use Rattle.lists.proofs.Arrays.{unmapped}
 use Rattle.state.specs.Views.{finished, partitionsOf}
-use Rattle.state.specs.Levels.{dueAt, nextLevel, dueLevels, placeOf, oldest, replaced}
+use Rattle.state.specs.Levels.{dueLevels}
 use Rattle.state.proofs.Due.{the-type}
-use Rattle.merges.proofs.Choosing.{levelOf, due-is, due-none, due-low, due-within, due-inputs, due-level, due-replaced, due-some}
+use Rattle.merges.proofs.Choosing.{levelOf, due-is, due-none, due-within, due-inputs, due-level}
 use Rattle.merges.proofs.listing.inputs_of.Statement.{statement}
 use Rattle.merges.proofs.listing.inputs_of.Tie as tie
 

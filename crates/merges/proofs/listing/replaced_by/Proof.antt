@@ -1,18 +1,16 @@
 -- `merges::listing::replaced_by` meets its contract. Assumes nothing.
 use denote.Enum.Declared.{tagOf}
-use mathlib.Core.List.{[], _∷_, _++_}
+use mathlib.Core.List.{[], _∷_}
 use mathlib.Core.Path.{_≡_, refl, sym, ap, _∙_}
-use Prim.Native.Nat.{_+_, _≤_}
 use native.Mathlib.Omega.{arith}
-use lib.ListN.{length, getD, take, drop}
+use lib.ListN.{length}
 use lib.Seq.{length-take-le}
 use borrow.Author.Needs.{needs}
-use borrow.Author.Tests.{eq-eqb, ne-eqb}
 use Rattle.lists.proofs.Arrays.{unmapped}
 use Rattle.state.specs.Views.{finished, partitionsOf}
-use Rattle.state.specs.Levels.{dueAt, nextLevel, dueLevels, placeOf, oldest, replaced}
+use Rattle.state.specs.Levels.{dueLevels}
 use Rattle.state.proofs.Due.{the-type}
-use Rattle.merges.proofs.Choosing.{levelOf, due-is, due-none, due-low, due-within, due-inputs, due-level, due-replaced, due-some}
+use Rattle.merges.proofs.Choosing.{levelOf, due-is, due-none, due-within, due-level, due-replaced, due-some}
 use Rattle.merges.proofs.listing.replaced_by.Statement.{statement}
 use Rattle.merges.proofs.listing.replaced_by.Tie as tie
 

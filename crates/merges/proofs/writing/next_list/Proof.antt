@@ -1,5 +1,5 @@
 -- `merges::writing::next_list` meets its contract. Assumes nothing.
-use mathlib.Core.Path.{_≡_, _∙_}
+use mathlib.Core.Path.{_∙_}
 use lib.Dec.{eqb}
 use Rattle.lists.proofs.Bools.{by-test}
 use borrow.Author.Needs.{needs}

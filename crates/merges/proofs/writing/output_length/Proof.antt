@@ -1,6 +1,4 @@
 -- `merges::writing::output_length` meets its contract. Assumes nothing.
-use mathlib.Core.Path.{_≡_}
-use native.Mathlib.Omega.{arith}
 use borrow.Author.Needs.{needs}
 use borrow.Author.Tests.{eq-eqb, ne-eqb}
 use Rattle.merges.proofs.writing.output_length.Statement.{statement}

@@ -1,17 +1,16 @@
 -- `merges::writing::write_step` meets its contract. Assumes nothing.
 use mathlib.Core.Logic.{⊎-elim}
-use mathlib.Core.Path.{_≡_, refl, sym, ap, _∙_}
-use Prim.Native.Nat.{ℕ, suc, _*_, _%_, _<_}
+use mathlib.Core.Path.{_≡_, sym, ap, _∙_}
+use Prim.Native.Nat.{ℕ, suc, _%_, _<_}
 use native.Mathlib.Omega.{arith}
 use borrow.Author.Needs.{needs}
 use lib.ListN.{length, getD}
 use Rattle.words.specs.Words.{words, bytes}
-use Rattle.words.proofs.Views.{length-words, bytes-words}
+use Rattle.words.proofs.Views.{bytes-words}
 use Rattle.state.specs.Views.{finished}
 use Rattle.card.specs.Chains.{chain}
-use Rattle.card.specs.Writes.{store, release}
+use Rattle.card.specs.Writes.{store}
 use Rattle.card.proofs.Stores.{length-store}
-use Rattle.partitions.specs.Formed.{chainsOf}
 use Rattle.merges.specs.Merging.{inputs, taking, outputContent}
 use Rattle.merges.specs.Step.{writtenOn}
 use Rattle.merges.proofs.Choosing.{finished-of}
