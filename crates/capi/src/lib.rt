@@ -207,7 +207,7 @@ pub extern "C" fn gemsilver_query(
         return 1;
     }
     let s = images::read_state(image);
-    let r = queries::search(s, card, register, ids, hits.len() / 8);
+    let r = engine::query_value(s, card, register, ids, hits.len() / 8);
     put_hits(hits, r.top);
     let answer = r.answer;
     found_number(answer)
@@ -223,7 +223,7 @@ pub extern "C" fn gemsilver_remove(image: &mut [u8], card: &mut [u8], window: u3
         return 1;
     }
     let s = images::read_state(image);
-    let r = removals::remove(s, card, window);
+    let r = engine::remove(s, card, window);
     let reply = r.reply;
     settle(image, reply, r.state)
 }
@@ -238,7 +238,7 @@ pub extern "C" fn gemsilver_step(image: &mut [u8], card: &mut [u8]) -> u32
         return 1;
     }
     let s = images::read_state(image);
-    let r = merges::step(s, card);
+    let r = engine::step_value(s, card);
     let reply = r.reply;
     settle(image, reply, r.state)
 }

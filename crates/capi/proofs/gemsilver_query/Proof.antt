@@ -23,8 +23,8 @@ returns c = tells-stopped _ _ 1 _ (ap not (sym (c .before .image-ok .ensures)) �
 read-state-requires : tie.Need-read-state-requires
 read-state-requires c κs = sym (c .before .image-ok .ensures) ∙ not-false _ (c .if1 .left)
 
-search-requires : tie.Need-search-requires
-search-requires c κs = search needs
+query-value-requires : tie.Need-query-value-requires
+query-value-requires c κs = search needs
 
 put-hits-requires : tie.Need-put-hits-requires
 put-hits-requires c κs = search needs
@@ -40,7 +40,7 @@ unfolding queryOn
 returns-2 c =
     let s = c .before .before .before .before .before .before .before .before .before .before .before .before .before .args in
     let read = c .before .before .before .before .before .before .read-state .ensures in
-    let r = c .before .before .before .before .before .search in
+    let r = c .before .before .before .before .before .query-value in
     let w = c .before .before .before .put-hits .ensures in
     let g = on-query (probeOf (stateOn (s .image .now)) (s .card .now) (s .register .now)) (map now (now (s .ids))) (s .hits .now) (λ i. omega (arith, c .before .before .before .before .before .before .before .before .before .slice-known .given i)) (r .result .answer) (r .result .top) (w .1) (rw read at (r .ensures)) in
     tells-passed _ _ 1 _ _ _ (ap not (sym (c .before .before .before .before .before .before .before .before .image-ok .ensures)) ∙ c .before .before .before .before .before .before .before .if1 .left)
@@ -53,7 +53,7 @@ gemsilver-query-spec =
     image-ok-requires
     returns
     read-state-requires
-    search-requires
+    query-value-requires
     put-hits-requires
     found-number-requires
     same-length

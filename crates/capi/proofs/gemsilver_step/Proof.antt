@@ -26,8 +26,8 @@ returns c = stopped _ 1 _ (ap not (sym (c .before .image-ok .ensures)) ∙ c .if
 read-state-requires : tie.Need-read-state-requires
 read-state-requires c κs = sym (c .before .before .image-ok .ensures) ∙ not-false _ (c .before .if1 .left)
 
-step-requires : tie.Need-step-requires
-step-requires c κs = search needs
+step-value-requires : tie.Need-step-value-requires
+step-value-requires c κs = search needs
 
 settle-requires : tie.Need-settle-requires
 settle-requires c κs = image-length (c .before .before .before .before .before .before .before .before .before .before .before .before .args .image .now) (sym (c .before .before .before .before .before .before .before .before .image-ok .ensures) ∙ not-false _ (c .before .before .before .before .before .before .before .if1 .left))
@@ -45,7 +45,7 @@ returns-2 c =
     let ok = sym (c .before .before .before .before .before .before .before .before .before .before .before .image-ok .ensures) ∙ not-false _ (c .before .before .before .before .before .before .before .before .before .before .if1 .left) in
     let back = imaged-back (s .image .now) (λ i. omega (arith, c .before .before .before .before .before .before .before .before .before .before .before .before .before .before .slice-known .given i)) ok in
     let read = c .before .before .before .before .before .before .before .before .read-state .ensures in
-    let r = c .before .before .before .before .before .before .step in
+    let r = c .before .before .before .before .before .before .step-value in
     let out = c .before .before .settle in
     passed _ 1 _ (ap not (sym (c .before .before .before .before .before .before .before .before .before .before .before .image-ok .ensures)) ∙ c .before .before .before .before .before .before .before .before .before .before .if1 .left)
     (rw (out .ensures .0, out .ensures .1)
@@ -59,7 +59,7 @@ gemsilver-step-spec =
     same-length
     returns
     read-state-requires
-    step-requires
+    step-value-requires
     settle-requires
     same-length-2
     same-length-3
