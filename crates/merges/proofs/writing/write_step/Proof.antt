@@ -33,9 +33,9 @@ release-inputs-requires c κs =
     let k = outputContent (s .args .s) (taking W (s .args .s)) (suc (s .args .s .merge .steps)) in
     let bs = chain W (s .args .o .first) (s .args .o .blocks) in
     let w : words (i .if1 .card) ≡ store W bs k =
-    ⊎-elim (λ w. ap words (w .5) ∙ w .2 .ensures) (λ w. ap words (w .1) ∙ none-stored W (s .args .s) (s .args .is) (s .args .t) (s .pre .1) (s .args .o) (s .args .b) (s .pre .2) k (omega (arith, w .0 .left))) (i .if1 .came) in
+    ⊎-elim {C = words (i .if1 .card) ≡ store W bs k} (λ w. ap words (w .5) ∙ w .2 .ensures) (λ w. ap words (w .1) ∙ none-stored W (s .args .s) (s .args .is) (s .args .t) (s .pre .1) (s .args .o) (s .args .b) (s .pre .2) k (omega (arith, w .0 .left))) (i .if1 .came) in
     let l : length (i .if1 .card) ≡ length (s .args .card .now) =
-    ⊎-elim (λ w. ap length (w .5) ∙ w .2 .kept .1 .0) (λ w. ap length (w .1)) (i .if1 .came) in
+    ⊎-elim {C = length (i .if1 .card) ≡ length (s .args .card .now)} (λ w. ap length (w .5) ∙ w .2 .kept .1 .0) (λ w. ap length (w .1)) (i .if1 .came) in
     let f = ap finished (s .pre .1 .are) ∙ finished-of is in
     let y = inputs-free W (s .args .s) (s .args .is) (s .args .t) (s .pre .1) (store W bs k) (length-store W bs k) (step-kept W (s .args .s) (s .args .is) (s .args .t) (s .pre .1) (s .args .o) (s .args .b) (s .pre .2) k) in
     (omega (arith, l, s .pre .0), inputs-few W (s .args .s) (s .args .is) (s .args .t) (s .pre .1), rw (f, w) (y .0), rw (f, w) (y .1))
@@ -49,9 +49,9 @@ same-length c =
     let k = outputContent (s .args .s) (taking W (s .args .s)) (suc (s .args .s .merge .steps)) in
     let bs = chain W (s .args .o .first) (s .args .o .blocks) in
     let w : words (i .if1 .card) ≡ store W bs k =
-    ⊎-elim (λ w. ap words (w .5) ∙ w .2 .ensures) (λ w. ap words (w .1) ∙ none-stored W (s .args .s) (s .args .is) (s .args .t) (s .pre .1) (s .args .o) (s .args .b) (s .pre .2) k (omega (arith, w .0 .left))) (i .if1 .came) in
+    ⊎-elim {C = words (i .if1 .card) ≡ store W bs k} (λ w. ap words (w .5) ∙ w .2 .ensures) (λ w. ap words (w .1) ∙ none-stored W (s .args .s) (s .args .is) (s .args .t) (s .pre .1) (s .args .o) (s .args .b) (s .pre .2) k (omega (arith, w .0 .left))) (i .if1 .came) in
     let l : length (i .if1 .card) ≡ length (s .args .card .now) =
-    ⊎-elim (λ w. ap length (w .5) ∙ w .2 .kept .1 .0) (λ w. ap length (w .1)) (i .if1 .came) in
+    ⊎-elim {C = length (i .if1 .card) ≡ length (s .args .card .now)} (λ w. ap length (w .5) ∙ w .2 .kept .1 .0) (λ w. ap length (w .1)) (i .if1 .came) in
     c .before .before .release-inputs .kept .0 ∙ l
 
 returns : tie.Need-returns
@@ -63,9 +63,9 @@ returns c =
     let k = outputContent (s .args .s) (taking W (s .args .s)) (suc (s .args .s .merge .steps)) in
     let bs = chain W (s .args .o .first) (s .args .o .blocks) in
     let w : words (i .if1 .card) ≡ store W bs k =
-    ⊎-elim (λ w. ap words (w .5) ∙ w .2 .ensures) (λ w. ap words (w .1) ∙ none-stored W (s .args .s) (s .args .is) (s .args .t) (s .pre .1) (s .args .o) (s .args .b) (s .pre .2) k (omega (arith, w .0 .left))) (i .if1 .came) in
+    ⊎-elim {C = words (i .if1 .card) ≡ store W bs k} (λ w. ap words (w .5) ∙ w .2 .ensures) (λ w. ap words (w .1) ∙ none-stored W (s .args .s) (s .args .is) (s .args .t) (s .pre .1) (s .args .o) (s .args .b) (s .pre .2) k (omega (arith, w .0 .left))) (i .if1 .came) in
     let l : length (i .if1 .card) ≡ length (s .args .card .now) =
-    ⊎-elim (λ w. ap length (w .5) ∙ w .2 .kept .1 .0) (λ w. ap length (w .1)) (i .if1 .came) in
+    ⊎-elim {C = length (i .if1 .card) ≡ length (s .args .card .now)} (λ w. ap length (w .5) ∙ w .2 .kept .1 .0) (λ w. ap length (w .1)) (i .if1 .came) in
     let freed = c .before .before .release-inputs in
     let f = ap finished (s .pre .1 .are) ∙ finished-of is in
     let y = inputs-free W (s .args .s) (s .args .is) (s .args .t) (s .pre .1) (store W bs k) (length-store W bs k) (step-kept W (s .args .s) (s .args .is) (s .args .t) (s .pre .1) (s .args .o) (s .args .b) (s .pre .2) k) in
@@ -84,9 +84,9 @@ same-length-2 c =
     let k = outputContent (s .args .s) (taking W (s .args .s)) (suc (s .args .s .merge .steps)) in
     let bs = chain W (s .args .o .first) (s .args .o .blocks) in
     let w : words (i .if1 .card) ≡ store W bs k =
-    ⊎-elim (λ w. ap words (w .5) ∙ w .2 .ensures) (λ w. ap words (w .1) ∙ none-stored W (s .args .s) (s .args .is) (s .args .t) (s .pre .1) (s .args .o) (s .args .b) (s .pre .2) k (omega (arith, w .0 .left))) (i .if1 .came) in
+    ⊎-elim {C = words (i .if1 .card) ≡ store W bs k} (λ w. ap words (w .5) ∙ w .2 .ensures) (λ w. ap words (w .1) ∙ none-stored W (s .args .s) (s .args .is) (s .args .t) (s .pre .1) (s .args .o) (s .args .b) (s .pre .2) k (omega (arith, w .0 .left))) (i .if1 .came) in
     let l : length (i .if1 .card) ≡ length (s .args .card .now) =
-    ⊎-elim (λ w. ap length (w .5) ∙ w .2 .kept .1 .0) (λ w. ap length (w .1)) (i .if1 .came) in
+    ⊎-elim {C = length (i .if1 .card) ≡ length (s .args .card .now)} (λ w. ap length (w .5) ∙ w .2 .kept .1 .0) (λ w. ap length (w .1)) (i .if1 .came) in
     l
 
 returns-2 : tie.Need-returns-2
@@ -98,9 +98,9 @@ returns-2 c =
     let k = outputContent (s .args .s) (taking W (s .args .s)) (suc (s .args .s .merge .steps)) in
     let bs = chain W (s .args .o .first) (s .args .o .blocks) in
     let w : words (i .if1 .card) ≡ store W bs k =
-    ⊎-elim (λ w. ap words (w .5) ∙ w .2 .ensures) (λ w. ap words (w .1) ∙ none-stored W (s .args .s) (s .args .is) (s .args .t) (s .pre .1) (s .args .o) (s .args .b) (s .pre .2) k (omega (arith, w .0 .left))) (i .if1 .came) in
+    ⊎-elim {C = words (i .if1 .card) ≡ store W bs k} (λ w. ap words (w .5) ∙ w .2 .ensures) (λ w. ap words (w .1) ∙ none-stored W (s .args .s) (s .args .is) (s .args .t) (s .pre .1) (s .args .o) (s .args .b) (s .pre .2) k (omega (arith, w .0 .left))) (i .if1 .came) in
     let l : length (i .if1 .card) ≡ length (s .args .card .now) =
-    ⊎-elim (λ w. ap length (w .5) ∙ w .2 .kept .1 .0) (λ w. ap length (w .1)) (i .if1 .came) in
+    ⊎-elim {C = length (i .if1 .card) ≡ length (s .args .card .now)} (λ w. ap length (w .5) ∙ w .2 .kept .1 .0) (λ w. ap length (w .1)) (i .if1 .came) in
     let e = sym (c .before .is-last .ensures ∙ last-told W (s .args .s) (s .args .is) (s .args .t) (s .pre .1) (s .args .o) (s .args .b) (s .pre .2)) ∙ c .if2 .left in
     let m : length (i .if1 .card) % 4 ≡ 0 = omega (arith, l, s .pre .0) in
     let low : (n : ℕ) → getD (i .if1 .card) n 0 < 256 =
