@@ -27,7 +27,8 @@ use Rattle.partitions.specs.Reading.{postingsOf, stored}
 use Rattle.partitions.specs.Formed.{partitionRule, partitionsFormed}
 use Rattle.partitions.proofs.Rules.{Writable}
 use Rattle.partitions.proofs.Kept.{recordOf, rule-written, postings-written}
-use Rattle.windows.specs.Calls.{fresh, eventOf}
+use Rattle.windows.specs.Calls.{fresh, startOf, unstarted, eventOf}
+use Rattle.windows.proofs.Refused.{start-unchanged}
 use Rattle.queries.specs.Query.{countIn, numbers, takenUp, queryFormed, fill, queryOf}
 use Rattle.queries.proofs.Refused.{query-unchanged}
 use Rattle.engine.specs.Calls.{Call, probeCall, afterwards}
@@ -60,6 +61,10 @@ refused-unchanged p c n e = call-unchanged p c .same n e
 -- A refused query leaves the lent list as it was.
 pub refused-list-unchanged : (p : Probe) (ns : List Name) (places : List Hit) (n : ℕ) → answerOf (queryOf p ns places) ≡ refused n → stateOf places (queryOf p ns places) ≡ places
 refused-list-unchanged p ns places n e = query-unchanged p ns places .same n e
+
+-- A refused start leaves both buffers as they were, and gives a state of zeros.
+pub refused-start : (card register : List ℕ) (n : ℕ) → answerOf (startOf card register) ≡ refused n → stateOf (unstarted card register) (startOf card register) ≡ unstarted card register
+refused-start card register n e = start-unchanged card register .same n e
 
 -- On a card of bytes a call, refused or not, keeps the card's length, and each byte stays, or was 255, or goes to 255 with its whole block.
 pub bytes-move : (p : Probe) → Below 256 (p .card) → (c : Call) → (length (stateOf p (probeCall p c) .card) ≡ length (p .card)) × MovesBytes (p .card) (stateOf p (probeCall p c) .card)
