@@ -212,7 +212,7 @@ pub fn damage(probe: &mut Probe, rng: &mut Rng) {
     }
 }
 
-/// Any call, with windows up to a little more than `last`.
+/// Any call. Windows to be removed are up to a little more than `last`, and rather near it.
 pub fn any_call(rng: &mut Rng, names: usize, last: usize) -> Call {
     match rng.below(20) {
         0 | 1 => Call::Open,
@@ -221,7 +221,8 @@ pub fn any_call(rng: &mut Rng, names: usize, last: usize) -> Call {
         6..8 => Call::Flush,
         8..11 => Call::Remove(match rng.below(8) {
             0 => rng.pick(&[0, 65_535, 65_536, u32::MAX]),
-            _ => rng.below(last + 3) as u32,
+            1..4 => rng.below(last + 3) as u32,
+            _ => (last + 1).saturating_sub(rng.below(12)) as u32,
         }),
         11..15 => Call::Step,
         _ => any_query(rng, names),

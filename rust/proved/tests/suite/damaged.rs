@@ -38,12 +38,13 @@ fn both_engines_bear_damage_alike() {
         for _ in 0..plan.calls {
             history.act(&plan, &mut on_the_way);
             let mut probe = history.pair.probe().clone();
+            let last = word(&probe.image, at::LAST) as usize;
             for _ in 0..1 + rng.below(2) {
                 damage(&mut probe, &mut rng);
             }
             let mut pair = Pair::of(probe);
             for _ in 0..3 {
-                let call = any_call(&mut rng, plan.names, 60);
+                let call = any_call(&mut rng, plan.names, last);
                 let _ = pair.make(&call, &mut tally);
             }
         }
@@ -78,9 +79,9 @@ fn both_engines_take_foreign_probes_alike() {
     tally.print("foreign");
     expect_all(&tally, 20);
     tally.expect("open", &[6], 20);
-    tally.expect("event", &[6, 9, 10, 11, 12], 10);
+    tally.expect("event", &[6, 9, 10, 11, 12], 20);
     tally.expect("flush", &[10, 11, 12], 20);
-    tally.expect("remove", &[10, 11, 12], 5);
+    tally.expect("remove", &[10, 11, 12], 10);
 }
 
 /// Partitions to be merged into one of at most two blocks, some beside an older one and a newer one.

@@ -118,7 +118,7 @@ pub fn levels(rng: &mut Rng, most: usize) -> Vec<u16> {
         } else {
             rng.below(limit + 1)
         };
-        if rng.one_in(2) {
+        if level == 0 || rng.one_in(3) {
             levels.extend(vec![level; count]);
         }
     }
