@@ -6,6 +6,7 @@ ghost use lib.ListN.{length};
 ghost use Rattle.windows.specs.Calls.{openOf, closeOf, eventOf, flushOf};
 ghost use Rattle.windows.specs.Promises.{storeOf, probeOf};
 ghost use Rattle.removals.specs.Removal.{removeOf};
+ghost use Rattle.merges.specs.Step.{stepOf};
 ghost use Rattle.commands.specs.Answering.{Tells, Told};
 
 // The state after a call, and how many bytes its text has.
@@ -66,7 +67,7 @@ pub fn remove(s: State, card: &mut [u8], window: u32, out: &mut [u8]) -> Done
     ensures { λ r. ⌜ Tells (storeOf s (now (card .entry))) (removeOf (storeOf s (now (card .entry))) window)
         (now (out .exit)) (r .used) (storeOf (r .state) (now (card .exit))) ⌝ }
 {
-    let r = removals::remove(s, card, window);
+    let r = engine::remove(s, card, window);
     let reply = r.reply;
     let state = r.state;
     let used = texts::writing::write_reply(out, reply);
@@ -92,6 +93,22 @@ pub fn flush(s: State, card: &mut [u8], out: &mut [u8]) -> Done
     }
 }
 
+// A merge step.
+pub fn step(s: State, card: &mut [u8], out: &mut [u8]) -> Done
+    requires { ⌜ 1024 ≤ length (now out) ⌝ }
+    ensures { λ r. ⌜ Tells (storeOf s (now (card .entry))) (stepOf (storeOf s (now (card .entry))))
+        (now (out .exit)) (r .used) (storeOf (r .state) (now (card .exit))) ⌝ }
+{
+    let r = engine::step_value(s, card);
+    let reply = r.reply;
+    let state = r.state;
+    let used = texts::writing::write_reply(out, reply);
+    Done {
+        state: state,
+        used: used,
+    }
+}
+
 // A query with so many places; it leaves everything as it is.
 pub fn query(
     s: State,
@@ -104,7 +121,7 @@ pub fn query(
     requires { ⌜ 1024 ≤ length (now out) ⌝ }
     ensures { λ r. ⌜ Told (probeOf s (now (card .entry)) (now (register .entry))) (map now (now (ids .entry))) places (now (out .exit)) r ⌝ }
 {
-    let r = queries::search(s, card, register, ids, places as usize);
+    let r = engine::query_value(s, card, register, ids, places as usize);
     let answer = r.answer;
     let top = r.top;
     let hits = top.hits;
