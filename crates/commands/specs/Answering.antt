@@ -1,5 +1,5 @@
 -- What a line is answered, and what is there afterwards.
-use mathlib.Core.List.{List, [], _∷_}
+use mathlib.Core.List.{List}
 use mathlib.Core.Option.{Option, none, some}
 use mathlib.Core.Path.{_≡_}
 use Prim.Native.Nat.{ℕ}
@@ -8,7 +8,6 @@ use Rattle.identifiers.specs.Names.{Name}
 use Rattle.state.specs.Probe.{Probe}
 use Rattle.engine.specs.Calls.{Call, Query, probeCall}
 use Rattle.texts.specs.Texts.{answerText, unknownText, Says}
-use Rattle.commands.specs.Commands.{commandOf}
 
 -- the text for a call, and for a line that says none
 unfoldable pub textOf : Probe → Option Call → List ℕ
@@ -19,11 +18,6 @@ textOf p (some c) = answerText (answerOf (probeCall p c))
 unfoldable pub leftOf : Probe → Option Call → Probe
 leftOf p none = p
 leftOf p (some c) = stateOf p (probeCall p c)
-
--- the program: the texts of its lines, one after another, each on what the one before left
-unfoldable pub transcript : Probe → List (List ℕ) → List (List ℕ)
-transcript p [] = []
-transcript p (line ∷ lines) = textOf p (commandOf line) ∷ transcript (leftOf p (commandOf line)) lines
 
 -- the first n bytes of a buffer are an outcome's text, and `after` is there then
 pub record Tells {S : Type 0} (s : S) (o : Outcome S) (buffer : List ℕ) (n : ℕ) (after : S) : Type 0 where

@@ -1,4 +1,3 @@
-pub mod Quick
 pub mod Refused
 pub mod Ranking
 pub mod Tops
