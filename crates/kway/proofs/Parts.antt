@@ -1,0 +1,121 @@
+-- A part put back into an array: it stands in its place, and the others are as they were.
+use mathlib.Core.List.{List, [], _∷_, _++_, map}
+use mathlib.Core.Logic.{⊎-elim}
+use mathlib.Core.Path.{_≡_, refl, sym, ap, _∙_}
+use Prim.Native.Nat.{ℕ, zero, suc, _+_, _-_, _*_, _<_, _≤_}
+use native.Mathlib.Nat.{eq-or-lt-of-le, mul-suc, mul-le-mul-left}
+use native.Mathlib.Numerals.{add-one}
+use native.Mathlib.Omega.{arith}
+use lib.ListN.{length, take, drop, take-append-drop, length-drop}
+use lib.Seq.{length-take-le, take-at, drop-at, take-append-le, drop-append-le, drop-drop}
+use borrow.Rule.Slice.PartMut.{putMid, same-len-mid, mid-len, drop-put}
+use Rattle.lists.specs.All.{AllOf}
+use Rattle.kway.specs.Parts.{part, parts}
+
+-- the array H with P as its part i
+abbrev pub putIn : ℕ → List ℕ → List ℕ → ℕ → List ℕ
+putIn w H P i = putMid (w * i) (w * i + w - w * i) H P
+
+-- the end of an earlier part
+pub ends : (w j i : ℕ) → j < i → w * j + w ≤ w * i
+ends w j i h = let a = mul-le-mul-left {m = suc j} {n = i} w h in let b = mul-suc w j in omega arith
+
+pub width : (w i : ℕ) → w * i + w - w * i ≡ w
+width w i = omega arith
+
+module _ (w : ℕ) (H P : List ℕ) (i : ℕ) (inside : w * i + w ≤ length H) (long : length P ≡ w) where
+  abbrev after : List ℕ
+  after = putIn w H P i
+
+  front : length (take (w * i) H) ≡ w * i
+  front = length-take-le (w * i) H (omega arith)
+
+  pub put-length : length after ≡ length H
+  put-length = same-len-mid (w * i) (w * i + w - w * i) H P (long ∙ sym (width w i) ∙ sym (mid-len (w * i) (w * i + w) H inside))
+
+  pub put-here : part w i after ≡ P
+  put-here = rw (drop-at (take (w * i) H) (P ++ drop (w * i + w - w * i) (drop (w * i) H)) (w * i) front) (take-at P _ w long)
+
+  -- what stands before depends on the front alone
+  earlier : (R : List ℕ) (j : ℕ) → j < i → part w j (take (w * i) H ++ R) ≡ part w j (take (w * i) H)
+  earlier R j h =
+      let l = length-drop (w * j) (take (w * i) H) in
+      let e = ends w j i h in
+      rw (drop-append-le (w * j) (take (w * i) H) R (omega (arith, front))) (take-append-le w (drop (w * j) (take (w * i) H)) R (omega (arith, front, l)))
+
+  pub put-before : (j : ℕ) → j < i → part w j after ≡ part w j H
+  put-before j h = earlier _ j h ∙ sym (earlier (drop (w * i) H) j h) ∙ ap (part w j) (take-append-drop (w * i) H)
+
+  pub put-later : (j : ℕ) → i < j → part w j after ≡ part w j H
+  put-later j h =
+      let b = ends w i j h in
+      let e : w * i + w + (w * j - (w * i + w)) ≡ w * j = omega arith in
+      let on : (L : List ℕ) → drop (w * j) L ≡ drop (w * j - (w * i + w)) (drop (w * i + w) L) = λ L. sym (drop-drop (w * j - (w * i + w)) (w * i + w) L ∙ rw e) in
+      rw (on after, on H, drop-put (w * i) (w * i + w) H P (omega arith) inside (long ∙ sym (width w i)))
+
+-- ---- one more at the end
+
+pub map-more : {A B : Type 0} (f : A → B) (l : List A) (x : A) → map f (l ++ (x ∷ [])) ≡ map f l ++ (f x ∷ [])
+map-more f [] x = refl
+map-more f (y ∷ l) x = rw (map-more f l x)
+
+pub all-more : {A : Type 0} (P : A → Type 0) (l : List A) (x : A) → AllOf P l → P x → AllOf P (l ++ (x ∷ []))
+unfolding AllOf
+all-more P [] x a p = (p, tt)
+all-more P (y ∷ l) x a p = (a .0, all-more P l x (a .1) p)
+
+all-less : {A : Type 0} (P : A → Type 0) (l : List A) (x : A) → AllOf P (l ++ (x ∷ [])) → AllOf P l × P x
+unfolding AllOf
+all-less P [] x a = (tt, a .0)
+all-less P (y ∷ l) x a = let r = all-less P l x (a .1) in ((a .0, r .0), r .1)
+
+-- each of the first n
+pub all-at : (K : List ℕ → Type 0) (w n : ℕ) (H : List ℕ) → AllOf K (parts w n H) → (i : ℕ) → i < n → K (part w i H)
+unfolding parts
+all-at K w zero H a i h = absurd (omega arith)
+all-at K w (suc n) H a i h =
+    let r = all-less K (parts w n H) (part w n H) a in
+    ⊎-elim (λ q. rw q (r .1)) (λ q. all-at K w n H (r .0) i q) (eq-or-lt-of-le {n = i} {m = n} (omega arith))
+
+-- the first n are the same where each is
+parts-same : (w n : ℕ) (H H′ : List ℕ) → ((j : ℕ) → j < n → part w j H′ ≡ part w j H) → parts w n H′ ≡ parts w n H
+unfolding parts
+parts-same w zero H H′ e = refl
+parts-same w (suc n) H H′ e = rw (parts-same w n H H′ (λ j h. e j (omega arith)), e n (omega arith))
+
+pub views-more : {X : Type 0} (view : List ℕ → X) (w n : ℕ) (H : List ℕ) → map view (parts w (n + 1) H) ≡ map view (parts w n H) ++ (view (part w n H) ∷ [])
+unfolding parts
+views-more view w n H = rw (add-one n) (map-more view (parts w n H) (part w n H))
+
+-- ---- parts that are moved in place, from the first on: view is what a part stands for, K what holds of it, f the move
+
+pub record Moved {X : Type 0} (view : List ℕ → X) (K : List ℕ → Type 0) (f : X → X) (w : ℕ) (H₀ : List ℕ) (i : ℕ) (H : List ℕ) : Type 0 where
+  pub long : length H ≡ length H₀
+  pub later : (j : ℕ) → i ≤ j → part w j H ≡ part w j H₀
+  pub kept : AllOf K (parts w i H)
+  pub moved : map view (parts w i H) ≡ map f (map view (parts w i H₀))
+
+module _ {X : Type 0} (view : List ℕ → X) (K : List ℕ → Type 0) (f : X → X) (w : ℕ) (H₀ : List ℕ) where
+  pub moved-none : Moved view K f w H₀ 0 H₀
+  unfolding parts AllOf
+  moved-none = record { long = refl; later = λ j h. refl; kept = tt; moved = refl }
+
+  module _ (i : ℕ) (H : List ℕ) (t : Moved view K f w H₀ i H) (fits : w * i + w ≤ length H₀) (h : List ℕ) (long : length h ≡ w) where
+    inside : w * i + w ≤ length H
+    inside = omega (arith, t .long)
+
+    same : parts w i (putIn w H h i) ≡ parts w i H
+    same = parts-same w i H (putIn w H h i) (put-before w H h i inside long)
+
+    -- what the parts stand for, with the new one
+    pub now-more : map view (parts w (i + 1) (putIn w H h i)) ≡ map view (parts w i H) ++ (view h ∷ [])
+    now-more = views-more view w i (putIn w H h i) ∙ rw (same, put-here w H h i inside long)
+
+    pub moved-more : K h → view h ≡ f (view (part w i H₀)) → Moved view K f w H₀ (i + 1) (putIn w H h i)
+    unfolding parts
+    moved-more g e = record {
+      long = put-length w H h i inside long ∙ t .long;
+      later = λ j l. put-later w H h i inside long j (omega arith) ∙ t .later j (omega arith);
+      kept = rw (add-one i) (all-more K (parts w i (putIn w H h i)) (part w i (putIn w H h i)) (rw same (t .kept)) (rw (put-here w H h i inside long) g));
+      moved = now-more ∙ rw (t .moved, e, views-more view w i H₀) (sym (map-more f (map view (parts w i H₀)) (view (part w i H₀))));
+    }
