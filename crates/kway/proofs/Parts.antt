@@ -6,8 +6,8 @@ use Prim.Native.Nat.{ℕ, zero, suc, _+_, _-_, _*_, _<_, _≤_}
 use native.Mathlib.Nat.{eq-or-lt-of-le, mul-suc, mul-le-mul-left}
 use native.Mathlib.Numerals.{add-one}
 use native.Mathlib.Omega.{arith}
-use lib.ListN.{length, take, drop, take-append-drop, length-drop}
-use lib.Seq.{length-take-le, take-at, drop-at, take-append-le, drop-append-le, drop-drop}
+use lib.ListN.{length, getD, take, drop, take-append-drop, length-drop}
+use lib.Seq.{length-take-le, take-at, drop-at, take-append-le, drop-append-le, drop-drop, take-suc}
 use borrow.Rule.Slice.PartMut.{putMid, same-len-mid, mid-len, drop-put}
 use Rattle.lists.specs.All.{AllOf}
 use Rattle.kway.specs.Parts.{part, parts}
@@ -118,4 +118,32 @@ module _ {X : Type 0} (view : List ℕ → X) (K : List ℕ → Type 0) (f : X �
       later = λ j l. put-later w H h i inside long j (omega arith) ∙ t .later j (omega arith);
       kept = rw (add-one i) (all-more K (parts w i (putIn w H h i)) (part w i (putIn w H h i)) (rw same (t .kept)) (rw (put-here w H h i inside long) g));
       moved = now-more ∙ rw (t .moved, e, views-more view w i H₀) (sym (map-more f (map view (parts w i H₀)) (view (part w i H₀))));
+    }
+
+-- ---- parts that are put one after another, from the first on, each for the same place of a list: view is what a part stands for, f what is to stand there
+
+pub record Opened {X Y : Type 0} (view : List ℕ → X) (K : List ℕ → Type 0) (f : Y → X) (w long₀ : ℕ) (ys : List Y) (i : ℕ) (H : List ℕ) : Type 0 where
+  pub long : length H ≡ long₀
+  pub kept : AllOf K (parts w i H)
+  pub shown : map view (parts w i H) ≡ map f (take i ys)
+
+module _ {X Y : Type 0} (view : List ℕ → X) (K : List ℕ → Type 0) (f : Y → X) (w : ℕ) (ys : List Y) where
+  pub opened-none : (H : List ℕ) → Opened view K f w (length H) ys 0 H
+  unfolding parts AllOf
+  opened-none H = record { long = refl; kept = tt; shown = refl }
+
+  module _ (H : List ℕ) (i : ℕ) (h : List ℕ) (inside : w * i + w ≤ length H) (long : length h ≡ w) where
+    others : parts w i (putIn w H h i) ≡ parts w i H
+    others = parts-same w i H (putIn w H h i) (put-before w H h i inside long)
+
+    -- what the parts stand for, with the new one
+    pub shown-more : map view (parts w (i + 1) (putIn w H h i)) ≡ map view (parts w i H) ++ (view h ∷ [])
+    shown-more = views-more view w i (putIn w H h i) ∙ rw (others, put-here w H h i inside long)
+
+    pub opened-more : (long₀ : ℕ) → Opened view K f w long₀ ys i H → i < length ys → (d : Y) → K h → view h ≡ f (getD ys i d) → Opened view K f w long₀ ys (i + 1) (putIn w H h i)
+    unfolding parts
+    opened-more long₀ t l d g e = record {
+      long = put-length w H h i inside long ∙ t .long;
+      kept = rw (add-one i) (all-more K (parts w i (putIn w H h i)) (part w i (putIn w H h i)) (rw others (t .kept)) (rw (put-here w H h i inside long) g));
+      shown = shown-more ∙ rw (t .shown, e, add-one i, take-suc ys i d l) (sym (map-more f (take i ys) (getD ys i d)));
     }

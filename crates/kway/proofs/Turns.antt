@@ -8,6 +8,7 @@ use lib.IntN.{ℤ, pos, negsuc, _+ℤ_, +ℤ-assoc, +ℤ-idl, +ℤ-idr}
 use lib.Signed.{ltZ}
 use lib.Signed.{mag}
 use lib.ListN.{length}
+use borrow.Author.Tests.{ne-eqb}
 use Rattle.lists.proofs.Sizes.{mag-sum}
 use Rattle.keyed.specs.Keys.{Item, reach, larger, topFrom, rest, headVal, headFine, headVals, headsFine}
 use Rattle.postings.specs.Sums.{isAbove}
@@ -18,6 +19,11 @@ use Rattle.kway.proofs.Parts.{putIn, views-more, Moved, moved-none, now
 pub above-test : (z : ℤ) → ltZ (pos 0) z ≡ isAbove z
 above-test (pos n) = refl
 above-test (negsuc n) = refl
+
+-- a list whose head has another key stays, and gives nothing
+pub missed : (k : ℕ) (l : List Item) → (reach l ≡ k + 1 → ⊥) → (l ≡ rest k l) × (pos 0 ≡ headVal k l) × (true ≡ headFine k l)
+missed k [] e = (refl, refl, refl)
+missed k (x ∷ l) e = let t = ne-eqb (x .key) k (λ q. e (omega arith)) in (rw t, rw t, rw t)
 
 -- ---- one more list at the end
 
@@ -32,6 +38,11 @@ fine-more k (y ∷ l) x = rw (fine-more k l x) (sym (and-assoc (headFine k y) (h
 pub top-more : (t : ℕ) (l : List (List Item)) (x : List Item) → topFrom t (l ++ (x ∷ [])) ≡ larger (topFrom t l) (reach x)
 top-more t [] x = refl
 top-more t (y ∷ l) x = top-more (larger t (reach y)) l x
+
+-- no list has a head
+pub top-none : (view : List ℕ → List Item) (w : ℕ) (H : List ℕ) → 0 ≡ topFrom 0 (map view (parts w 0 H))
+unfolding parts
+top-none view w H = refl
 
 -- ---- what stands after i turns of taking the key k
 

@@ -1,0 +1,128 @@
+-- `scans::take_one` meets its contract: another head, and one with the key.
+use mathlib.Core.Path.{_≡_, sym, ap, _∙_}
+use native.Mathlib.Omega.{arith}
+use mir.Syntax.{w16}
+use mir.Val.{SFits}
+use mir.Facts.{toZ-ofZ}
+use Rattle.words.specs.Words.{words}
+use Rattle.keyed.specs.Keys.{reach}
+use Rattle.postings.specs.declared.Posting.{Posting}
+use Rattle.scans.specs.Items.{items}
+use Rattle.kway.proofs.Turns.{missed}
+use Rattle.scans.specs.Heads.{view}
+use Rattle.scans.proofs.Placed.{some, hit}
+use borrow.Author.Needs.{needs}
+use Rattle.scans.proofs.take_one.Statement.{statement}
+use Rattle.scans.proofs.take_one.Tie as tie
+
+slice-read-top : tie.Need-slice-read-top
+slice-read-top c = search needs
+
+add-if1 : tie.Need-add-if1
+add-if1 c = search needs
+
+returns : tie.Need-returns
+returns c =
+    let s = c .before .before .before .before in
+    let W = words (s .args .card .now) in
+    let m = missed (s .args .key) (view W (s .args .head .now)) (λ q. c .if1 .taken (s .pre .0 .top ∙ q)) in
+    (s .pre .0, m .0, m .1, m .2, s .pre .0 .top)
+
+slice-read-word : tie.Need-slice-read-word
+slice-read-word c = search needs
+
+slice-read-t14 : tie.Need-slice-read-t14
+slice-read-t14 c = search needs
+
+cast-t18 : tie.Need-cast-t18
+cast-t18 c = search needs
+
+slice-read-t20 : tie.Need-slice-read-t20
+slice-read-t20 c = search needs
+
+cast-t21 : tie.Need-cast-t21
+cast-t21 c = search needs
+
+slice-read-t23 : tie.Need-slice-read-t23
+slice-read-t23 c = search needs
+
+slice-read-t14-2 : tie.Need-slice-read-t14-2
+slice-read-t14-2 c = search needs
+
+cast-t18-2 : tie.Need-cast-t18-2
+cast-t18-2 c = search needs
+
+slice-read-t23-2 : tie.Need-slice-read-t23-2
+slice-read-t23-2 c = search needs
+
+cast-t21-2 : tie.Need-cast-t21-2
+cast-t21-2 c = search needs
+
+slice-read-t20-2 : tie.Need-slice-read-t20-2
+slice-read-t20-2 c = search needs
+
+slice-read-t14-3 : tie.Need-slice-read-t14-3
+slice-read-t14-3 c = search needs
+
+cast-t18-3 : tie.Need-cast-t18-3
+cast-t18-3 c = search needs
+
+slice-read-t20-3 : tie.Need-slice-read-t20-3
+slice-read-t20-3 c = search needs
+
+reader-moved-requires : tie.Need-reader-moved-requires
+reader-moved-requires c κs =
+    let s = c .before .before .before .before .before .before .before .before .before .before .before .before .before in
+    (some (words (s .args .card .now)) (s .args .head .now) (s .pre .0) (s .args .key) (c .before .before .before .before .before .before .before .before .before .if1 .left), s .pre .0 .good)
+
+put-requires : tie.Need-put-requires
+put-requires c κs = search needs
+
+unpack-requires : tie.Need-unpack-requires
+unpack-requires c κs = search needs
+
+is-posting-requires : tie.Need-is-posting-requires
+is-posting-requires c κs = search needs
+
+same-length : tie.Need-same-length
+same-length c = search needs
+
+returns-2 : tie.Need-returns-2
+returns-2 c =
+    let s = c .before .before .before .before .before .before .before .before .before .before .before .before .before .before .before .before .before .before .before .before .before in
+    let W = words (s .args .card .now) in
+    let h = s .args .head .now in
+    let u = c .before .before .unpack in
+    let f : SFits w16 (u .result .count) = search needs in
+    let t = hit W h (s .pre .0) (s .args .key) (c .before .before .before .before .before .before .before .before .before .before .before .before .before .before .before .before .before .if1 .left) in
+    let p = c .before .before .before .before .before .put .ensures in
+    let v = p .2 ∙ ap (items W) (c .before .before .before .before .before .before .before .reader-moved .ensures .0) ∙ t .0 in
+    (p .0, v, toZ-ofZ f ∙ ap (λ (p : Posting). p .count) (u .ensures) ∙ t .1, c .before .is-posting .ensures ∙ t .2, p .3 ∙ ap reach (sym (p .2)))
+
+pub take-one-spec : {M : Type 1} → statement M
+take-one-spec =
+    tie.close
+    (tie.spec
+    slice-read-top
+    add-if1
+    returns
+    slice-read-word
+    slice-read-t14
+    cast-t18
+    slice-read-t20
+    cast-t21
+    slice-read-t23
+    slice-read-t14-2
+    cast-t18-2
+    slice-read-t23-2
+    cast-t21-2
+    slice-read-t20-2
+    slice-read-t14-3
+    cast-t18-3
+    slice-read-t20-3
+    reader-moved-requires
+    put-requires
+    unpack-requires
+    is-posting-requires
+    same-length
+    returns-2)
