@@ -5,12 +5,12 @@
 #include <string.h>
 
 static uint8_t image[GEMSILVER_IMAGE];
-static uint8_t card[32 * 4096];
-static uint8_t reg[64 * 65];
+static uint8_t card[32 * GEMSILVER_BLOCK];
+static uint8_t reg[64 * GEMSILVER_ENTRY];
 
 static void told(const char *call, uint32_t answer) {
     if (answer != 0) {
-        printf("%s refused: %u\n", call, answer);
+        printf("%s refused: %u, %s\n", call, (unsigned)answer, gemsilver_refusal_text(answer));
     }
 }
 
@@ -19,22 +19,18 @@ static void event(const char *identifier) {
                                   strlen(identifier)));
 }
 
-static uint32_t word(const uint8_t *bytes) {
-    return bytes[0] | (uint32_t)bytes[1] << 8 | (uint32_t)bytes[2] << 16 | (uint32_t)bytes[3] << 24;
-}
-
 static void query(void) {
     struct gemsilver_bytes identifiers[] = {{(const uint8_t *)"LUCKY", 5}, {(const uint8_t *)"TILT", 4}};
-    uint8_t hits[3 * 8];
+    uint8_t hits[3 * GEMSILVER_HIT];
     uint64_t found =
         gemsilver_query(image, sizeof image, card, sizeof card, reg, sizeof reg, identifiers, 2, hits, sizeof hits);
-    if (found % 256 != 0) {
-        printf("query refused: %u\n", (unsigned)(found % 256));
+    if (gemsilver_query_refusal(found) != 0) {
+        told("query", gemsilver_query_refusal(found));
         return;
     }
-    printf("%u postings:", (unsigned)(found / 65536));
-    for (size_t i = 0; i < found / 256 % 256; i++) {
-        printf(" window %u (%u)", word(hits + 8 * i), word(hits + 8 * i + 4));
+    printf("%u postings:", (unsigned)gemsilver_query_taken(found));
+    for (size_t i = 0; i < gemsilver_query_hits(found); i++) {
+        printf(" window %u (%u)", (unsigned)gemsilver_hit_window(hits, i), (unsigned)gemsilver_hit_score(hits, i));
     }
     printf("\n");
 }
@@ -42,7 +38,12 @@ static void query(void) {
 int main(void) {
     told("start", gemsilver_start(image, sizeof image, card, sizeof card, reg, sizeof reg));
     for (int window = 1; window <= 9; window++) {
-        printf("window %u\n", gemsilver_open(image, sizeof image));
+        uint32_t opened = gemsilver_open(image, sizeof image);
+        if (gemsilver_open_refusal(opened) != 0) {
+            told("open", gemsilver_open_refusal(opened));
+            return 1;
+        }
+        printf("window %u\n", (unsigned)opened);
         for (int i = 0; i < window; i++) {
             event("LUCKY");
         }
@@ -61,7 +62,8 @@ int main(void) {
         steps++;
         query();
     }
-    printf("%u steps\n", steps);
+    printf("%u steps\n", (unsigned)steps);
+    printf("register %s\n", gemsilver_register_ok(reg, sizeof reg) ? "well formed" : "malformed");
     event(""); /* no window is open, but an empty identifier comes first */
     return 0;
 }

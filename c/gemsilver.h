@@ -1,33 +1,96 @@
-/* Gemsilver for C: counts events by identifier in windows of play, keeps them on a card, and finds the windows that match best.
+/* Gemsilver for C and C++: counts events by identifier in windows of play, keeps them on a card, and finds the windows that match best.
  *
- * The caller lends three buffers and hands them back to the next call as they were left: the state's image (GEMSILVER_IMAGE bytes), the
- * card (4 to 4,096 blocks of 4,096 bytes) and the register (1 to 1,024 entries of 65 bytes). docs/FORMAT.md tells them byte by byte.
- * Every call takes whatever it is given: it ends, stays inside the buffers, and where it refuses it changes none of them. */
+ * The caller lends three buffers and hands them back to the next call as they were left: the state's image, the card and the register.
+ * docs/FORMAT.md tells them byte by byte. They belong together: save all three or none, and at the same moment.
+ *
+ * What every call keeps, whatever it is given:
+ * - It ends, stays inside the buffers lent, and where it refuses it changes none of them. The one exception is said at gemsilver_start.
+ * - Nothing is kept between calls but these buffers: any thread may call, and any number of probes may be used at a time, each with
+ *   buffers of its own. Two calls on one probe at the same time are the caller's mistake.
+ * - A buffer may stand at any address, with any alignment. Buffers that a call writes (those without const) may overlap no other buffer of the
+ *   call; those that it only reads may overlap each other.
+ * - NULL with a length of 0 is an empty buffer. It is judged like any other of that length: an empty image is refused with 1, an empty card or
+ *   register with 2, an empty identifier with 4, no identifiers and an empty list of hits with 14.
+ *
+ * The archive: `rt staticlib capi` writes target/staticlib/libcapi.a, for x86-64 Linux. It uses no heap and keeps nothing of its own; of the C
+ * library it needs memcpy and memset alone.
+ *
+ * Stack: docs/PERFORMANCE.md tells the bytes that each call was measured to take; leave some more. */
 #ifndef GEMSILVER_H
 #define GEMSILVER_H
 
 #include <stddef.h>
 #include <stdint.h>
 
-#define GEMSILVER_IMAGE 2456
+#ifdef __cplusplus
+extern "C" {
+#endif
+
+/* Sizes in bytes, and how many. */
+#define GEMSILVER_IMAGE 2456            /* the state's image */
+#define GEMSILVER_BLOCK 4096            /* a block of the card */
+#define GEMSILVER_LEAST_BLOCKS 4        /* a card has 4 to 4,096 blocks */
+#define GEMSILVER_MOST_BLOCKS 4096
+#define GEMSILVER_ENTRY 65              /* an entry of the register */
+#define GEMSILVER_MOST_ENTRIES 1024     /* a register has 1 to 1,024 entries */
+#define GEMSILVER_LONGEST_IDENTIFIER 64 /* an identifier has 1 to 64 bytes */
+#define GEMSILVER_HIT 8                 /* a place in a list of hits */
+#define GEMSILVER_MOST_HITS 32          /* a list has 1 to 32 places */
+#define GEMSILVER_MOST_IDENTIFIERS 5    /* a query names 1 to 5 identifiers */
 
 /* Why a call is refused, in the order in which it is tested. */
 enum gemsilver_refusal {
-    GEMSILVER_BROKEN_STATE = 1,   /* the image is none, or its state breaks a rule */
-    GEMSILVER_WRONG_LENGTH = 2,   /* a buffer's length is out of the limits or not the one given at the start */
-    GEMSILVER_MALFORMED = 3,      /* what the call must read is malformed */
-    GEMSILVER_BAD_IDENTIFIER = 4, /* an identifier is empty or longer than 64 bytes */
-    GEMSILVER_OUT_OF_TURN = 5,    /* no window is open, one is, or the open one is named */
-    GEMSILVER_EXHAUSTED = 6,      /* all window numbers are given, or the window has 32,767 events */
-    GEMSILVER_NOT_LIVE = 7,       /* no such live window */
-    GEMSILVER_REGISTER_FULL = 8,  /* a new identifier finds the register full */
-    GEMSILVER_WINDOW_FULL = 9,    /* a 65th identifier in one window */
-    GEMSILVER_LEVEL_FULL = 10,    /* 16 partitions stand at level 0: take merge steps */
-    GEMSILVER_HALF_FULL = 11,     /* finished partitions would take more than half of the card */
-    GEMSILVER_TOO_FEW_FREE = 12,  /* too few blocks are free */
-    GEMSILVER_NOTHING_DUE = 13,   /* no merge is in progress and none is due */
-    GEMSILVER_BAD_QUERY = 14      /* a query's identifiers are none, more than 5 or not different, or its list has no place or more than 32 */
+    GEMSILVER_BROKEN_STATE = 1,
+    GEMSILVER_WRONG_LENGTH = 2,
+    GEMSILVER_MALFORMED = 3,
+    GEMSILVER_BAD_IDENTIFIER = 4,
+    GEMSILVER_OUT_OF_TURN = 5,
+    GEMSILVER_EXHAUSTED = 6,
+    GEMSILVER_NOT_LIVE = 7,
+    GEMSILVER_REGISTER_FULL = 8,
+    GEMSILVER_WINDOW_FULL = 9,
+    GEMSILVER_LEVEL_FULL = 10,
+    GEMSILVER_HALF_FULL = 11,
+    GEMSILVER_TOO_FEW_FREE = 12,
+    GEMSILVER_NOTHING_DUE = 13,
+    GEMSILVER_BAD_QUERY = 14
 };
+
+/* A refusal's number in words; of any other number that it is none. */
+static inline const char *gemsilver_refusal_text(uint32_t refusal) {
+    switch (refusal) {
+    case GEMSILVER_BROKEN_STATE:
+        return "the image is none, or its state breaks a rule";
+    case GEMSILVER_WRONG_LENGTH:
+        return "a buffer's length is out of the limits or not the one given at the start";
+    case GEMSILVER_MALFORMED:
+        return "what the call must read is malformed";
+    case GEMSILVER_BAD_IDENTIFIER:
+        return "an identifier is empty or longer than 64 bytes";
+    case GEMSILVER_OUT_OF_TURN:
+        return "no window is open, one is, or the open one is named";
+    case GEMSILVER_EXHAUSTED:
+        return "all window numbers are given, or the window has 32,767 events";
+    case GEMSILVER_NOT_LIVE:
+        return "no such live window";
+    case GEMSILVER_REGISTER_FULL:
+        return "a new identifier finds the register full";
+    case GEMSILVER_WINDOW_FULL:
+        return "a 65th identifier in one window";
+    case GEMSILVER_LEVEL_FULL:
+        return "16 partitions stand at level 0: take merge steps";
+    case GEMSILVER_HALF_FULL:
+        return "finished partitions would take more than half of the card";
+    case GEMSILVER_TOO_FEW_FREE:
+        return "too few blocks are free";
+    case GEMSILVER_NOTHING_DUE:
+        return "no merge is in progress and none is due";
+    case GEMSILVER_BAD_QUERY:
+        return "no identifiers, more than 5 or one twice, or a list of no places or more than 32";
+    default:
+        return "no refusal";
+    }
+}
 
 /* An identifier: any bytes. */
 struct gemsilver_bytes {
@@ -35,11 +98,17 @@ struct gemsilver_bytes {
     size_t length;
 };
 
-/* A fresh card and register, and the image of their state. 0, or a refusal. */
+/* A fresh card and register, and the image of their state. 0, or a refusal. Card and register stay as they are where start is refused; the image is
+ * then that of a state of zeros, with which every call is refused with 1. An image of another length stays as it is: that is refused with 1. */
 uint32_t gemsilver_start(uint8_t *image, size_t image_length, uint8_t *card, size_t card_length, uint8_t *reg, size_t reg_length);
 
 /* Opens a window: its number, 1 to 65,535, or 65,536 + a refusal. */
 uint32_t gemsilver_open(uint8_t *image, size_t image_length);
+
+/* Takes what an open gave apart: the refusal, 0 where a window was opened. */
+static inline uint32_t gemsilver_open_refusal(uint32_t opened) {
+    return opened < 65536 ? 0 : opened - 65536;
+}
 
 /* Counts one event of an identifier in the open window. 0, or a refusal. */
 uint32_t gemsilver_event(uint8_t *image, size_t image_length, uint8_t *card, size_t card_length, uint8_t *reg, size_t reg_length,
@@ -57,10 +126,43 @@ uint32_t gemsilver_flush(uint8_t *image, size_t image_length, uint8_t *card, siz
 /* Takes a merge one step further, or begins one. 0, or a refusal. */
 uint32_t gemsilver_step(uint8_t *image, size_t image_length, uint8_t *card, size_t card_length);
 
-/* Finds the windows that match the identifiers best. hits has 8 bytes for each place: window and score, four bytes each, the lowest first. Places past the last
- * hit stay as they are. A refusal, or 256 * hits listed + 65,536 * postings taken. */
+/* Finds the windows that match the identifiers best. hits has GEMSILVER_HIT bytes for each place; bytes past the last whole place, and places past the
+ * last hit, stay as they are. What it gives is taken apart by the functions below. */
 uint64_t gemsilver_query(const uint8_t *image, size_t image_length, const uint8_t *card, size_t card_length, const uint8_t *reg,
                          size_t reg_length, const struct gemsilver_bytes *identifiers, size_t identifier_count, uint8_t *hits,
                          size_t hits_length);
+
+/* Of what a query gave: its refusal, 0 where it is none; how many hits are listed; how many stored postings it took up. */
+static inline uint32_t gemsilver_query_refusal(uint64_t found) {
+    return (uint32_t)(found % 256);
+}
+
+static inline uint32_t gemsilver_query_hits(uint64_t found) {
+    return (uint32_t)(found / 256 % 256);
+}
+
+static inline uint64_t gemsilver_query_taken(uint64_t found) {
+    return found / 65536;
+}
+
+/* Of a list of hits: the window and the score at a place, from 0. */
+static inline uint32_t gemsilver_word(const uint8_t *bytes) {
+    return (uint32_t)bytes[0] | (uint32_t)bytes[1] << 8 | (uint32_t)bytes[2] << 16 | (uint32_t)bytes[3] << 24;
+}
+
+static inline uint32_t gemsilver_hit_window(const uint8_t *hits, size_t place) {
+    return gemsilver_word(hits + GEMSILVER_HIT * place);
+}
+
+static inline uint32_t gemsilver_hit_score(const uint8_t *hits, size_t place) {
+    return gemsilver_word(hits + GEMSILVER_HIT * place + 4);
+}
+
+/* 1 where a register keeps its rule: 1 to 1,024 whole entries, used ones first and all different, unused ones zero; else 0. */
+uint8_t gemsilver_register_ok(const uint8_t *reg, size_t reg_length);
+
+#ifdef __cplusplus
+}
+#endif
 
 #endif

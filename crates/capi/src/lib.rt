@@ -9,21 +9,34 @@ ghost use mathlib.Core.Bool.{cond, _&&_};
 ghost use mathlib.Core.List.{map};
 ghost use mathlib.Core.Path.{_≡_};
 ghost use Prim.Native.Nat.{_*_, _≤_};
-ghost use lib.Dec.{leb};
 ghost use lib.ListN.{length};
 ghost use Rattle.answers.specs.Numbers.{refusalNumber, replied, openedAs};
 ghost use Rattle.identifiers.specs.Register.{registerRule};
+ghost use Rattle.state.specs.Rules.{registerLength};
 ghost use Rattle.windows.specs.Promises.{Gives};
 ghost use Rattle.queries.specs.Top.{listedHits};
 ghost use Rattle.capi.specs.Exports.{cardedOf, lentOf, repliedBy, openedBy, startOn, unstartedOn, openOn, closeOn, eventOn, flushOn, removeOn, stepOn, settledOn, openedOn};
 ghost use Rattle.capi.specs.Queries.{hitBytes, numberFound, Tells, queryOn};
 
-// Is a register well formed? 1 where it is; 0 where it is not, or has more than 1,024 entries.
+// Has a register of so many bytes 1 to 1,024 whole entries?
+fn length_ok(bytes: usize) -> bool
+    ensures { λ r. ⌜ r ≡ registerLength bytes ⌝ }
+{
+    if bytes % 65 != 0 {
+        return false;
+    }
+    if bytes / 65 < 1 {
+        return false;
+    }
+    bytes / 65 <= 1024
+}
+
+// Is a register well formed? 1 where it is; 0 where it is not, or has no length within the limits.
 #[no_mangle]
 pub extern "C" fn gemsilver_register_ok(register: &[u8]) -> u8
-    ensures { λ r. ⌜ r ≡ cond (leb (length (now (register .entry))) 66560 && registerRule (now (register .entry))) 1 0 ⌝ }
+    ensures { λ r. ⌜ r ≡ cond (registerLength (length (now (register .entry))) && registerRule (now (register .entry))) 1 0 ⌝ }
 {
-    if 66560 < register.len() {
+    if !length_ok(register.len()) {
         return 0;
     }
     if identifiers::register_ok(register) {

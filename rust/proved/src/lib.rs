@@ -88,7 +88,7 @@ pub struct Found {
     pub taken: u64,
 }
 
-/// Whether a register of at most 1,024 entries is well formed.
+/// Whether a register has 1 to 1,024 whole entries and is well formed.
 pub fn register_ok(register: &[u8]) -> bool {
     // Sound: the pointer and the length are those of one slice, which is only read.
     unsafe { exported::gemsilver_register_ok(register.as_ptr(), register.len()) == 1 }

@@ -61,3 +61,11 @@ fn a_register_past_1024_entries_is_refused() {
     assert!(proved::register_ok(&vec![0; 1_024 * ENTRY]));
     assert!(!proved::register_ok(&vec![0; 1_025 * ENTRY]));
 }
+
+#[test]
+fn a_register_has_at_least_one_entry_and_whole_ones() {
+    for length in [0, 1, ENTRY - 1, ENTRY + 1, 1_024 * ENTRY - 1] {
+        assert!(!proved::register_ok(&vec![0; length]), "{length} bytes");
+    }
+    assert!(proved::register_ok(&[0; ENTRY]));
+}
