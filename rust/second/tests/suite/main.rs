@@ -2,6 +2,7 @@
 
 mod build;
 mod calls;
+mod capacity;
 mod damage;
 mod foreign;
 mod histories;
