@@ -1,6 +1,7 @@
 //! Prints times of the proved engine, each beside the second engine's on the same input in the same run, and the stack that its
 //! calls take.
 
+mod peers;
 mod probes;
 mod stack;
 mod timing;
@@ -9,6 +10,7 @@ use probes::{Probe, half_full, name, register, to_merge, with_full_buffer};
 use second::engine;
 use second::state::Hit;
 use std::hint::black_box;
+use std::path::Path;
 use timing::{compare, once, print, title};
 
 const BLOCKS: [usize; 4] = [64, 256, 1_024, 4_096];
@@ -199,7 +201,14 @@ fn stacks() {
     });
 }
 
+/// All tables; or, with `peers FOLDER`, the queries that other engines are held against.
 fn main() {
+    let words: Vec<String> = std::env::args().skip(1).collect();
+    if let [first, folder] = &words[..]
+        && first == "peers"
+    {
+        return peers::run(Path::new(folder));
+    }
     registers();
     events();
     queries();
