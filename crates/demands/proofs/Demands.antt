@@ -34,6 +34,11 @@ use Rattle.queries.proofs.Refused.{query-unchanged}
 use Rattle.engine.specs.Calls.{Call, probeCall, afterwards}
 use Rattle.engine.proofs.Refused.{call-unchanged}
 use Rattle.engine.proofs.ByteRule.{call-moved}
+use Rattle.answers.specs.Answers.{carry}
+use Rattle.state.specs.Probe.{Store}
+use Rattle.merges.specs.Step.{stepOf}
+use Rattle.engine.specs.Lent.{Lent, withOwn, lentStepOf}
+use Rattle.engine.proofs.Lent.{lent-unchanged, lent-other, lent-own}
 use Rattle.accounts.specs.Account.{Account, emptyAccount, storedIn, steppedAccount}
 use Rattle.accounts.specs.Ledger.{emptyLedger, including}
 use Rattle.accounts.specs.Books.{Books, booksCall, expected}
@@ -65,6 +70,18 @@ refused-list-unchanged p ns places n e = query-unchanged p ns places .same n e
 -- A refused start leaves both buffers as they were, and gives a state of zeros.
 pub refused-start : (card register : List ℕ) (n : ℕ) → answerOf (startOf card register) ≡ refused n → stateOf (unstarted card register) (startOf card register) ≡ unstarted card register
 refused-start card register n e = start-unchanged card register .same n e
+
+-- A step is lent the record of the merge beside state and card. With the state's own record it is the step of state and card, and the record moves on with the state's.
+pub own-record-step : (p : Store) → lentStepOf (withOwn p) ≡ carry withOwn (stepOf p)
+own-record-step = lent-own
+
+-- Any other record is refused with 1.
+pub other-record-refused : (l : Lent) → (l .job ≡ l .store .state .merge → ⊥) → answerOf (lentStepOf l) ≡ refused 1
+other-record-refused l other = ap answerOf (lent-other l other)
+
+-- A refused step leaves state, card and record as they were.
+pub refused-step-unchanged : (l : Lent) (n : ℕ) → answerOf (lentStepOf l) ≡ refused n → stateOf l (lentStepOf l) ≡ l
+refused-step-unchanged l n e = lent-unchanged l .same n e
 
 -- On a card of bytes a call, refused or not, keeps the card's length, and each byte stays, or was 255, or goes to 255 with its whole block.
 pub bytes-move : (p : Probe) → Below 256 (p .card) → (c : Call) → (length (stateOf p (probeCall p c) .card) ≡ length (p .card)) × MovesBytes (p .card) (stateOf p (probeCall p c) .card)

@@ -1,4 +1,5 @@
 pub mod Refused
+pub mod Lent
 pub mod Unchanged
 pub mod Filling
 pub mod Loop

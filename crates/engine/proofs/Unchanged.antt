@@ -15,8 +15,7 @@ use Rattle.answers.specs.declared.Found.the-variants as found
 use Rattle.answers.specs.declared.Hit.{Hit}
 use Rattle.state.specs.declared.MergeJob.{MergeJob}
 use Rattle.state.specs.declared.State.{State}
-use Rattle.state.specs.Probe.{Store, Probe}
-use Rattle.state.specs.Views.{withMerge}
+use Rattle.state.specs.Probe.{Probe}
 use Rattle.identifiers.specs.Names.{Name}
 use Rattle.windows.specs.Calls.{startOf, unstarted, openOf, closeOf, eventOf, flushOf}
 use Rattle.windows.specs.Promises.{Gives, storeOf, probeOf}
@@ -32,6 +31,8 @@ use Rattle.removals.specs.Removal.{removeOf}
 use Rattle.removals.proofs.Refused.{removal-unchanged}
 use Rattle.merges.specs.Step.{stepOf}
 use Rattle.merges.proofs.Refused.{step-unchanged}
+use Rattle.engine.specs.Lent.{lentOf, lentStepOf}
+use Rattle.engine.proofs.Lent.{lent-unchanged}
 
 -- of any promise
 pub refused-same : {S : Type 0} (s : S) (o : Outcome S) (a : Answer) (after : S) → Unchanged s o → Gives s o a after → (n : ℕ) → a ≡ refused n → after ≡ s
@@ -68,13 +69,11 @@ module _ (why : Refusal) where
         → storeOf (r .state) card′ ≡ storeOf s card
     step-value-refused g e = refused-same _ _ _ _ (step-unchanged (storeOf s card)) g (refusalNumber why) (ap replied e)
 
-    -- the step that is lent the record of the merge: the record is as it was, too
+    -- the step that is lent the record of the merge: state, card and record
     pub step-refused : (job job′ : MergeJob)
-        → Gives (storeOf (withMerge s job) card) (stepOf (storeOf (withMerge s job) card)) (replied (r .reply)) (storeOf (r .state) card′) → job′ ≡ r .state .merge → r .reply ≡ reply.Refused why
-        → (storeOf (r .state) card′ ≡ storeOf (withMerge s job) card) × (job′ ≡ job)
-    step-refused job job′ g m e =
-        let same : storeOf (r .state) card′ ≡ storeOf (withMerge s job) card = refused-same _ _ _ _ (step-unchanged (storeOf (withMerge s job) card)) g (refusalNumber why) (ap replied e) in
-        (same, m ∙ ap (λ (p : Store). p .state .merge) same)
+        → Gives (lentOf s card job) (lentStepOf (lentOf s card job)) (replied (r .reply)) (lentOf (r .state) card′ job′) → r .reply ≡ reply.Refused why
+        → lentOf (r .state) card′ job′ ≡ lentOf s card job
+    step-refused job job′ g e = refused-same _ _ _ _ (lent-unchanged (lentOf s card job)) g (refusalNumber why) (ap replied e)
 
   -- the lent list is as it was
   pub query-refused : (p : Probe) (ns : List Name) (places : List Hit) (a : Found) (after : List Hit) → Gives places (queryOf p ns places) (foundAs a after) after → a ≡ found.Refused why → after ≡ places

@@ -2,6 +2,8 @@
 // says, whatever it is given.
 use answers::Found;
 use answers::Hit;
+use answers::Refusal;
+use answers::Reply;
 use queries::Answered;
 use queries::Top;
 use state::MergeJob;
@@ -13,7 +15,6 @@ ghost use mathlib.Core.Path.{_≡_};
 ghost use Prim.Native.Nat.{_≤_, _<_};
 ghost use lib.ListN.{length, getD};
 ghost use Rattle.answers.specs.Numbers.{replied, openedAs, foundAs};
-ghost use Rattle.state.specs.Views.{withMerge};
 ghost use Rattle.windows.specs.Calls.{startOf, unstarted, openOf, closeOf, eventOf, flushOf};
 ghost use Rattle.windows.specs.Promises.{Gives, storeOf, probeOf};
 ghost use Rattle.queries.specs.Query.{queryOf, fill};
@@ -21,7 +22,7 @@ ghost use Rattle.queries.specs.Top.{noHit, listedHits};
 ghost use Rattle.queries.specs.Finds.{Finds};
 ghost use Rattle.removals.specs.Removal.{removeOf};
 ghost use Rattle.merges.specs.Step.{stepOf};
-ghost use Rattle.engine.specs.Lent.{hitCount, answeredBy};
+ghost use Rattle.engine.specs.Lent.{sameRecord, lentOf, lentStepOf, hitCount, answeredBy};
 
 // What a step gives back beside the state: the record of the merge in progress.
 struct Stepped {
@@ -73,14 +74,36 @@ pub fn flush(s: State, card: &mut [u8]) -> Replied
     windows::flush(s, card)
 }
 
+// Whether two records of a merge are the same.
+fn same_record(a: MergeJob, b: MergeJob) -> bool
+    ensures { λ r. ⌜ r ≡ sameRecord a b ⌝ }
+{
+    if a.first != b.first {
+        return false;
+    }
+    if a.length != b.length {
+        return false;
+    }
+    a.steps == b.steps
+}
+
 // A step with the record of the merge beside the state.
 fn step_beside(s: State, job: MergeJob, card: &mut [u8]) -> Stepped
-    ensures { λ r. ⌜ Gives (storeOf (withMerge s job) (now (card .entry))) (stepOf (storeOf (withMerge s job) (now (card .entry))))
-        (replied (r .replied .reply)) (storeOf (r .replied .state) (now (card .exit))) × (r .job ≡ r .replied .state .merge) ⌝ }
+    ensures { λ r. ⌜ Gives (lentOf s (now (card .entry)) job) (lentStepOf (lentOf s (now (card .entry)) job))
+        (replied (r .replied .reply)) (lentOf (r .replied .state) (now (card .exit)) (r .job)) ⌝ }
 {
-    let mut t = s;
-    t.merge = job;
-    let replied = merges::step(t, card);
+    let own = s.merge;
+    if !same_record(job, own) {
+        let refused = Replied {
+            reply: Reply::Refused(Refusal::BrokenState),
+            state: s,
+        };
+        return Stepped {
+            replied: refused,
+            job: job,
+        };
+    }
+    let replied = merges::step(s, card);
     let after = replied.state;
     let moved = after.merge;
     Stepped {
@@ -89,10 +112,10 @@ fn step_beside(s: State, job: MergeJob, card: &mut [u8]) -> Stepped
     }
 }
 
-// A merge step: the lent record of the merge in progress is moved on.
+// A merge step: the lent record of the merge in progress is moved on. A record that is not the state's own is refused with 1.
 pub fn step(s: State, job: &mut MergeJob, card: &mut [u8]) -> Replied
-    ensures { λ r. ⌜ Gives (storeOf (withMerge s (now (job .entry))) (now (card .entry))) (stepOf (storeOf (withMerge s (now (job .entry))) (now (card .entry))))
-        (replied (r .reply)) (storeOf (r .state) (now (card .exit))) × (now (job .exit) ≡ r .state .merge) ⌝ }
+    ensures { λ r. ⌜ Gives (lentOf s (now (card .entry)) (now (job .entry))) (lentStepOf (lentOf s (now (card .entry)) (now (job .entry))))
+        (replied (r .reply)) (lentOf (r .state) (now (card .exit)) (now (job .exit))) ⌝ }
 {
     let m = step_beside(s, *job, card);
     *job = m.job;

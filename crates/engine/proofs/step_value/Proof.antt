@@ -51,6 +51,8 @@ use Rattle.state.proofs.State.Laws as State″
 use Rattle.state.proofs.MergeJob as T
 use Rattle.state.proofs.MergeJob.Laws as T′
 use Rattle.windows.specs.declared.Replied.{Replied}
+use Rattle.engine.specs.Lent.{lentOf, withOwn, lentStepOf}
+use Rattle.engine.proofs.Lent.{gives-own}
 use Rattle.windows.specs.Promises.{Gives, storeOf}
 use Rattle.windows.proofs.Replied as K
 use Rattle.windows.proofs.Replied.Laws as K′
@@ -101,11 +103,11 @@ module _ {M : Type 1} (𝓤 : URA M) (H : Heap 𝓤) (A : Atoms 𝓤) (W : Given
 
   -- what `step` ensures, of the record and the card that it leaves, and its result
   abbrev Ensured : MergeJob → List ℕ → Replied → Type 0
-  Ensured z after r = Gives (storeOf s (card .now)) (stepOf (storeOf s (card .now))) (replied (r .reply)) (storeOf (r .state) after) × (z ≡ r .state .merge)
+  Ensured z after r = Gives (withOwn (storeOf s (card .now))) (lentStepOf (withOwn (storeOf s (card .now)))) (replied (r .reply)) (lentOf (r .state) after z)
 
   exits : (z : MergeJob) (after : List ℕ) (r : Replied) (w : Val) → Ensured z after r → length after ≡ length (card .now) → ent 𝓤 (⋆ 𝓤 H A (‵ (flft κ q) ∷ ‵ (finally u8 (card .name) after) ∷ ‵ (K.the-row .own r (w ∷ [])) ∷ [])) (Post w)
   exits z after r w e l =
-      qed W (‵ (flft κ q) ∷ ‵ (finally u8 (card .name) after) ∷ ‵ (K.the-row .own r (w ∷ [])) ∷ []) ∵ suffices ! _ (ends-at 𝓤 H A f.ended stayed (f.clauses 𝓤 H A at-mem run) W (((κ, tt), (q, tt), bounds, x, at), tt) w r (tt, (after, tt)) (tt, (l, tt))) $ says ! (e .0) $ nothing ! $ move ! (1 ∷ 0 ∷ []) $ join ! $ frame ! $ nothing ! $ move ! (1 ∷ 0 ∷ []) $ fjoin ! $ nothing ! $ fjoin ! $ done !
+      qed W (‵ (flft κ q) ∷ ‵ (finally u8 (card .name) after) ∷ ‵ (K.the-row .own r (w ∷ [])) ∷ []) ∵ suffices ! _ (ends-at 𝓤 H A f.ended stayed (f.clauses 𝓤 H A at-mem run) W (((κ, tt), (q, tt), bounds, x, at), tt) w r (tt, (after, tt)) (tt, (l, tt))) $ says ! (gives-own (storeOf s (card .now)) (lentOf (r .state) after z) e) $ nothing ! $ move ! (1 ∷ 0 ∷ []) $ join ! $ frame ! $ nothing ! $ move ! (1 ∷ 0 ∷ []) $ fjoin ! $ nothing ! $ fjoin ! $ done !
 
   -- the reference to the local l, under the name γ
   abbrev ref : ℕ → GName → RefT MergeJob
