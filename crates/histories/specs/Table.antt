@@ -1,11 +1,17 @@
--- "Counted by hand": the worked cases as one table of histories with the answers that the document tells. The weights' own table is in crate weights.
-use mathlib.Core.List.{List, [], _∷_, _++_, reverse}
-use Prim.Native.Nat.{ℕ, zero, suc}
+-- "Counted by hand": the worked cases as one table, with what the document tells of each, and what it means that a case holds.
+use mathlib.Core.Bool.{Bool, true, false}
+use mathlib.Core.List.{List, [], _∷_, _++_, map, reverse}
+use mathlib.Core.Path.{_≡_}
+use Prim.Native.Nat.{ℕ, zero, suc, _*_, _/_}
 use lib.ListN.{take, length, replicate}
+use Rattle.weights.specs.Weights.{tfWeight, idfWeight}
 use Rattle.answers.specs.Answers.{Answer, done, number, hits, refused}
 use Rattle.answers.specs.declared.Hit.{Hit}
-use Rattle.identifiers.specs.Names.{Name}
+use Rattle.identifiers.specs.Names.{Name, badLength, numberOf}
+use Rattle.identifiers.specs.Register.{names, registerRule, added}
 use Rattle.engine.specs.Calls.{Call, Open, Event, Close, Remove, Flush, Step, Query}
+use Rattle.accounts.specs.Books.{expected}
+use Rattle.histories.specs.Statement.{answers}
 
 -- a window with its score
 abbrev pub hit : ℕ → ℕ → Hit
@@ -47,35 +53,82 @@ three =
 abbrev pub asked : Call
 asked = Query 32 (LUCKY ∷ TILT ∷ [])
 
--- a history on a fresh card of so many blocks, and the last of its answers
-pub record Case : Type 0 where
-  pub blocks : ℕ
-  pub calls : List Call
-  pub told : List Answer
+-- an empty register of three entries, to which identifiers are added in turn
+abbrev pub withNames : List ℕ → List Name → List ℕ
+withNames r [] = r
+withNames r (n ∷ ns) = withNames (added r n) ns
+
+abbrev pub registered : List Name → List ℕ
+registered ns = withNames (replicate 195 0) ns
+
+-- a worked case, and what is told of it
+pub data Case : Type 0 where
+  -- a count, and its weight
+  Tf : ℕ → ℕ → Case
+  -- N and F, and their weight
+  Idf : ℕ → ℕ → ℕ → Case
+  -- how many bytes an identifier has, and whether that is refused with 4
+  Sized : ℕ → Bool → Case
+  -- identifiers added to a register, and whether it is well formed then
+  Registered : List Name → Bool → Case
+  -- identifiers added to a register, and the number that an identifier has in it
+  Numbered : List Name → Name → ℕ → Case
+  -- a history on a fresh card of so many blocks, and the last of its answers
+  History : ℕ → List Call → List Answer → Case
 
 -- the last answers, as many as are told
 abbrev pub latest : List Answer → List Answer → List Answer
 latest told all = reverse (take (length told) (reverse all))
 
+-- the answers to a history on a card of so many blocks with a register of 64 entries: those of ledger and account, and the engine's from fresh bytes
+unfoldable pub onBooks : ℕ → List Call → List Answer
+onBooks n cs = expected ((4096 * n) / 4096) 64 cs
+
+unfoldable pub onBytes : ℕ → List Call → List Answer
+onBytes n cs = answers (4096 * n) 4160 cs
+
+-- a case with what the definitions give in the place of what is told, where histories are answered so
+unfoldable pub counted : (ℕ → List Call → List Answer) → Case → Case
+counted answered (Tf f a) = Tf f (tfWeight f)
+counted answered (Idf n f b) = Idf n f (idfWeight n f)
+counted answered (Sized n bad) = Sized n (badLength (As n))
+counted answered (Registered ns formed) = Registered ns (registerRule (registered ns))
+counted answered (Numbered ns n i) = Numbered ns n (numberOf (names (registered ns)) n)
+counted answered (History n cs told) = History n cs (latest told (answered n cs))
+
 -- the cases, those that the document marks P first
 unfoldable pub table : List Case
 table =
-    -- 64 bytes accepted, 65 refused with 4, and so is an empty identifier
-    record { blocks = 4; calls = Open ∷ Event (As 64) ∷ Event (As 65) ∷ Event [] ∷ []; told = number 1 ∷ done ∷ refused 4 ∷ refused 4 ∷ [] }
-    -- two identifiers equal in their first 16 bytes get two numbers: each is counted, found and taken up apart from the other
-    ∷ record { blocks = 4; calls = Open ∷ Event AsB ∷ Event AsB ∷ Close ∷ Open ∷ Event AsC ∷ Close ∷ Query 32 (AsB ∷ []) ∷ Query 32 (AsC ∷ []) ∷ Query 32 (As 16 ∷ []) ∷ []; told = hits (hit 1 24 ∷ []) 1 ∷ hits (hit 2 16 ∷ []) 1 ∷ hits [] 0 ∷ [] }
+    -- the weights of counts
+    Tf 1 4 ∷ Tf 2 6 ∷ Tf 3 8 ∷ Tf 7 12 ∷ Tf 32767 60
+    -- the weights of N and F; none where F is 0 or exceeds N
+    ∷ Idf 8 1 12 ∷ Idf 3 2 2 ∷ Idf 3 3 0 ∷ Idf 65535 1 63 ∷ Idf 5 0 0 ∷ Idf 3 4 0
+    -- 64 bytes accepted, 65 refused with 4, and so is an empty identifier; in a history, too
+    ∷ Sized 64 false ∷ Sized 65 true ∷ Sized 0 true
+    ∷ History 4 (Open ∷ Event (As 64) ∷ Event (As 65) ∷ Event [] ∷ []) (number 1 ∷ done ∷ refused 4 ∷ refused 4 ∷ [])
+    -- two identifiers equal in their first 16 bytes get two numbers, and these bytes alone would get a third
+    ∷ Registered (AsB ∷ AsC ∷ []) true ∷ Numbered (AsB ∷ AsC ∷ []) AsB 0 ∷ Numbered (AsB ∷ AsC ∷ []) AsC 1 ∷ Numbered (AsB ∷ AsC ∷ []) (As 16) 2
+    -- so each is counted, found and taken up apart from the other
+    ∷ History 4 (Open ∷ Event AsB ∷ Event AsB ∷ Close ∷ Open ∷ Event AsC ∷ Close ∷ Query 32 (AsB ∷ []) ∷ Query 32 (AsC ∷ []) ∷ Query 32 (As 16 ∷ []) ∷ [])
+    (hits (hit 1 24 ∷ []) 1 ∷ hits (hit 2 16 ∷ []) 1 ∷ hits [] 0 ∷ [])
     -- the query gives 1 (24), 3 (8), 2 (8), with 4 postings taken
-    ∷ record { blocks = 4; calls = three ++ (asked ∷ []); told = hits (hit 1 24 ∷ hit 3 8 ∷ hit 2 8 ∷ []) 4 ∷ [] }
+    ∷ History 4 (three ++ (asked ∷ [])) (hits (hit 1 24 ∷ hit 3 8 ∷ hit 2 8 ∷ []) 4 ∷ [])
     -- after removal of 1, no flush: 3 (16), 2 (16), with 2 taken
-    ∷ record { blocks = 4; calls = three ++ (Remove 1 ∷ asked ∷ []); told = done ∷ hits (hit 3 16 ∷ hit 2 16 ∷ []) 2 ∷ [] }
+    ∷ History 4 (three ++ (Remove 1 ∷ asked ∷ [])) (done ∷ hits (hit 3 16 ∷ hit 2 16 ∷ []) 2 ∷ [])
     -- with a flush before the removal: the same hits, 6 taken
-    ∷ record { blocks = 4; calls = three ++ (Flush ∷ Remove 1 ∷ asked ∷ []); told = done ∷ done ∷ hits (hit 3 16 ∷ hit 2 16 ∷ []) 6 ∷ [] }
+    ∷ History 4 (three ++ (Flush ∷ Remove 1 ∷ asked ∷ [])) (done ∷ done ∷ hits (hit 3 16 ∷ hit 2 16 ∷ []) 6 ∷ [])
     -- DOOR counted 2 before a flush and 1 after, in one window: count 3, which weighs 8, and F adds 1, which of N = 2 weighs 4
-    ∷ record { blocks = 4; calls = Open ∷ Event TILT ∷ Close ∷ Open ∷ Event DOOR ∷ Event DOOR ∷ Flush ∷ Event DOOR ∷ Close ∷ Query 32 (DOOR ∷ []) ∷ []; told = hits (hit 2 32 ∷ []) 2 ∷ [] }
+    ∷ History 4 (Open ∷ Event TILT ∷ Close ∷ Open ∷ Event DOOR ∷ Event DOOR ∷ Flush ∷ Event DOOR ∷ Close ∷ Query 32 (DOOR ∷ []) ∷ []) (hits (hit 2 32 ∷ []) 2 ∷ [])
     -- a card of 4 blocks: two flushes pass, a third gives 11
-    ∷ record { blocks = 4; calls = Open ∷ Event DOOR ∷ Flush ∷ Event DOOR ∷ Flush ∷ Event DOOR ∷ Flush ∷ []; told = done ∷ done ∷ done ∷ done ∷ done ∷ refused 11 ∷ [] }
+    ∷ History 4 (Open ∷ Event DOOR ∷ Flush ∷ Event DOOR ∷ Flush ∷ Event DOOR ∷ Flush ∷ []) (done ∷ done ∷ done ∷ done ∷ done ∷ refused 11 ∷ [])
     -- eight flushes of one pair make a merge of one step; then none is due, and one posting of count 8 is left
-    ∷ record { blocks = 64; calls = Open ∷ times 8 (Event DOOR ∷ Flush ∷ []) ++ (Step ∷ Step ∷ Close ∷ Open ∷ Event TILT ∷ Query 3 (DOOR ∷ []) ∷ []); told = done ∷ refused 13 ∷ done ∷ number 2 ∷ done ∷ hits (hit 1 48 ∷ []) 1 ∷ [] }
+    ∷ History 64 (Open ∷ times 8 (Event DOOR ∷ Flush ∷ []) ++ (Step ∷ Step ∷ Close ∷ Open ∷ Event TILT ∷ Query 3 (DOOR ∷ []) ∷ []))
+    (done ∷ refused 13 ∷ done ∷ number 2 ∷ done ∷ hits (hit 1 48 ∷ []) 1 ∷ [])
     -- the command program's example
-    ∷ record { blocks = 16; calls = Open ∷ Event LUCKY ∷ Event LUCKY ∷ Event LUCKY ∷ Event TILT ∷ Close ∷ Open ∷ Event LUCKY ∷ Close ∷ Query 2 (LUCKY ∷ TILT ∷ []) ∷ []; told = number 1 ∷ done ∷ done ∷ done ∷ done ∷ done ∷ number 2 ∷ done ∷ done ∷ hits (hit 1 16 ∷ hit 2 0 ∷ []) 3 ∷ [] }
+    ∷ History 16 (Open ∷ Event LUCKY ∷ Event LUCKY ∷ Event LUCKY ∷ Event TILT ∷ Close ∷ Open ∷ Event LUCKY ∷ Close ∷ Query 2 (LUCKY ∷ TILT ∷ []) ∷ [])
+    (number 1 ∷ done ∷ done ∷ done ∷ done ∷ done ∷ number 2 ∷ done ∷ done ∷ hits (hit 1 16 ∷ hit 2 0 ∷ []) 3 ∷ [])
     ∷ []
+
+-- the table holds: in every case the definitions give what is told
+unfoldable pub TableHolds : (ℕ → List Call → List Answer) → Type 0
+TableHolds answered = map (counted answered) table ≡ table

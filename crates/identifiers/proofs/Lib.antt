@@ -2,4 +2,3 @@ pub mod Names
 pub mod Entries
 pub mod Added
 pub mod Chains
-pub mod Table

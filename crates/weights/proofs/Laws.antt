@@ -5,14 +5,13 @@ use Prim.Native.Nat.{ℕ, _+_, _-_, _*_, _/_, _^_, _≤_, _<_}
 use native.Mathlib.Nat.{le-trans, le-of-eq, pow-le-pow-left, mul-le-mul-left, mul-le-mul-right}
 use native.Mathlib.Omega.{arith}
 use lib.Count.{leadingZeros}
-use lib.Dec.{leb, ltb, eqb, lit<}
+use lib.Dec.{leb, ltb, eqb}
 use lib.Pow.{pow-mono}
 use borrow.Author.Tests.{le-leb, lt-leb, leb-true, leb-false, le-ltb, lt-ltb, ltb-true, ltb-false, ne-eqb}
 use Rattle.lists.proofs.Bools.{by-test, or-right}
 use Rattle.weights.specs.Weights.{largest, tfWeight, idfWeight, Highest, HighestOver}
 use Rattle.weights.proofs.Largest.{largest-le, largest-top, largest-only, largest-more}
 use Rattle.weights.proofs.Powers.{fourth-fits, fourth-positive, highest-bit, of-quotient, quotient-positive, quotient-fits}
-use Rattle.weights.proofs.Table.{entry}
 
 -- The weight of a count ---------------------------------------------------------------------------------------------
 
@@ -51,11 +50,13 @@ tf-grows f g h =
 
 -- no count of a window weighs more, so that a weight fits six bits
 pub tf-most : (f : ℕ) → f ≤ 32767 → tfWeight f ≤ 60
-tf-most f h = le-trans (tf-grows f 32767 h) (le-of-eq (entry 4 (lit< tt)))
+unfolding largest tfWeight
+tf-most f h = le-trans (tf-grows f 32767 h) (le-of-eq {m = tfWeight 32767} refl)
 
 -- a count above 0 weighs something
 pub tf-least : (f : ℕ) → 1 ≤ f → 4 ≤ tfWeight f
-tf-least f h = le-trans (le-of-eq (sym (entry 0 (lit< tt)))) (tf-grows 1 f h)
+unfolding largest tfWeight
+tf-least f h = tf-grows 1 f h
 
 -- The weight of n and f ---------------------------------------------------------------------------------------------
 

@@ -1,4 +1,3 @@
 pub mod Largest
 pub mod Powers
 pub mod Laws
-pub mod Table
