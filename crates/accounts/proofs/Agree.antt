@@ -24,7 +24,7 @@ use Rattle.queries.specs.Hits.{ranked}
 use Rattle.removals.specs.Removal.{countsOf, isLive}
 use Rattle.engine.specs.Calls.{Call, Open, Event, Close, Remove, Flush, Step, Query}
 use Rattle.accounts.specs.Account.{Account, storedIn, takenFrom, blocksIn, blocksAhead, steppedAccount, flushedAccount, overflows, exceeds, addedTo, stepping, flushing, flushingIf}
-use Rattle.accounts.specs.Ledger.{Ledger, live, existing, opens, closes, including, counts, removes}
+use Rattle.accounts.specs.Ledger.{Ledger, live, existing, opens, closes, including, counts, removes, byNumber}
 use Rattle.accounts.specs.Books.{once, takenBack, Books, books}
 use Rattle.accounts.specs.Lists.{Lists, isOpen, openedLists, closedLists, onceOf, countedLists, openCounted, removedLists, countOf, removingLists, pursued, listsCall}
 use Rattle.accounts.proofs.Stored.{levelOf}
@@ -33,7 +33,7 @@ use Rattle.accounts.proofs.Numbers.{new-is, noted-is, elem-numbers, num
 use Rattle.accounts.proofs.Ranked.{ranked-windows, ranked-names}
 use Rattle.accounts.proofs.Live.{not-live, existing-opens, existing-closes, existing-counts, existing-removes, existing-two}
 use Rattle.accounts.proofs.Lawful.{Lawful}
-use Rattle.accounts.proofs.Held.{byNumber, counts-back, counts-live, counts-length, length-back}
+use Rattle.accounts.proofs.Held.{counts-back, counts-live, counts-length, length-back}
 use Rattle.accounts.proofs.Kept.{Kept, kept-flushed, kept-stepped, kept-opens, kept-closes, kept-counts, kept-removes}
 use Rattle.accounts.proofs.Sound.{windowsOf, listsOf, current-open, current-shut, buffer-hold, rules-hold, call-formed}
 

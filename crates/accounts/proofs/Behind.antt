@@ -13,11 +13,11 @@ use Rattle.postings.specs.Merge.{isZero}
 use Rattle.postings.specs.Sums.{sum}
 use Rattle.identifiers.specs.Names.{Name, numberOf}
 use Rattle.accounts.specs.Account.{Portion, Account, postingsIn, storedIn, steppedAccount, flushedAccount, addedTo}
-use Rattle.accounts.specs.Ledger.{Ledger, opens, closes, including, counts, removes}
+use Rattle.accounts.specs.Ledger.{Ledger, opens, closes, including, counts, removes, byNumber}
 use Rattle.accounts.proofs.Stored.{stored-flushed, sum-stepped}
 use Rattle.accounts.proofs.Numbers.{goodLength, good-nonempty, among-itself, distinct-including, number-including, nth-same, nth-including}
 use Rattle.accounts.proofs.Lawful.{Lawful}
-use Rattle.accounts.proofs.Held.{byNumber, nameless}
+use Rattle.accounts.proofs.Held.{nameless}
 use Rattle.accounts.proofs.Ranged.{Ranged, ranged-partitions, sum-later}
 
 -- ---- the last number given to a window that has events

@@ -22,7 +22,7 @@ use Rattle.postings.proofs.Merge.{pairs-ordered, nonzero-ordered, nonzero-count
 use Rattle.identifiers.specs.Names.{Name, among}
 use Rattle.removals.specs.Removal.{ofWindow, countsOf, isLive}
 use Rattle.accounts.specs.Account.{Account, storedIn}
-use Rattle.accounts.specs.Ledger.{Ledger, live}
+use Rattle.accounts.specs.Ledger.{Ledger, live, byNumber}
 use Rattle.accounts.specs.Books.{negatedBy, takenBack}
 use Rattle.accounts.proofs.Parts.{sum-apart}
 use Rattle.accounts.proofs.Stored.{sum-counts}
@@ -185,10 +185,6 @@ keep-by-number t ms =
 some-is : (m : ℕ) → not (isZero (pos m)) ≡ ltb 0 m
 some-is zero = refl
 some-is (suc m) = sym (lt-ltb 0 (suc m) (omega arith))
-
--- the ledger's count by an identifier's number
-abbrev pub byNumber : Ledger → ℕ → ℕ → ℕ
-byNumber l i w = l .count (getD (l .identifiers) i []) w
 
 -- no identifier is empty
 pub nameless : (ms : List Name) → every goodLength ms ≡ true → among [] ms ≡ false

@@ -15,7 +15,7 @@ use Rattle.state.specs.Levels.{ofLevel}
 use Rattle.identifiers.specs.Names.{Name, among, numberOf}
 use Rattle.identifiers.proofs.Names.{number-there}
 use Rattle.accounts.specs.Account.{Account, emptyAccount, storedIn, blocksIn, blocksOf, merged, blocksAhead, steppedAccount, flushedAccount, addedTo}
-use Rattle.accounts.specs.Ledger.{Ledger, emptyLedger, opens, closes, including, counts, removes}
+use Rattle.accounts.specs.Ledger.{Ledger, emptyLedger, opens, closes, including, counts, removes, byNumber}
 use Rattle.accounts.specs.Books.{once, takenBack}
 use Rattle.accounts.proofs.Stored.{levelOf, sum-flushed, sum-stored-stepped, sum-added, sum-removed}
 use Rattle.accounts.proofs.Prefixes.{Small}
@@ -24,7 +24,7 @@ use Rattle.accounts.proofs.Fits.{Fits, fits-flushed, fits-stepped, fits
 use Rattle.accounts.proofs.Numbers.{goodLength, among-itself, number-including}
 use Rattle.accounts.proofs.Lawful.{Lawful, lawful-empty, lawful-opens, lawful-closes, lawful-removes}
 use Rattle.accounts.proofs.Counted.{lawful-counts, identifiers-fit}
-use Rattle.accounts.proofs.Held.{byNumber, counts-back}
+use Rattle.accounts.proofs.Held.{counts-back}
 use Rattle.accounts.proofs.Ranged.{storedRule, stored-rule, Ranged, ranged-up, ranged-flushed, ranged-stepped, ranged-added, ranged-back}
 use Rattle.accounts.proofs.Behind.{top, top-le, top-opens, top-closes, top-counts, top-removes, number-counts, number-removes, Behind, behind-opens, behind-closes, behind-flushed, behind-stepped, behind-counts, behind-removes}
 

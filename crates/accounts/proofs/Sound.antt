@@ -36,7 +36,7 @@ use Rattle.removals.specs.Removal.{countsOf}
 use Rattle.merges.specs.Merging.{isLast}
 use Rattle.engine.specs.Calls.{Call, Open, Event, Close, Remove, Flush, Step, Query}
 use Rattle.accounts.specs.Account.{Portion, Account, postingsIn, storedIn, blocksOf, blocksIn, blocksAhead, dueOf, inputsOf}
-use Rattle.accounts.specs.Ledger.{Ledger, live, existing}
+use Rattle.accounts.specs.Ledger.{Ledger, live, existing, byNumber}
 use Rattle.accounts.specs.Lists.{Lists, recordOf, listsRule, identifierRule, windowRule, inputsRule, callRule}
 use Rattle.accounts.proofs.Members.{members-every}
 use Rattle.accounts.proofs.Parts.{sums-in-range, window-in-range, identifier-in-range}
@@ -48,7 +48,7 @@ use Rattle.accounts.proofs.Fits.{Fits, cost, lengths-fit}
 use Rattle.accounts.proofs.Numbers.{numbers-different, numbers-small}
 use Rattle.accounts.proofs.Live.{not-live, existing-removes}
 use Rattle.accounts.proofs.Lawful.{Lawful}
-use Rattle.accounts.proofs.Held.{byNumber, counts-length}
+use Rattle.accounts.proofs.Held.{counts-length}
 use Rattle.accounts.proofs.Ranged.{storedRule, stored-kept, ranged-partitions, ranged-buffer, every-portion, every-oldest}
 use Rattle.accounts.proofs.Behind.{top, top-le, rest}
 use Rattle.accounts.proofs.Kept.{Kept, stored-small}

@@ -5,19 +5,11 @@ use Prim.Native.Nat.{ℕ, _≤_}
 use native.Mathlib.Omega.{arith}
 use Rattle.lists.specs.All.{AllOf}
 use Rattle.lists.specs.Lists.{empty}
-use Rattle.answers.specs.Answers.{Answer, done, number, hits, refused, Outcome, refuse, leave, refuseIf, choose, answerOf, stateOf}
-use Rattle.answers.specs.declared.Hit.{Hit}
+use Rattle.answers.specs.Answers.{Outcome, refuse, leave, refuseIf, choose, answerOf, stateOf}
 use Rattle.engine.specs.Calls.{Call, Open, Event, Close, Remove, Flush, Step, Query, run}
 use Rattle.accounts.specs.Account.{Account, emptyAccount, stepping, flushing, flushingIf}
 use Rattle.accounts.specs.Ledger.{Ledger, emptyLedger}
-use Rattle.accounts.specs.Books.{Books, books, booksCall, expected}
-
--- an answer that is no refusal, or one from 4 on
-pub data Granted : Answer → Type 0 where
-  isDone : Granted done
-  isNumber : {n : ℕ} → Granted (number n)
-  isHits : {hs : List Hit} {n : ℕ} → Granted (hits hs n)
-  isLater : {n : ℕ} → 4 ≤ n → Granted (refused n)
+use Rattle.accounts.specs.Books.{Books, Granted, isDone, isNumber, isHits, isLater, books, booksCall, expected}
 
 -- one test
 later : (t : Bool) (n : ℕ) (o : Outcome Books) → 4 ≤ n → Granted (answerOf o) → Granted (answerOf (refuseIf t n o))

@@ -2,14 +2,15 @@
 -- ledger alone; refusals 10 to 13 and the postings taken from the account.
 use mathlib.Core.Bool.{Bool, _||_, _&&_, not, cond}
 use mathlib.Core.List.{List, [], _∷_}
-use Prim.Native.Nat.{ℕ, suc}
+use Prim.Native.Nat.{ℕ, suc, _≤_}
 use lib.Dec.{eqb, leb}
 use lib.IntN.{ℤ, pos, negℤ}
 use lib.ListN.{length, getD}
 use Rattle.lists.specs.Lists.{any, down, upTo}
 use Rattle.postings.specs.declared.Posting.{Posting}
 use Rattle.postings.specs.Merge.{isZero}
-use Rattle.answers.specs.Answers.{Answer, done, number, hits, Outcome, refuse, leave, refuseIf}
+use Rattle.answers.specs.Answers.{Answer, done, number, hits, refused, Outcome, refuse, leave, refuseIf}
+use Rattle.answers.specs.declared.Hit.{Hit}
 use Rattle.identifiers.specs.Names.{Name, badLength, among, numberOf, numbersOf}
 use Rattle.queries.specs.Hits.{ranked}
 use Rattle.queries.specs.Query.{badQuery}
@@ -33,6 +34,13 @@ takenBack l w = negatedBy (λ i. pos (l .count (getD (l .identifiers) i []) w)) 
 pub record Books : Type 0 where
   pub ledger : Ledger
   pub account : Account
+
+-- an answer that is no refusal, or one from 4 on
+pub data Granted : Answer → Type 0 where
+  isDone : Granted done
+  isNumber : {n : ℕ} → Granted (number n)
+  isHits : {hs : List Hit} {n : ℕ} → Granted (hits hs n)
+  isLater : {n : ℕ} → 4 ≤ n → Granted (refused n)
 
 -- on a card of so many blocks and a register of so many entries
 module _ (blocks entries : ℕ) where

@@ -3,7 +3,7 @@ use mathlib.Core.Bool.{Bool, true, false, _||_, _&&_, not, cond}
 use mathlib.Core.List.{List, [], _∷_, _++_}
 use Prim.Native.Nat.{ℕ, suc, _-_}
 use lib.Dec.{eqb, ltb}
-use lib.ListN.{length}
+use lib.ListN.{length, getD}
 use Rattle.lists.specs.Lists.{keep, any, down, same}
 use Rattle.identifiers.specs.Names.{Name, among}
 
@@ -27,6 +27,10 @@ live l w = any (λ n. ltb 0 (l .count n w)) (l .identifiers)
 -- N: how many windows exist, the open one included
 unfoldable pub existing : Ledger → ℕ
 existing l = length (keep (live l) (down (l .last)))
+
+-- the count by an identifier's number, its place in the order of first count
+abbrev pub byNumber : Ledger → ℕ → ℕ → ℕ
+byNumber l i w = l .count (getD (l .identifiers) i []) w
 
 -- ---- what the calls do to it
 

@@ -15,10 +15,10 @@ use Rattle.lists.proofs.Ranges.{every-rising, elem-rising, different-rising}
 use Rattle.lists.proofs.Tests.{every-replicate}
 use Rattle.lists.proofs.Sets.{every-elem, elem-keep, different-keep, every-turned, any-turned, length-keep-turned, different-turned}
 use Rattle.words.specs.Words.{allOnes}
-use Rattle.card.specs.Blocks.{noBlock, block, link, isFree, afterTaken, freeBlocks}
+use Rattle.card.specs.Blocks.{noBlock, block, link, isFree, afterTaken, freeBlocks, onCard}
 use Rattle.card.specs.Chains.{chain, chainRule}
 use Rattle.card.specs.Writes.{store, release}
-use Rattle.card.proofs.Links.{onCard, word-in, rule-first}
+use Rattle.card.proofs.Links.{word-in, rule-first}
 use Rattle.card.proofs.Stores.{apart, store-apart, release-apart}
 use Rattle.card.proofs.Stored.{block-back}
 

@@ -1,5 +1,5 @@
 -- What a chain says by its places: its blocks, their links, and the words of its content.
-use mathlib.Core.Bool.{Bool, true, cond, true≢false}
+use mathlib.Core.Bool.{true, cond, true≢false}
 use mathlib.Core.List.{List, [], _∷_}
 use mathlib.Core.Path.{_≡_, refl, sym, ap, _∙_}
 use Prim.Native.Nat.{ℕ, zero, suc, _+_, _*_, _/_, _%_, _<_}
@@ -10,12 +10,8 @@ use lib.Seq.{getD-take, getD-drop, getD-append-add}
 use borrow.Author.Tests.{ltb-true, ltb-false, eqb-true}
 use Rattle.lists.specs.Lists.{every}
 use Rattle.lists.proofs.Bools.{by-test, and-left, and-right, and-both}
-use Rattle.card.specs.Blocks.{noBlock, block, contentOf, link}
+use Rattle.card.specs.Blocks.{noBlock, block, contentOf, link, onCard}
 use Rattle.card.specs.Chains.{chain, chainRule, content}
-
--- every block is one of a card of n
-abbrev pub onCard : ℕ → List ℕ → Bool
-onCard n bs = every (λ b. ltb b n) bs
 
 -- a word by its block and its place there
 pub word-in : (W : List ℕ) (k : ℕ) → getD W k 0 ≡ getD (block W (k / 1024)) (k % 1024) 0

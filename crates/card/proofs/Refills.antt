@@ -12,10 +12,10 @@ use Rattle.lists.specs.Lists.{elem, different}
 use Rattle.lists.proofs.Bools.{by-test}
 use Rattle.lists.proofs.Sets.{elem-place}
 use Rattle.words.specs.Words.{allOnes}
-use Rattle.card.specs.Blocks.{link}
+use Rattle.card.specs.Blocks.{link, onCard}
 use Rattle.card.specs.Chains.{chain, chainRule, content}
 use Rattle.card.specs.Writes.{store}
-use Rattle.card.proofs.Links.{onCard, rule-on, chained-link, content-at}
+use Rattle.card.proofs.Links.{rule-on, chained-link, content-at}
 use Rattle.card.proofs.Stores.{length-store, store-apart}
 use Rattle.card.proofs.Stored.{chain-stored, rule-stored, content-stored}
 use Rattle.card.specs.Moves.{Fills}

@@ -12,10 +12,10 @@ use Rattle.lists.specs.Lists.{elem, different}
 use Rattle.lists.proofs.Bools.{and-left, and-right, and-both}
 use Rattle.lists.proofs.Sets.{sets-back, pad-split}
 use Rattle.words.specs.Words.{allOnes}
-use Rattle.card.specs.Blocks.{noBlock, block, contentOf, link}
+use Rattle.card.specs.Blocks.{noBlock, block, contentOf, link, onCard}
 use Rattle.card.specs.Chains.{chain, chainRule, content}
 use Rattle.card.specs.Writes.{putBlock, store}
-use Rattle.card.proofs.Links.{onCard, link-block}
+use Rattle.card.proofs.Links.{link-block}
 use Rattle.card.proofs.Stores.{length-laid, short, length-put, store-apart}
 
 -- One block --------------------------------------------------------------------------------------------------------

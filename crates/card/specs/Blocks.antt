@@ -2,7 +2,7 @@
 use mathlib.Core.Bool.{Bool}
 use mathlib.Core.List.{List, [], _∷_, _++_}
 use Prim.Native.Nat.{ℕ, zero, suc, _+_, _*_}
-use lib.Dec.{eqb}
+use lib.Dec.{eqb, ltb}
 use lib.ListN.{length, getD, take, drop}
 use Rattle.lists.specs.Lists.{keep, every, upTo}
 use Rattle.words.specs.Words.{allOnes}
@@ -22,6 +22,10 @@ contentOf W b = take 1023 (block W b)
 -- the block that block b names as the next
 abbrev pub link : List ℕ → ℕ → ℕ
 link W b = getD W (1024 * b + 1023) 0
+
+-- every block is one of a card of n
+abbrev pub onCard : ℕ → List ℕ → Bool
+onCard n bs = every (λ b. ltb b n) bs
 
 -- a free block is all 255
 abbrev pub isFree : List ℕ → ℕ → Bool

@@ -28,8 +28,7 @@ use Rattle.card.proofs.Stores.{Agree, apart, store-agrees, length-store, chain-
 use Rattle.card.proofs.FreeBlocks.{store-other, chain-taken}
 use Rattle.partitions.specs.Layout.{lengthOf, encode}
 use Rattle.partitions.specs.Reading.{chainOf, postingsOf}
-use Rattle.partitions.specs.Formed.{partitionRule, chainsOf, partitionsFormed}
-use Rattle.partitions.proofs.Rules.{Writable}
+use Rattle.partitions.specs.Formed.{partitionRule, chainsOf, partitionsFormed, Writable}
 use Rattle.partitions.proofs.Kept.{AgreeAll, postings-kept, chains-kept}
 use Rattle.flushes.proofs.Flushed.{flushRecord, flushCard, flush-chain, flush-rule, flush-postings, flush-keeps, flush-formed}
 use Rattle.windows.specs.Flush.{flushedTo, flushedCard}
@@ -38,8 +37,9 @@ use Rattle.merges.specs.Step.{inProgress, outputChain, outputRule}
 use Rattle.accounts.specs.Account.{Portion, dueOf, inputsOf, flushedAccount}
 use Rattle.accounts.specs.Lists.{Lists, withAccount}
 use Rattle.accounts.proofs.Steps.{Progress, progress-due, inputs-flushed}
+use Rattle.decoded.specs.Portions.{portionOn, outputOf, occupied}
 use Rattle.decoded.proofs.Maps.{map-append}
-use Rattle.decoded.proofs.Holds.{portionOn, outputOf, occupied, Holds, taking-is, buffer-is}
+use Rattle.decoded.proofs.Holds.{Holds, taking-is, buffer-is}
 use Rattle.decoded.proofs.Unused.{output-kept, chains-once}
 
 -- ---- the output in progress on another card

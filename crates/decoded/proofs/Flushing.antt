@@ -21,7 +21,7 @@ use Rattle.state.specs.Rules.{bufferRule}
 use Rattle.state.proofs.Kept.{lengths-kept, rules-of, buffer-kept}
 use Rattle.card.specs.Blocks.{isFree, freeBlocks}
 use Rattle.card.proofs.FreeBlocks.{free-at}
-use Rattle.partitions.proofs.Rules.{Writable}
+use Rattle.partitions.specs.Formed.{Writable}
 use Rattle.flushes.proofs.Flushed.{buffer-writable}
 use Rattle.windows.specs.Flush.{finishedBlocks, flushedTo, nextFree, flushedCard, flushing, flushingIf}
 use Rattle.accounts.specs.Account.{Account, blocksIn, merged, blocksAhead, flushedAccount, flushing as accountFlushing, flushingIf as accountFlushingIf}
@@ -29,8 +29,9 @@ use Rattle.accounts.specs.Lists.{Lists, listsRule, withAccount}
 use Rattle.accounts.proofs.Stored.{levelOf}
 use Rattle.accounts.proofs.Steps.{Progress}
 use Rattle.accounts.proofs.Shaped.{portionRule}
+use Rattle.decoded.specs.Portions.{portionOn}
 use Rattle.decoded.proofs.Maps.{count-map}
-use Rattle.decoded.proofs.Holds.{portionOn, Holds, buffer-is}
+use Rattle.decoded.proofs.Holds.{Holds, buffer-is}
 use Rattle.decoded.proofs.Ruled.{ruled}
 use Rattle.decoded.proofs.Unused.{finished-is, none-free}
 use Rattle.decoded.proofs.Flushed.{holds-flushed}

@@ -17,7 +17,8 @@ use Rattle.partitions.specs.Formed.{chainsOf, partitionsFormed}
 use Rattle.windows.specs.Calls.{fresh}
 use Rattle.accounts.specs.Account.{emptyAccount}
 use Rattle.accounts.specs.Lists.{noLists}
-use Rattle.decoded.proofs.Holds.{outputOf, Stored}
+use Rattle.decoded.specs.Portions.{outputOf}
+use Rattle.decoded.proofs.Holds.{Stored}
 
 module _ (c r : ℕ) (cardFits : cardLength c ≡ true) (registerFits : registerLength r ≡ true) where
   both : lengthsRule (record { card = c; register = r }) ≡ true

@@ -10,7 +10,8 @@ use Rattle.state.specs.Views.{listedOf, bufferOf, withWindows, withListed, with
 use Rattle.merges.specs.Merging.{taking}
 use Rattle.merges.specs.Step.{outputRule}
 use Rattle.accounts.specs.Lists.{Lists}
-use Rattle.decoded.proofs.Holds.{outputOf, Holds}
+use Rattle.decoded.specs.Portions.{outputOf}
+use Rattle.decoded.proofs.Holds.{Holds}
 
 -- the state with these in front
 abbrev pub fronted : State → Windows → Listed → Buffer → State

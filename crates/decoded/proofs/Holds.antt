@@ -1,6 +1,6 @@
 -- What a state and the words of its card hold: lists of postings, window numbers, and the steps of the merge in progress.
-use mathlib.Core.Bool.{true, not, cond}
-use mathlib.Core.List.{List, [], _++_, map}
+use mathlib.Core.Bool.{true, not}
+use mathlib.Core.List.{List, _++_, map}
 use mathlib.Core.Path.{_≡_, sym, ap, ap₂, _∙_}
 use Prim.Native.Nat.{ℕ, _*_, _<_}
 use lib.Dec.{eqb}
@@ -21,25 +21,14 @@ use Rattle.identifiers.specs.Register.{names, registerRule}
 use Rattle.card.specs.Blocks.{isFree}
 use Rattle.partitions.specs.Layout.{lengthOf}
 use Rattle.partitions.specs.Reading.{postingsOf, inPartitions, stored}
-use Rattle.partitions.specs.Formed.{chainsOf, partitionsFormed}
+use Rattle.partitions.specs.Formed.{partitionsFormed}
 use Rattle.merges.specs.Merging.{dueIn, inputs, taking}
-use Rattle.merges.specs.Step.{inProgress, outputChain, outputRule}
+use Rattle.merges.specs.Step.{inProgress, outputRule}
 use Rattle.accounts.specs.Account.{Portion, Account, postingsIn, storedIn, dueOf, inputsOf}
 use Rattle.accounts.specs.Lists.{Lists}
 use Rattle.accounts.proofs.Stored.{levelOf}
+use Rattle.decoded.specs.Portions.{portionOn, occupied}
 use Rattle.decoded.proofs.Maps.{map-map, due-map, oldest-map}
-
--- a finished partition as it is read from the card's words
-abbrev pub portionOn : List ℕ → Partition → Portion
-portionOn W p = record { level = p .level; postings = postingsOf W p }
-
--- the blocks of the output in progress
-unfoldable pub outputOf : List ℕ → State → List ℕ
-outputOf W s = cond (inProgress s) (outputChain W s (taking W s)) []
-
--- the blocks that are not free: of the output in progress and of finished partitions
-abbrev pub occupied : List ℕ → State → List ℕ
-occupied W s = outputOf W s ++ chainsOf W (finished (s .partitions))
 
 pub record Holds (s : State) (W : List ℕ) (e : Lists) : Type 0 where
   -- the buffers' lengths

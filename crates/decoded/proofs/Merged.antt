@@ -26,19 +26,19 @@ use Rattle.card.specs.Chains.{blocksFor}
 use Rattle.card.specs.Writes.{store, release}
 use Rattle.card.proofs.Stores.{Agree, apart, length-store, length-release, store-apart, release-apart, release-agrees}
 use Rattle.card.proofs.FreeBlocks.{released-free, release-other, store-other}
-use Rattle.partitions.specs.Layout.{lengthOf, encode}
+use Rattle.partitions.specs.Layout.{lengthOf, encode, writtenAs}
 use Rattle.partitions.specs.Reading.{chainOf, postingsOf}
-use Rattle.partitions.specs.Formed.{partitionRule, chainsOf, partitionsFormed}
+use Rattle.partitions.specs.Formed.{partitionRule, chainsOf, partitionsFormed, Writable}
 use Rattle.partitions.proofs.Lengths.{blocks-some}
-use Rattle.partitions.proofs.Rules.{Writable}
-use Rattle.partitions.proofs.Kept.{recordOf, AgreeAll, chain-written, rule-written, postings-written, chain-kept, rule-kept, postings-kept, chains-kept, formed-kept}
+use Rattle.partitions.proofs.Kept.{AgreeAll, chain-written, rule-written, postings-written, chain-kept, rule-kept, postings-kept, chains-kept, formed-kept}
 use Rattle.merges.specs.Merging.{dueIn, taking, result, outputLevel, outputRecord}
 use Rattle.accounts.specs.Account.{Portion, dueOf, merged, portionOf, completed}
 use Rattle.accounts.specs.Lists.{Lists, withAccount}
 use Rattle.accounts.proofs.Stored.{levelOf, parted}
+use Rattle.decoded.specs.Portions.{portionOn, outputOf, occupied}
 use Rattle.decoded.proofs.Maps.{map-append, map-take, map-drop, place-map}
 use Rattle.decoded.proofs.Disjoint.{Apart, elem-append, elem-left, elem-right, elem-neither, apart-swap, apart-left, apart-right, apart-join, apart-test, different-parts, different-join}
-use Rattle.decoded.proofs.Holds.{portionOn, outputOf, occupied, Holds, due-is, taking-is}
+use Rattle.decoded.proofs.Holds.{Holds, due-is, taking-is}
 use Rattle.decoded.proofs.Unused.{chains-once, each-formed}
 use Rattle.decoded.proofs.Outputs.{Output, chains-more}
 use Rattle.decoded.proofs.Stepped.{portions-agree, sizes-agree, written-taken}
@@ -148,9 +148,9 @@ module _ (s : State) (W : List ℕ) (e : Lists) (h : Holds s W e) (bs : List ℕ
   -- ---- what is written
 
   written : Partition
-  written = recordOf bs level r
+  written = writtenAs bs level r
 
-  record-is : empty r ≡ false → R ≡ recordOf bs level r ∷ []
+  record-is : empty r ≡ false → R ≡ writtenAs bs level r ∷ []
   record-is z = ap (λ u. cond u [] (record { first = getD bs 0 noBlock; level = level; length = lengthOf r } ∷ [])) z ∙ ap (λ b. record { first = b; level = level; length = lengthOf r } ∷ []) (first bs some)
     where
       some : 1 ≤ length bs
@@ -174,27 +174,27 @@ module _ (s : State) (W : List ℕ) (e : Lists) (h : Holds s W e) (bs : List ℕ
     sized : length bs ≡ blocksFor (lengthOf r)
     sized = out .size ∙ ap (λ u. cond u 0 (blocksFor (lengthOf r))) z
 
-    chain-new1 : chainOf W1 (recordOf bs level r) ≡ bs
+    chain-new1 : chainOf W1 (writtenAs bs level r) ≡ bs
     chain-new1 = chain-written W bs n level r (h .long) (out .on) (out .once) sized
 
-    agree-new : Agree W′ W1 (chainOf W1 (recordOf bs level r))
-    agree-new = release-agrees W1 (chainsOf W B) (chainOf W1 (recordOf bs level r)) (ap (λ l. apart l (chainsOf W B)) chain-new1 ∙ apart-test bs (chainsOf W B) (blocked .apartB))
+    agree-new : Agree W′ W1 (chainOf W1 (writtenAs bs level r))
+    agree-new = release-agrees W1 (chainsOf W B) (chainOf W1 (writtenAs bs level r)) (ap (λ l. apart l (chainsOf W B)) chain-new1 ∙ apart-test bs (chainsOf W B) (blocked .apartB))
 
-    chain-new : chainOf W′ (recordOf bs level r) ≡ bs
-    chain-new = chain-kept W′ W1 (recordOf bs level r) agree-new ∙ chain-new1
+    chain-new : chainOf W′ (writtenAs bs level r) ≡ bs
+    chain-new = chain-kept W′ W1 (writtenAs bs level r) agree-new ∙ chain-new1
 
-    rule-new : partitionRule W′ n (recordOf bs level r) ≡ true
-    rule-new = rule-kept W′ W1 (recordOf bs level r) agree-new n ∙ rule-written W bs n level r (h .long) (out .on) (out .once) sized (fine z)
+    rule-new : partitionRule W′ n (writtenAs bs level r) ≡ true
+    rule-new = rule-kept W′ W1 (writtenAs bs level r) agree-new n ∙ rule-written W bs n level r (h .long) (out .on) (out .once) sized (fine z)
 
-    postings-new : postingsOf W′ (recordOf bs level r) ≡ r
-    postings-new = postings-kept W′ W1 (recordOf bs level r) agree-new ∙ postings-written W bs n level r (h .long) (out .on) (out .once) sized (fine z)
+    postings-new : postingsOf W′ (writtenAs bs level r) ≡ r
+    postings-new = postings-kept W′ W1 (writtenAs bs level r) agree-new ∙ postings-written W bs n level r (h .long) (out .on) (out .once) sized (fine z)
 
   -- whether the result is empty or not
   chains-result : chainsOf W′ R ≡ bs
   chains-result =
       by-test (empty r)
       (λ y. ap (chainsOf W′) (record-none y) ∙ nothing ∙ sym (no-blocks y))
-      (λ z. ap (chainsOf W′) (record-is z) ∙ chains-more W′ (recordOf bs level r) [] ∙ ap (λ l. chainOf W′ (recordOf bs level r) ++ l) nothing ∙ append-nil (chainOf W′ (recordOf bs level r)) ∙ chain-new z)
+      (λ z. ap (chainsOf W′) (record-is z) ∙ chains-more W′ (writtenAs bs level r) [] ∙ ap (λ l. chainOf W′ (writtenAs bs level r) ++ l) nothing ∙ append-nil (chainOf W′ (writtenAs bs level r)) ∙ chain-new z)
     where
       nothing : chainsOf W′ [] ≡ []
       nothing = unfold chainsOf in refl
@@ -207,7 +207,7 @@ module _ (s : State) (W : List ℕ) (e : Lists) (h : Holds s W e) (bs : List ℕ
   sizes-result : every (λ p. eqb (p .length) (lengthOf (postingsOf W′ p))) R ≡ true
   sizes-result =
       by-test (empty r) (λ y. ap (every (λ p. eqb (p .length) (lengthOf (postingsOf W′ p)))) (record-none y))
-      (λ z. ap (every (λ p. eqb (p .length) (lengthOf (postingsOf W′ p)))) (record-is z) ∙ ap (λ u. u && true) (eq-eqb (lengthOf r) (lengthOf (postingsOf W′ (recordOf bs level r))) (ap lengthOf (sym (postings-new z)))))
+      (λ z. ap (every (λ p. eqb (p .length) (lengthOf (postingsOf W′ p)))) (record-is z) ∙ ap (λ u. u && true) (eq-eqb (lengthOf r) (lengthOf (postingsOf W′ (writtenAs bs level r))) (ap lengthOf (sym (postings-new z)))))
 
   result-is : r ≡ merged (e .account)
   unfolding merged

@@ -14,8 +14,8 @@ use Rattle.lists.proofs.Sets.{every-elem, different-take}
 use Rattle.state.specs.declared.Partition.{Partition}
 use Rattle.state.specs.declared.State.{State}
 use Rattle.state.specs.Views.{blocks, finished}
-use Rattle.card.specs.Blocks.{isFree, freeBlocks}
-use Rattle.card.proofs.Links.{onCard, length-chain}
+use Rattle.card.specs.Blocks.{isFree, freeBlocks, onCard}
+use Rattle.card.proofs.Links.{length-chain}
 use Rattle.card.proofs.Stores.{apart}
 use Rattle.card.proofs.FreeBlocks.{free-on, free-free, free-different}
 use Rattle.partitions.specs.Reading.{chainOf}
@@ -23,8 +23,9 @@ use Rattle.partitions.specs.Formed.{chainsOf}
 use Rattle.merges.specs.Merging.{taking, result, outputBlocks}
 use Rattle.merges.specs.Step.{inProgress, outputChain, outputOn, lastOf}
 use Rattle.accounts.specs.Lists.{Lists}
+use Rattle.decoded.specs.Portions.{outputOf, occupied}
 use Rattle.decoded.proofs.Disjoint.{Apart, elem-right, apart-swap, apart-left, apart-right, apart-test, different-parts}
-use Rattle.decoded.proofs.Holds.{outputOf, occupied, Holds}
+use Rattle.decoded.proofs.Holds.{Holds}
 use Rattle.decoded.proofs.Unused.{going}
 
 -- blocks of the card, none twice, as many as the result takes, none of them a finished partition's; the output in progress has no others

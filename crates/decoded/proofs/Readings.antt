@@ -31,7 +31,8 @@ use Rattle.removals.specs.Removal.{ofWindow, countsOf, isLive, removalFormed, r
 use Rattle.engine.specs.Calls.{Remove, Query, noHit, withStore, probeCall}
 use Rattle.accounts.specs.Account.{Portion, Account, postingsIn, storedIn, takenFrom, exceeds, addedTo, flushingIf as accountFlushingIf}
 use Rattle.accounts.specs.Lists.{Lists, identifierRule, windowRule, callRule, countOf, removedLists, removingLists, withAccount, pursued, openCounted as openCountedIn}
-use Rattle.decoded.proofs.Holds.{portionOn, Holds, Stored, partitions-is, buffer-is, stored-is}
+use Rattle.decoded.specs.Portions.{portionOn}
+use Rattle.decoded.proofs.Holds.{Holds, Stored, partitions-is, buffer-is, stored-is}
 use Rattle.decoded.proofs.Fronts.{holds-fronted}
 use Rattle.decoded.proofs.Flushing.{Same, bothLeave, same-carry, refusing, passing, Fine, flushIf-same}
 use Rattle.decoded.proofs.WindowCalls.{stored-store, no-first, no-second, no-second-both}

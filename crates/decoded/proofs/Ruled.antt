@@ -23,8 +23,9 @@ use Rattle.partitions.specs.Reading.{postingsOf}
 use Rattle.merges.specs.Merging.{dueIn}
 use Rattle.accounts.specs.Account.{dueOf}
 use Rattle.accounts.specs.Lists.{Lists, recordOf, listsRule}
+use Rattle.decoded.specs.Portions.{portionOn}
 use Rattle.decoded.proofs.Maps.{map-map, count-map}
-use Rattle.decoded.proofs.Holds.{portionOn, Holds, due-is}
+use Rattle.decoded.proofs.Holds.{Holds, due-is}
 
 -- a record without its first block, of which no rule says anything
 abbrev blank : Partition → Partition

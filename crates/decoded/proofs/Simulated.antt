@@ -22,11 +22,10 @@ use Rattle.state.specs.declared.Windows.{Windows}
 use Rattle.state.specs.Views.{blocks, entries}
 use Rattle.state.specs.Probe.{Probe}
 use Rattle.partitions.specs.Reading.{stored}
-use Rattle.partitions.specs.Formed.{listRule, inRange, sumsInRange}
-use Rattle.partitions.proofs.Rules.{Writable}
+use Rattle.partitions.specs.Formed.{listRule, inRange, sumsInRange, Writable}
 use Rattle.engine.specs.Calls.{Call, Open, Event, Close, Remove, Flush, Step, Query, probeCall, run, afterwards}
 use Rattle.accounts.specs.Account.{Account, storedIn, inputsOf, merged}
-use Rattle.accounts.specs.Ledger.{Ledger, existing}
+use Rattle.accounts.specs.Ledger.{Ledger, existing, byNumber}
 use Rattle.accounts.specs.Books.{Books, booksCall}
 use Rattle.accounts.specs.Lists.{Lists, callRule, pursued, listsCall}
 use Rattle.accounts.proofs.Parts.{sums-in-range}
@@ -34,7 +33,6 @@ use Rattle.accounts.proofs.Stored.{merged-ordered, merged-counts}
 use Rattle.accounts.proofs.Prefixes.{inputs-small}
 use Rattle.accounts.proofs.Ranged.{storedRule, stored-kept, ranged-partitions, merged-ranged}
 use Rattle.accounts.proofs.Behind.{top}
-use Rattle.accounts.proofs.Held.{byNumber}
 use Rattle.accounts.proofs.Kept.{Kept}
 use Rattle.accounts.proofs.Sound.{rules-hold}
 use Rattle.accounts.proofs.Agree.{unrefused}

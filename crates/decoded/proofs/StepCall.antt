@@ -24,8 +24,7 @@ use Rattle.state.proofs.Kept.{lengths-kept}
 use Rattle.card.specs.Blocks.{noBlock, freeBlocks}
 use Rattle.card.specs.Writes.{store, release}
 use Rattle.partitions.specs.Reading.{postingsOf}
-use Rattle.partitions.specs.Formed.{partitionsFormed, chainsOf, listRule, inRange}
-use Rattle.partitions.proofs.Rules.{Writable}
+use Rattle.partitions.specs.Formed.{partitionsFormed, chainsOf, listRule, inRange, Writable}
 use Rattle.partitions.specs.Layout.{encode}
 use Rattle.merges.specs.Merging.{dueIn, inputs, taking, result, outputLength, outputBlocks, progress, isLast, outputLevel, outputRecord, outputContent}
 use Rattle.merges.specs.Step.{inProgress, outputRule, stepFormed, outputOn, lastOf, steppedOn, writtenOn, stepping, stepOf}
@@ -34,7 +33,8 @@ use Rattle.accounts.specs.Account.{Portion, Account, blocksOf, blocksIn, dueOf,
 use Rattle.accounts.specs.Lists.{Lists, inputsRule, callRule, withAccount, pursued}
 use Rattle.accounts.proofs.Stored.{levelOf, step-ends, step-goes}
 use Rattle.accounts.proofs.Steps.{progress-due}
-use Rattle.decoded.proofs.Holds.{portionOn, Holds, Stored, due-is, inputs-are, taking-is}
+use Rattle.decoded.specs.Portions.{portionOn}
+use Rattle.decoded.proofs.Holds.{Holds, Stored, due-is, inputs-are, taking-is}
 use Rattle.decoded.proofs.Unused.{result-is, free-left}
 use Rattle.decoded.proofs.Flushing.{Same, bothLeave, same-carry, refusing, passing, Fine}
 use Rattle.decoded.proofs.WindowCalls.{stored-store, no-first, no-second}

@@ -20,10 +20,9 @@ use Rattle.state.specs.declared.MergeJob.{MergeJob}
 use Rattle.state.specs.declared.State.{State}
 use Rattle.state.specs.Views.{padded, blocks, finished, withTaken, withMerge}
 use Rattle.state.proofs.Kept.{lengths-kept}
-use Rattle.card.specs.Blocks.{noBlock, isFree}
+use Rattle.card.specs.Blocks.{noBlock, isFree, onCard}
 use Rattle.card.specs.Chains.{blocksFor, chain, chainRule, content}
 use Rattle.card.specs.Writes.{store}
-use Rattle.card.proofs.Links.{onCard}
 use Rattle.card.proofs.Stores.{length-store}
 use Rattle.card.proofs.Stored.{chain-stored, rule-stored, content-stored}
 use Rattle.card.proofs.FreeBlocks.{store-other, chain-taken}
@@ -36,8 +35,9 @@ use Rattle.merges.specs.Merging.{taking, result, outputLength, outputBlocks, pr
 use Rattle.merges.specs.Step.{inProgress, outputChain, outputRule}
 use Rattle.accounts.specs.Account.{furthered}
 use Rattle.accounts.specs.Lists.{Lists, withAccount}
+use Rattle.decoded.specs.Portions.{portionOn, outputOf, occupied}
 use Rattle.decoded.proofs.Disjoint.{elem-left, elem-append, different-join}
-use Rattle.decoded.proofs.Holds.{portionOn, outputOf, occupied, Holds, taking-is}
+use Rattle.decoded.proofs.Holds.{Holds, taking-is}
 use Rattle.decoded.proofs.Unused.{chains-once}
 use Rattle.decoded.proofs.Flushed.{ruleOf, rule-is}
 use Rattle.decoded.proofs.Outputs.{Output, each-apart}

@@ -16,9 +16,9 @@ use Rattle.state.specs.declared.Partition.{Partition}
 use Rattle.state.specs.declared.State.{State}
 use Rattle.postings.specs.declared.Posting.{Posting}
 use Rattle.state.specs.Views.{padded, blocks, finished}
-use Rattle.card.specs.Blocks.{noBlock, isFree, freeBlocks}
+use Rattle.card.specs.Blocks.{noBlock, isFree, freeBlocks, onCard}
 use Rattle.card.specs.Chains.{blocksFor, chain, chainRule, content}
-use Rattle.card.proofs.Links.{onCard, length-chain, rule-on}
+use Rattle.card.proofs.Links.{length-chain, rule-on}
 use Rattle.card.proofs.FreeBlocks.{free-count}
 use Rattle.partitions.specs.Layout.{lengthOf}
 use Rattle.partitions.specs.Reading.{chainOf, postingsOf}
@@ -29,7 +29,8 @@ use Rattle.merges.specs.Step.{inProgress, outputChain, outputRule}
 use Rattle.accounts.specs.Account.{Portion, blocksOf, blocksIn, merged, blocksAhead}
 use Rattle.accounts.specs.Lists.{Lists}
 use Rattle.accounts.proofs.Shaped.{portionRule}
-use Rattle.decoded.proofs.Holds.{portionOn, outputOf, occupied, Holds, taking-is}
+use Rattle.decoded.specs.Portions.{portionOn, outputOf, occupied}
+use Rattle.decoded.proofs.Holds.{Holds, taking-is}
 
 -- ---- numbers that are not in a list
 

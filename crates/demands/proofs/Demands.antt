@@ -21,12 +21,11 @@ use Rattle.identifiers.specs.Register.{names}
 use Rattle.card.specs.Writes.{store}
 use Rattle.card.specs.Moves.{MovesBytes}
 use Rattle.card.specs.Chains.{blocksFor}
-use Rattle.card.proofs.Links.{onCard}
-use Rattle.partitions.specs.Layout.{lengthOf, encode}
+use Rattle.card.specs.Blocks.{onCard}
+use Rattle.partitions.specs.Layout.{lengthOf, encode, writtenAs}
 use Rattle.partitions.specs.Reading.{postingsOf, stored}
-use Rattle.partitions.specs.Formed.{partitionRule, partitionsFormed}
-use Rattle.partitions.proofs.Rules.{Writable}
-use Rattle.partitions.proofs.Kept.{recordOf, rule-written, postings-written}
+use Rattle.partitions.specs.Formed.{partitionRule, partitionsFormed, Writable}
+use Rattle.partitions.proofs.Kept.{rule-written, postings-written}
 use Rattle.windows.specs.Calls.{fresh, startOf, unstarted, eventOf}
 use Rattle.windows.proofs.Refused.{start-unchanged}
 use Rattle.queries.specs.Query.{countIn, numbers, takenUp, queryFormed, fill, queryOf}
@@ -40,13 +39,11 @@ use Rattle.merges.specs.Step.{stepOf}
 use Rattle.engine.specs.Lent.{Lent, withOwn, lentStepOf}
 use Rattle.engine.proofs.Lent.{lent-unchanged, lent-other, lent-own}
 use Rattle.accounts.specs.Account.{Account, emptyAccount, storedIn, steppedAccount}
-use Rattle.accounts.specs.Ledger.{emptyLedger, including}
-use Rattle.accounts.specs.Books.{Books, booksCall, expected}
+use Rattle.accounts.specs.Ledger.{emptyLedger, including, byNumber}
+use Rattle.accounts.specs.Books.{Books, booksCall, expected, Granted}
 use Rattle.accounts.specs.Lists.{Lists}
-use Rattle.accounts.proofs.Held.{byNumber}
 use Rattle.accounts.proofs.Stored.{sum-stored-stepped}
-use Rattle.accounts.proofs.Unrefused.{Granted}
-use Rattle.decoded.proofs.Holds.{portionOn}
+use Rattle.decoded.specs.Portions.{portionOn}
 use Rattle.decoded.proofs.Simulated.{left-sums}
 use Rattle.histories.specs.Statement.{answers, SameAnswers}
 use Rattle.histories.proofs.Theorem.{entries-most, same-answers, none-malformed, history-left}
@@ -120,7 +117,7 @@ places-kept p ns places found taken e = query-answered p ns places found taken e
 
 -- Postings in order, written as a partition of any level to any blocks of the card, keep the layout and read back as they were.
 pub written-reads-back : (W bs : List ℕ) (n level : ℕ) (ps : List Posting) → length W ≡ 1024 * n → onCard n bs ≡ true → different bs ≡ true → length bs ≡ blocksFor (lengthOf ps) → Writable ps
-    → (partitionRule (store W bs (encode level ps)) n (recordOf bs level ps) ≡ true) × (postingsOf (store W bs (encode level ps)) (recordOf bs level ps) ≡ ps)
+    → (partitionRule (store W bs (encode level ps)) n (writtenAs bs level ps) ≡ true) × (postingsOf (store W bs (encode level ps)) (writtenAs bs level ps) ≡ ps)
 written-reads-back W bs n level ps long on once fits w = (rule-written W bs n level ps long on once fits w, postings-written W bs n level ps long on once fits w)
 
 -- the probe, and ledger and account, after a list of calls on a fresh card of c bytes with a register of r

@@ -23,15 +23,13 @@ use Rattle.state.specs.declared.Partition.{Partition}
 use Rattle.state.specs.Views.{buffered}
 use Rattle.state.specs.Rules.{postingRule, bufferRule}
 use Rattle.state.proofs.Kept.{posting-kept, buffer-kept}
-use Rattle.card.specs.Blocks.{isFree}
+use Rattle.card.specs.Blocks.{isFree, onCard}
 use Rattle.card.specs.Writes.{store}
-use Rattle.card.proofs.Links.{onCard}
 use Rattle.card.proofs.Stores.{apart}
 use Rattle.partitions.specs.Layout.{lengthOf, encode}
 use Rattle.partitions.specs.Reading.{chainOf, postingsOf, inPartitions}
-use Rattle.partitions.specs.Formed.{partitionRule, chainsOf, partitionsFormed, listRule, inRange}
+use Rattle.partitions.specs.Formed.{partitionRule, chainsOf, partitionsFormed, listRule, inRange, Writable}
 use Rattle.partitions.proofs.Lengths.{one-block}
-use Rattle.partitions.proofs.Rules.{Writable}
 use Rattle.partitions.proofs.Kept.{AgreeAll, chain-written, rule-written, postings-written, chains-kept, all-kept, formed-kept, store-keeps, rules-apart}
 
 -- what a buffer that keeps its rule holds can be written

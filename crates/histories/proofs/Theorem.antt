@@ -10,12 +10,12 @@ use Rattle.lists.proofs.Bools.{and-right}
 use Rattle.state.specs.Rules.{cardLength, registerLength}
 use Rattle.accounts.specs.Account.{emptyAccount}
 use Rattle.accounts.specs.Ledger.{emptyLedger}
-use Rattle.accounts.specs.Books.{booksCall, expected}
+use Rattle.accounts.specs.Books.{booksCall, expected, Granted}
 use Rattle.accounts.specs.Lists.{noLists}
 use Rattle.windows.specs.Calls.{fresh}
 use Rattle.engine.specs.Calls.{Call, probeCall, afterwards}
 use Rattle.accounts.proofs.History.{stands-fresh}
-use Rattle.accounts.proofs.Unrefused.{Granted, all-granted}
+use Rattle.accounts.proofs.Unrefused.{all-granted}
 use Rattle.decoded.proofs.Fresh.{stored-fresh}
 use Rattle.decoded.proofs.Simulated.{runs-simulated, Left, left-after}
 use Rattle.histories.specs.Statement.{answers, SameAnswers}

@@ -20,11 +20,10 @@ use Rattle.state.specs.declared.Partition.{Partition}
 use Rattle.state.specs.declared.Partitions.{Partitions}
 use Rattle.state.specs.declared.State.{State}
 use Rattle.state.specs.Views.{padded, blocks, finished}
-use Rattle.card.specs.Blocks.{noBlock, isFree, freeBlocks}
+use Rattle.card.specs.Blocks.{noBlock, isFree, freeBlocks, onCard}
 use Rattle.card.specs.Chains.{blocksFor, chain, content}
 use Rattle.card.specs.Writes.{store}
 use Rattle.card.proofs.FreeBlocks.{free-on, free-free, free-different}
-use Rattle.card.proofs.Links.{onCard}
 use Rattle.card.proofs.Stores.{Agree, apart, length-store}
 use Rattle.card.proofs.Stored.{chain-stored, rule-stored, content-stored}
 use Rattle.partitions.specs.Layout.{lengthOf}

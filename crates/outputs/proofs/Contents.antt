@@ -16,10 +16,10 @@ use Rattle.lists.proofs.Padding.{padded-add, padded-set}
 use Rattle.lists.proofs.Places.{any-at}
 use Rattle.lists.proofs.Tests.{every-at}
 use Rattle.words.specs.Words.{allOnes}
-use Rattle.card.specs.Blocks.{block}
+use Rattle.card.specs.Blocks.{block, onCard}
 use Rattle.card.specs.Chains.{chain, chainRule, content}
 use Rattle.card.specs.Writes.{store}
-use Rattle.card.proofs.Links.{onCard, chained-link, length-content, content-at}
+use Rattle.card.proofs.Links.{chained-link, length-content, content-at}
 use Rattle.card.proofs.Stores.{length-store, store-apart}
 use Rattle.card.proofs.Stored.{chain-stored, rule-stored, content-stored}
 use Rattle.card.proofs.ByteRule.{word-kept}

@@ -12,35 +12,30 @@ use Rattle.lists.proofs.Tests.{every-from}
 use Rattle.words.specs.Words.{allOnes}
 use Rattle.postings.specs.declared.Posting.{Posting}
 use Rattle.state.specs.declared.Partition.{Partition}
-use Rattle.card.specs.Blocks.{isFree}
+use Rattle.card.specs.Blocks.{isFree, onCard}
 use Rattle.card.specs.Chains.{blocksFor, chain, chainRule, content}
 use Rattle.card.specs.Writes.{store, release}
 use Rattle.card.proofs.Stores.{Agree, apart, store-agrees, release-agrees, chain-agree, rule-agree, content-agree}
-use Rattle.card.proofs.Links.{onCard}
 use Rattle.card.proofs.FreeBlocks.{chain-taken, apart-free}
 use Rattle.card.proofs.Stored.{chain-stored, rule-stored, content-stored}
-use Rattle.partitions.specs.Layout.{lengthOf, encode}
+use Rattle.partitions.specs.Layout.{lengthOf, encode, writtenAs}
 use Rattle.partitions.specs.Reading.{chainOf, decode, postingsOf, inPartitions}
-use Rattle.partitions.specs.Formed.{headerRule, entriesRule, partitionRule, chainsOf, partitionsFormed}
+use Rattle.partitions.specs.Formed.{headerRule, entriesRule, partitionRule, chainsOf, partitionsFormed, Writable}
 use Rattle.partitions.proofs.Lookup.{rule-chain}
 use Rattle.partitions.proofs.Lengths.{length-encode, blocks-hold, blocks-some}
 use Rattle.partitions.proofs.Trips.{decode-encode}
-use Rattle.partitions.proofs.Rules.{Writable, list-ordered, header-rule, entries-rule}
+use Rattle.partitions.proofs.Rules.{list-ordered, header-rule, entries-rule}
 
 -- Written ----------------------------------------------------------------------------------------------------------
 
--- the record of postings written along blocks
-abbrev pub recordOf : List ℕ → ℕ → List Posting → Partition
-recordOf bs level ps = record { first = getD bs 0 0; level = level; length = lengthOf ps }
-
 module _ (W bs : List ℕ) (n level : ℕ) (ps : List Posting) (long : length W ≡ 1024 * n) (on : onCard n bs ≡ true) (new : different bs ≡ true) (fits : length bs ≡ blocksFor (lengthOf ps)) where
   -- its blocks are those
-  pub chain-written : chainOf (store W bs (encode level ps)) (recordOf bs level ps) ≡ bs
+  pub chain-written : chainOf (store W bs (encode level ps)) (writtenAs bs level ps) ≡ bs
   chain-written =
       ap (λ (k : ℕ). chain (store W bs (encode level ps)) (getD bs 0 0) k) (sym fits) ∙ chain-stored W bs (encode level ps) n long on new
 
   -- its content is the partition's words and all ones
-  pub content-written : content (store W bs (encode level ps)) (chainOf (store W bs (encode level ps)) (recordOf bs level ps))
+  pub content-written : content (store W bs (encode level ps)) (chainOf (store W bs (encode level ps)) (writtenAs bs level ps))
       ≡ encode level ps ++ replicate (1023 * length bs - length (encode level ps)) allOnes
   content-written =
       ap (content (store W bs (encode level ps))) chain-written
@@ -48,12 +43,12 @@ module _ (W bs : List ℕ) (n level : ℕ) (ps : List Posting) (long : length W 
 
   module _ (w : Writable ps) where
     -- the rule is kept
-    pub rule-written : partitionRule (store W bs (encode level ps)) n (recordOf bs level ps) ≡ true
+    pub rule-written : partitionRule (store W bs (encode level ps)) n (writtenAs bs level ps) ≡ true
     unfolding partitionRule
     rule-written =
         let c = store W bs (encode level ps) in
         let rest = replicate (1023 * length bs - length (encode level ps)) allOnes in
-        let p = recordOf bs level ps in
+        let p = writtenAs bs level ps in
         and-both (chainRule c n (getD bs 0 0) (blocksFor (lengthOf ps))) _
         (ap (chainRule c n (getD bs 0 0)) (sym fits) ∙ rule-stored W bs (encode level ps) n long on new (omega (arith, blocks-some ps)))
         (rw content-written
@@ -61,7 +56,7 @@ module _ (W bs : List ℕ) (n level : ℕ) (ps : List Posting) (long : length W 
         (entries-rule level ps rest (list-ordered ps (w .formed)) (w .numbered))))
 
     -- and the postings are read back
-    pub postings-written : postingsOf (store W bs (encode level ps)) (recordOf bs level ps) ≡ ps
+    pub postings-written : postingsOf (store W bs (encode level ps)) (writtenAs bs level ps) ≡ ps
     unfolding postingsOf
     postings-written =
         ap decode content-written

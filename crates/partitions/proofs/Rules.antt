@@ -23,13 +23,6 @@ use Rattle.partitions.proofs.Lengths.{terms-some}
 use Rattle.partitions.proofs.Entries.{field-postings, numbers-encoded, counts-encoded, firsts-encoded}
 use Rattle.partitions.proofs.Trips.{decode-encode}
 
--- postings that can be written as a partition: at least one, a list that may be used, identifiers of the register, counts that fit
-pub record Writable (ps : List Posting) : Type 0 where
-  pub some : 1 ≤ length ps
-  pub formed : listRule ps ≡ true
-  pub numbered : every (λ p. leb (p .id) 1023) ps ≡ true
-  pub fitting : every (λ p. inRange (p .count)) ps ≡ true
-
 -- a list that may be used is in order
 pub list-ordered : (ps : List Posting) → listRule ps ≡ true → ordered ps ≡ true
 unfolding listRule

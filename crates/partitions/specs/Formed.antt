@@ -1,9 +1,11 @@
 -- Refusal 3: what is read of finished partitions is malformed.
 use mathlib.Core.Bool.{Bool, true, _&&_, not}
 use mathlib.Core.List.{List, [], _∷_, map}
-use Prim.Native.Nat.{ℕ, _+_, _*_}
+use mathlib.Core.Path.{_≡_}
+use Prim.Native.Nat.{ℕ, _+_, _*_, _≤_}
 use lib.Dec.{eqb, ltb, leb}
 use lib.IntN.{ℤ, natAbs}
+use lib.ListN.{length}
 use Rattle.lists.specs.Lists.{every, totalBy, joined, different, same, upTo}
 use Rattle.postings.specs.declared.Posting.{Posting}
 use Rattle.postings.specs.Order.{ordered}
@@ -76,3 +78,10 @@ unfoldable pub identifierFormed : List ℕ → State → ℕ → Bool
 identifierFormed W s i =
     every (λ p. listRule (under i (postingsOf W p))) (finished (s .partitions))
     && (sumsInRange (under i (inPartitions W (finished (s .partitions)))) && sumsInRange (under i (stored W s)))
+
+-- postings that can be written as a partition: at least one, a list that may be used, identifiers of the register, counts that fit
+pub record Writable (ps : List Posting) : Type 0 where
+  pub some : 1 ≤ length ps
+  pub formed : listRule ps ≡ true
+  pub numbered : every (λ p. leb (p .id) 1023) ps ≡ true
+  pub fitting : every (λ p. inRange (p .count)) ps ≡ true

@@ -3,11 +3,12 @@ use mathlib.Core.Bool.{Bool, not}
 use mathlib.Core.List.{List, [], _∷_, _++_, map}
 use Prim.Native.Nat.{ℕ, _+_, _*_}
 use lib.Dec.{eqb, ltb}
-use lib.ListN.{length}
+use lib.ListN.{length, getD}
 use Rattle.lists.specs.Lists.{keep, joined}
 use Rattle.postings.specs.declared.Posting.{Posting}
 use Rattle.postings.specs.Pack.{packed}
 use Rattle.postings.specs.Sums.{under}
+use Rattle.state.specs.declared.Partition.{Partition}
 
 -- each identifier of the postings once, in their order
 abbrev pub identifiersOf : List Posting → List ℕ
@@ -42,3 +43,7 @@ wordOf p = packed (p .count) (p .window)
 -- the partition: header, entries by identifier, postings
 unfoldable pub encode : ℕ → List Posting → List ℕ
 encode level ps = header level (termCount ps) (length ps) ++ (joined (map (entryOf ps) (identifiersOf ps)) ++ map wordOf ps)
+
+-- the record of a partition of these postings that is written along blocks
+abbrev pub writtenAs : List ℕ → ℕ → List Posting → Partition
+writtenAs bs level ps = record { first = getD bs 0 0; level = level; length = lengthOf ps }

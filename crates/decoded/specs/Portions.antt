@@ -1,0 +1,24 @@
+-- What the words of a card are to the account: finished partitions with their postings, and the blocks that are not free.
+use mathlib.Core.Bool.{cond}
+use mathlib.Core.List.{List, [], _++_}
+use Prim.Native.Nat.{ℕ}
+use Rattle.state.specs.declared.Partition.{Partition}
+use Rattle.state.specs.declared.State.{State}
+use Rattle.state.specs.Views.{finished}
+use Rattle.partitions.specs.Reading.{postingsOf}
+use Rattle.partitions.specs.Formed.{chainsOf}
+use Rattle.merges.specs.Merging.{taking}
+use Rattle.merges.specs.Step.{inProgress, outputChain}
+use Rattle.accounts.specs.Account.{Portion}
+
+-- a finished partition as it is read from the card's words
+abbrev pub portionOn : List ℕ → Partition → Portion
+portionOn W p = record { level = p .level; postings = postingsOf W p }
+
+-- the blocks of the output in progress
+unfoldable pub outputOf : List ℕ → State → List ℕ
+outputOf W s = cond (inProgress s) (outputChain W s (taking W s)) []
+
+-- the blocks that are not free: of the output in progress and of finished partitions
+abbrev pub occupied : List ℕ → State → List ℕ
+occupied W s = outputOf W s ++ chainsOf W (finished (s .partitions))
