@@ -4,9 +4,9 @@ use mathlib.Core.List.{List, [], _∷_, _++_, map, append-nil, append-assoc}
 use mathlib.Core.Path.{_≡_, refl, sym, ap, ap₂, _∙_, subst}
 use Prim.Native.Nat.{ℕ, _*_, _<_, _≤_}
 use native.Mathlib.Omega.{arith}
-use lib.Dec.{eqb}
+use lib.Dec.{eqb, ltb}
 use lib.ListN.{length}
-use borrow.Author.Tests.{eqb-true, eqb-false, eq-eqb, ne-eqb, not-true}
+use borrow.Author.Tests.{eqb-true, eqb-false, eq-eqb, ne-eqb, lt-ltb, not-true}
 use Rattle.lists.specs.All.{AllOf}
 use Rattle.lists.specs.Lists.{every, empty, elem, different, same}
 use Rattle.lists.proofs.Bools.{by-test, and-left, and-right, and-both, or-none, or-right}
@@ -29,6 +29,7 @@ use Rattle.card.proofs.FreeBlocks.{store-other, chain-taken}
 use Rattle.partitions.specs.Layout.{lengthOf, encode}
 use Rattle.partitions.specs.Reading.{chainOf, postingsOf}
 use Rattle.partitions.specs.Formed.{partitionRule, chainsOf, partitionsFormed, Writable}
+use Rattle.partitions.proofs.Lengths.{one-block}
 use Rattle.partitions.proofs.Kept.{AgreeAll, postings-kept, chains-kept}
 use Rattle.flushes.proofs.Flushed.{flushRecord, flushCard, flush-chain, flush-rule, flush-postings, flush-keeps, flush-formed}
 use Rattle.windows.specs.Flush.{flushedTo, flushedCard}
@@ -37,9 +38,10 @@ use Rattle.merges.specs.Step.{inProgress, outputChain, outputRule}
 use Rattle.accounts.specs.Account.{Portion, dueOf, inputsOf, flushedAccount}
 use Rattle.accounts.specs.Lists.{Lists, withAccount}
 use Rattle.accounts.proofs.Steps.{Progress, progress-due, inputs-flushed}
-use Rattle.decoded.specs.Portions.{portionOn, outputOf, occupied}
+use Rattle.decoded.specs.Portions.{portionOn, outputOf, occupied, cleanPast}
 use Rattle.decoded.proofs.Maps.{map-append}
 use Rattle.decoded.proofs.Holds.{Holds, taking-is, buffer-is}
+use Rattle.decoded.proofs.Past.{past-agree, past-written}
 use Rattle.decoded.proofs.Unused.{output-kept, chains-once}
 
 -- ---- the output in progress on another card
@@ -279,10 +281,15 @@ module _ (s : State) (W : List ℕ) (e : Lists) (h : Holds s W e) (b : ℕ) (on 
         ∙ and-both (every sized qs) _ (sizes-kept qs keeps ∙ h .sizes) (ap (λ t. t && true) (eq-eqb (lengthOf held-there) (lengthOf (postingsOf W′ r)) (ap lengthOf (sym written))));
     formed = ap₂ (λ (n : ℕ) (l : List Partition). partitionsFormed W′ n l) blocks-after parts-after
         ∙ flush-formed W (blocks s) b held-there (h .long) on few fine qs most freed (h .formed);
+    past = ap (every (cleanPast W′)) parts-after ∙ every-append (cleanPast W′) qs (r ∷ [])
+        ∙ and-both (every (cleanPast W′) qs) _ (past-agree W′ W qs keeps ∙ h .past) (ap (λ t. t && true) past-new);
     output = λ y. rule-after (sym going-after ∙ y);
     free = λ c low. free-after c (subst (λ n. c < n) blocks-after low);
   }
     where
+      past-new : cleanPast W′ r ≡ true
+      past-new = past-written W (b ∷ []) (blocks s) 0 held-there (h .long) (and-both (ltb b (blocks s)) true (lt-ltb b (blocks s) on) refl) refl (sym (one-block held-there few))
+
       sized : Partition → Bool
       sized p = eqb (p .length) (lengthOf (postingsOf W′ p))
 

@@ -57,6 +57,7 @@ module _ (c r : ℕ) (cardFits : cardLength c ≡ true) (registerFits : register
       portions = refl;
       sizes = refl;
       formed = unfold partitionsFormed chainsOf in refl;
+      past = refl;
       output = λ y. absurd (false≢true y);
       free = λ b low. all-free b ∙ (unfold outputOf chainsOf in refl);
     };

@@ -34,6 +34,7 @@ holds-fronted s W e e′ h w l b x y z parts steps = record {
   portions = h .portions ∙ sym parts;
   sizes = h .sizes;
   formed = h .formed;
+  past = h .past;
   output = h .output;
   free = h .free;
 }

@@ -27,7 +27,7 @@ use Rattle.merges.specs.Step.{inProgress, outputRule}
 use Rattle.accounts.specs.Account.{Portion, Account, postingsIn, storedIn, dueOf, inputsOf}
 use Rattle.accounts.specs.Lists.{Lists}
 use Rattle.accounts.proofs.Stored.{levelOf}
-use Rattle.decoded.specs.Portions.{portionOn, occupied}
+use Rattle.decoded.specs.Portions.{portionOn, occupied, cleanPast}
 use Rattle.decoded.proofs.Maps.{map-map, due-map, oldest-map}
 
 pub record Holds (s : State) (W : List ℕ) (e : Lists) : Type 0 where
@@ -46,6 +46,7 @@ pub record Holds (s : State) (W : List ℕ) (e : Lists) : Type 0 where
   pub portions : map (portionOn W) (finished (s .partitions)) ≡ e .account .partitions
   pub sizes : every (λ p. eqb (p .length) (lengthOf (postingsOf W p))) (finished (s .partitions)) ≡ true
   pub formed : partitionsFormed W (blocks s) (finished (s .partitions)) ≡ true
+  pub past : every (cleanPast W) (finished (s .partitions)) ≡ true
   -- the output in progress, and all other blocks
   pub output : inProgress s ≡ true → outputRule W s (taking W s) ≡ true
   pub free : (b : ℕ) → b < blocks s → isFree W b ≡ not (elem b (occupied W s))

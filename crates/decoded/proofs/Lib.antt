@@ -1,4 +1,5 @@
 pub mod Maps
+pub mod Past
 pub mod Holds
 pub mod Ruled
 pub mod Unused

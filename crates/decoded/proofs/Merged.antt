@@ -35,10 +35,11 @@ use Rattle.merges.specs.Merging.{dueIn, taking, result, outputLevel, outputReco
 use Rattle.accounts.specs.Account.{Portion, dueOf, merged, portionOf, completed}
 use Rattle.accounts.specs.Lists.{Lists, withAccount}
 use Rattle.accounts.proofs.Stored.{levelOf, parted}
-use Rattle.decoded.specs.Portions.{portionOn, outputOf, occupied}
+use Rattle.decoded.specs.Portions.{portionOn, outputOf, occupied, cleanPast}
 use Rattle.decoded.proofs.Maps.{map-append, map-take, map-drop, place-map}
 use Rattle.decoded.proofs.Disjoint.{Apart, elem-append, elem-left, elem-right, elem-neither, apart-swap, apart-left, apart-right, apart-join, apart-test, different-parts, different-join}
 use Rattle.decoded.proofs.Holds.{Holds, due-is, taking-is}
+use Rattle.decoded.proofs.Past.{past-agree, past-written}
 use Rattle.decoded.proofs.Unused.{chains-once, each-formed}
 use Rattle.decoded.proofs.Outputs.{Output, chains-more}
 use Rattle.decoded.proofs.Stepped.{portions-agree, sizes-agree, written-taken}
@@ -209,6 +210,12 @@ module _ (s : State) (W : List ℕ) (e : Lists) (h : Holds s W e) (bs : List ℕ
       by-test (empty r) (λ y. ap (every (λ p. eqb (p .length) (lengthOf (postingsOf W′ p)))) (record-none y))
       (λ z. ap (every (λ p. eqb (p .length) (lengthOf (postingsOf W′ p)))) (record-is z) ∙ ap (λ u. u && true) (eq-eqb (lengthOf r) (lengthOf (postingsOf W′ (writtenAs bs level r))) (ap lengthOf (sym (postings-new z)))))
 
+  past-result : every (cleanPast W′) R ≡ true
+  past-result =
+      by-test (empty r) (λ y. ap (every (cleanPast W′)) (record-none y))
+      (λ z. ap (every (cleanPast W′)) (record-is z) ∙ past-agree W′ W1 (writtenAs bs level r ∷ []) (unfold AllOf in (agree-new z, tt))
+      ∙ ap (λ u. u && true) (past-written W bs n level r (h .long) (out .on) (out .once) (sized z)))
+
   result-is : r ≡ merged (e .account)
   unfolding merged
   result-is = ap nonzero (taking-is s W (e .account) (h .portions))
@@ -275,6 +282,13 @@ module _ (s : State) (W : List ℕ) (e : Lists) (h : Holds s W e) (bs : List ℕ
       right-before : Partition → Bool
       right-before p = eqb (p .length) (lengthOf (postingsOf W p))
 
+  past-all : every (cleanPast W′) new ≡ true
+  past-all =
+      every-append (cleanPast W′) A (R ++ C)
+      ∙ and-both (every (cleanPast W′) A) _ (past-agree W′ W A keepsA ∙ every-take (cleanPast W) at qs (h .past))
+      (every-append (cleanPast W′) R C
+      ∙ and-both (every (cleanPast W′) R) _ past-result (past-agree W′ W C keepsC ∙ every-drop (cleanPast W) (dueAt v) (drop at qs) (every-drop (cleanPast W) at qs (h .past))))
+
   portions-new : map (portionOn W′) new ≡ completed (e .account) .partitions
   unfolding completed
   portions-new =
@@ -340,6 +354,7 @@ module _ (s : State) (W : List ℕ) (e : Lists) (h : Holds s W e) (bs : List ℕ
     portions = ap (map (portionOn W′)) finished-new ∙ portions-new;
     sizes = ap (every (λ p. eqb (p .length) (lengthOf (postingsOf W′ p)))) finished-new ∙ sizes-new;
     formed = ap (partitionsFormed W′ n) finished-new ∙ formed-new;
+    past = ap (every (cleanPast W′)) finished-new ∙ past-all;
     output = λ y. absurd (false≢true y);
     free = λ b within. free-new b within ∙ ap (λ l. not (elem b l)) (sym occupied-new);
   }

@@ -38,6 +38,7 @@ use Rattle.accounts.specs.Lists.{Lists, withAccount}
 use Rattle.decoded.specs.Portions.{portionOn, outputOf, occupied}
 use Rattle.decoded.proofs.Disjoint.{elem-left, elem-append, different-join}
 use Rattle.decoded.proofs.Holds.{Holds, taking-is}
+use Rattle.decoded.proofs.Past.{past-agree}
 use Rattle.decoded.proofs.Unused.{chains-once}
 use Rattle.decoded.proofs.Flushed.{ruleOf, rule-is}
 use Rattle.decoded.proofs.Outputs.{Output, each-apart}
@@ -216,6 +217,7 @@ module _ (s : State) (W : List ℕ) (e : Lists) (h : Holds s W e) (bs : List ℕ
     portions = portions-same;
     sizes = sizes-agree W′ W qs keeps ∙ h .sizes;
     formed = formed-kept W′ W (blocks s) qs keeps ∙ h .formed;
+    past = past-agree W′ W qs keeps ∙ h .past;
     output = λ y. output-formed;
     free = free-same;
   }

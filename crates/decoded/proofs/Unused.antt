@@ -11,6 +11,7 @@ use Rattle.lists.specs.Lists.{keep, every, empty, elem, different, totalBy, joi
 use Rattle.lists.proofs.Bools.{by-test, and-left, and-right, and-both}
 use Rattle.lists.proofs.Tests.{every-append, keep-all}
 use Rattle.lists.proofs.Ranges.{length-rising, every-rising, length-all}
+use Rattle.lists.proofs.Same.{same-true}
 use Rattle.words.specs.Words.{allOnes}
 use Rattle.state.specs.declared.Partition.{Partition}
 use Rattle.state.specs.declared.State.{State}
@@ -94,6 +95,7 @@ pub record OutputKept (W : List ℕ) (s : State) : Type 0 where
   pub none : empty (result (taking W s)) ≡ true → s .merge .first ≡ noBlock
   pub on : onCard (blocks s) (outputChain W s (taking W s)) ≡ true
   pub apart : different (outputChain W s (taking W s) ++ chainsOf W (finished (s .partitions))) ≡ true
+  pub filled : empty (result (taking W s)) ≡ false → content W (outputChain W s (taking W s)) ≡ padded (1023 * outputBlocks (result (taking W s))) allOnes (progress (taking W s) (s .merge .steps))
 
 pub output-kept : (W : List ℕ) (s : State) → different (chainsOf W (finished (s .partitions))) ≡ true → outputRule W s (taking W s) ≡ true → OutputKept W s
 unfolding outputRule
@@ -108,6 +110,7 @@ output-kept W s once rule =
       on = by-test (empty (result ps)) (λ y. nothing ps y) (λ n. rule-on W (blocks s) (s .merge .first) (outputBlocks (result ps)) (and-left (chainRule W (blocks s) (s .merge .first) (outputBlocks (result ps))) _ (some ps b n)));
       apart = by-test (empty (result ps)) (λ y. ap (λ l. different (l ++ chainsOf W (finished (s .partitions)))) (no-chain ps y) ∙ once)
           (λ n. and-left (different (outputChain W s ps ++ chainsOf W (finished (s .partitions)))) _ (and-right (chainRule W (blocks s) (s .merge .first) (outputBlocks (result ps))) _ (some ps b n)));
+      filled = λ n. same-true _ _ (and-right (different (outputChain W s ps ++ chainsOf W (finished (s .partitions)))) _ (and-right (chainRule W (blocks s) (s .merge .first) (outputBlocks (result ps))) _ (some ps b n)));
     }
   where
     rest : List Posting → Bool
@@ -144,7 +147,7 @@ module _ (s : State) (W : List ℕ) (e : Lists) (h : Holds s W e) where
   pub going : inProgress s ≡ true → OutputKept W s
   going y = output-kept W s chains-once (h .output y)
 
-  output-going : inProgress s ≡ true → outputOf W s ≡ outputChain W s (taking W s)
+  pub output-going : inProgress s ≡ true → outputOf W s ≡ outputChain W s (taking W s)
   unfolding outputOf
   output-going y = ap (λ t. cond t (outputChain W s (taking W s)) []) y
 

@@ -1,11 +1,16 @@
 -- What the words of a card are to the account: finished partitions with their postings, and the blocks that are not free.
-use mathlib.Core.Bool.{cond}
+use mathlib.Core.Bool.{Bool, cond}
 use mathlib.Core.List.{List, [], _++_}
-use Prim.Native.Nat.{ℕ}
+use Prim.Native.Nat.{ℕ, _/_}
+use lib.Dec.{eqb}
+use lib.ListN.{drop}
+use Rattle.lists.specs.Lists.{every}
+use Rattle.words.specs.Words.{allOnes}
 use Rattle.state.specs.declared.Partition.{Partition}
 use Rattle.state.specs.declared.State.{State}
 use Rattle.state.specs.Views.{finished}
-use Rattle.partitions.specs.Reading.{postingsOf}
+use Rattle.card.specs.Chains.{content}
+use Rattle.partitions.specs.Reading.{chainOf, postingsOf}
 use Rattle.partitions.specs.Formed.{chainsOf}
 use Rattle.merges.specs.Merging.{taking}
 use Rattle.merges.specs.Step.{inProgress, outputChain}
@@ -22,3 +27,7 @@ outputOf W s = cond (inProgress s) (outputChain W s (taking W s)) []
 -- the blocks that are not free: of the output in progress and of finished partitions
 abbrev pub occupied : List ℕ → State → List ℕ
 occupied W s = outputOf W s ++ chainsOf W (finished (s .partitions))
+
+-- is a partition's content 255 past its length, which counts bytes, four to a word
+unfoldable pub cleanPast : List ℕ → Partition → Bool
+cleanPast W p = every (eqb allOnes) (drop (p .length / 4) (content W (chainOf W p)))
