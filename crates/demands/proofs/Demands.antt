@@ -1,6 +1,6 @@
 -- The three demands as theorems, each under a plain sentence. Who believes the definitions that they name, and the promises of the public functions,
 -- which equate result and lent buffers with those definitions, need read no further: every proof here cites a law.
-use mathlib.Core.Bool.{true}
+use mathlib.Core.Bool.{true, false, _&&_}
 use mathlib.Core.List.{List, map}
 use mathlib.Core.Path.{_≡_, ap, _∙_}
 use Prim.Native.Nat.{ℕ, _*_, _/_, _≤_}
@@ -11,24 +11,30 @@ use Rattle.lists.specs.Lists.{any, different}
 use Rattle.words.specs.Words.{words, Below}
 use Rattle.postings.specs.declared.Posting.{Posting}
 use Rattle.postings.specs.Sums.{sum}
-use Rattle.answers.specs.Answers.{done, hits, refused, Outcome, answerOf, stateOf}
+use Rattle.answers.specs.Answers.{Answer, done, hits, refused, answerOf, stateOf}
+use Rattle.answers.specs.declared.Found.{Found}
 use Rattle.answers.specs.declared.Hit.{Hit}
+use Rattle.state.specs.declared.State.{State}
 use Rattle.state.specs.Probe.{Probe}
 use Rattle.state.specs.Views.{blocks, finished}
 use Rattle.state.specs.Rules.{cardLength, registerLength}
 use Rattle.identifiers.specs.Names.{Name, badLength}
 use Rattle.identifiers.specs.Register.{names}
+use Rattle.card.specs.Blocks.{onCard}
 use Rattle.card.specs.Writes.{store}
 use Rattle.card.specs.Moves.{MovesBytes}
 use Rattle.card.specs.Chains.{blocksFor}
-use Rattle.card.specs.Blocks.{onCard}
 use Rattle.partitions.specs.Layout.{lengthOf, encode, writtenAs}
 use Rattle.partitions.specs.Reading.{postingsOf, stored}
 use Rattle.partitions.specs.Formed.{partitionRule, partitionsFormed, Writable}
 use Rattle.partitions.proofs.Kept.{rule-written, postings-written}
 use Rattle.windows.specs.Calls.{fresh, startOf, unstarted, eventOf}
+use Rattle.windows.specs.Promises.{probeOf}
+use Rattle.windows.specs.declared.Opening.{Opening}
+use Rattle.windows.specs.declared.Replied.{Replied}
 use Rattle.windows.proofs.Refused.{start-unchanged}
 use Rattle.queries.specs.Query.{countIn, numbers, takenUp, queryFormed, fill, queryOf}
+use Rattle.queries.specs.declared.Answered.{Answered}
 use Rattle.queries.proofs.Refused.{query-unchanged}
 use Rattle.engine.specs.Calls.{Call, probeCall, afterwards}
 use Rattle.engine.proofs.Refused.{call-unchanged}
@@ -40,7 +46,7 @@ use Rattle.engine.specs.Lent.{Lent, withOwn, lentStepOf}
 use Rattle.engine.proofs.Lent.{lent-unchanged, lent-other, lent-own}
 use Rattle.accounts.specs.Account.{Account, emptyAccount, storedIn, steppedAccount}
 use Rattle.accounts.specs.Ledger.{emptyLedger, including, byNumber}
-use Rattle.accounts.specs.Books.{Books, booksCall, expected, Granted}
+use Rattle.accounts.specs.Books.{Books, Granted, booksCall, expected}
 use Rattle.accounts.specs.Lists.{Lists}
 use Rattle.accounts.proofs.Stored.{sum-stored-stepped}
 use Rattle.decoded.specs.Portions.{portionOn}
@@ -48,13 +54,56 @@ use Rattle.decoded.proofs.Simulated.{left-sums}
 use Rattle.histories.specs.Statement.{answers, SameAnswers}
 use Rattle.histories.proofs.Theorem.{entries-most, same-answers, none-malformed, history-left}
 use Rattle.demands.specs.Words.{Sound, Listing}
+use Rattle.demands.specs.Promises.{Starts, Opens, Counts, Closes, Removes, Flushes, Steps, Asks, AsksValue, Begun}
 use Rattle.demands.proofs.Granted.{event-bad, query-bad, event-noted, query-answered, answered-listing}
+use Rattle.demands.proofs.Rows.{start-fresh, start-refuses, all-unstarted, begun-run}
+use Rattle.demands.proofs.Single.{one-state, one-store, one-probe, one-opening, one-list, one-found}
 
 -- ==== 1. Every call does what the page says, on every input
 
--- A call on any probe, whatever its bytes, has one outcome: a refusal's number, or an answer and the probe that is left.
-pub one-outcome : Probe → Call → Outcome Probe
-one-outcome = probeCall
+-- Two results that keep the promise of one call on the same input are equal: the answer, the state and every buffer at exit. For each public function:
+pub one-start : (card register : List ℕ) (x y : Replied) (card₁ register₁ card₂ register₂ : List ℕ) → Starts card register x card₁ register₁ → Starts card register y card₂ register₂
+    → (x ≡ y) × (card₁ ≡ card₂) × (register₁ ≡ register₂)
+one-start card register x y card₁ register₁ card₂ register₂ g h = one-probe x y g h
+
+pub one-open : (s : State) (x y : Opening) → Opens s x → Opens s y → x ≡ y
+one-open s x y g h = one-opening x y g h
+
+pub one-event : (s : State) (card register : List ℕ) (id : Name) (x y : Replied) (card₁ register₁ card₂ register₂ : List ℕ)
+    → Counts s card register id x card₁ register₁ → Counts s card register id y card₂ register₂ → (x ≡ y) × (card₁ ≡ card₂) × (register₁ ≡ register₂)
+one-event s card register id x y card₁ register₁ card₂ register₂ g h = one-probe x y g h
+
+pub one-close : (s : State) (x y : Replied) → Closes s x → Closes s y → x ≡ y
+one-close s x y g h = one-state x y g h
+
+pub one-removal : (s : State) (card : List ℕ) (window : ℕ) (x y : Replied) (card₁ card₂ : List ℕ) → Removes s card window x card₁ → Removes s card window y card₂ → (x ≡ y) × (card₁ ≡ card₂)
+one-removal s card window x y card₁ card₂ g h = one-store x y g h
+
+pub one-flush : (s : State) (card : List ℕ) (x y : Replied) (card₁ card₂ : List ℕ) → Flushes s card x card₁ → Flushes s card y card₂ → (x ≡ y) × (card₁ ≡ card₂)
+one-flush s card x y card₁ card₂ g h = one-store x y g h
+
+pub one-step : (s : State) (card : List ℕ) (x y : Replied) (card₁ card₂ : List ℕ) → Steps s card x card₁ → Steps s card y card₂ → (x ≡ y) × (card₁ ≡ card₂)
+one-step s card x y card₁ card₂ g h = one-store x y g h
+
+pub one-query : (s : State) (card register : List ℕ) (ids : List Name) (places : List Hit) (x y : Found) (places₁ places₂ : List Hit)
+    → Asks s card register ids places x places₁ → Asks s card register ids places y places₂ → (x ≡ y) × (places₁ ≡ places₂)
+one-query s card register ids places x y places₁ places₂ g h = one-list x y places₁ places₂ (g .0) (h .0) (g .1) (h .1)
+
+pub one-query-value : (s : State) (card register : List ℕ) (ids : List Name) (places : ℕ) (x y : Answered) → AsksValue s card register ids places x → AsksValue s card register ids places y → x ≡ y
+one-query-value s card register ids places x y g h = one-found (probeOf s card register) ids places x y g h
+
+-- A start on any bytes of lengths within the limits is done, and leaves the fresh state, card and register.
+pub started : (card register : List ℕ) → cardLength (length card) ≡ true → registerLength (length register) ≡ true
+    → (answerOf (startOf card register) ≡ done) × (stateOf (unstarted card register) (startOf card register) ≡ fresh (length card) (length register))
+started card register c r = let e = start-fresh card register c r in (ap answerOf e, ap (stateOf (unstarted card register)) e)
+
+-- On any other lengths it is refused with 2.
+pub not-started : (card register : List ℕ) → (cardLength (length card) && registerLength (length register)) ≡ false → answerOf (startOf card register) ≡ refused 2
+not-started card register e = ap answerOf (start-refuses card register e)
+
+-- After a refused start every call is refused with 1, whatever the buffers.
+pub unstarted-refused : (card register : List ℕ) (c : Call) → answerOf (probeCall (unstarted card register) c) ≡ refused 1
+unstarted-refused = all-unstarted
 
 -- A refused call leaves state, card and register as they were.
 pub refused-unchanged : (p : Probe) (c : Call) (n : ℕ) → answerOf (probeCall p c) ≡ refused n → stateOf p (probeCall p c) ≡ p
@@ -151,6 +200,13 @@ steps-keep-sums = sum-stored-stepped
 pub history-answered : (c r : ℕ) → cardLength c ≡ true → registerLength r ≡ true → (cs : List Call) → answers c r cs ≡ expected (c / 4096) (r / 65) cs
 history-answered = unfold SameAnswers in same-answers
 
--- None of them is refusal 1, 2 or 3.
+-- So are those of the public functions by their promises alone: a start on any bytes of lengths within the limits, and calls in a row, each given what
+-- the one before left.
+pub promises-answered : (card register : List ℕ) → cardLength (length card) ≡ true → registerLength (length register) ≡ true
+    → (cs : List Call) (told : List Answer) → Begun card register cs told → told ≡ expected (length card / 4096) (length register / 65) cs
+promises-answered card register cardFits registerFits cs told b =
+    begun-run card register cardFits registerFits cs told b ∙ history-answered (length card) (length register) cardFits registerFits cs
+
+-- No answer is refusal 1, 2 or 3.
 pub never-malformed : (c r : ℕ) → cardLength c ≡ true → registerLength r ≡ true → (cs : List Call) → AllOf Granted (answers c r cs)
 never-malformed = none-malformed

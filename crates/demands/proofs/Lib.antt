@@ -1,3 +1,5 @@
 pub mod Listing
 pub mod Granted
+pub mod Rows
+pub mod Single
 pub mod Demands
