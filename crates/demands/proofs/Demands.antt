@@ -3,27 +3,29 @@
 use mathlib.Core.Bool.{true, false, _&&_}
 use mathlib.Core.List.{List, map}
 use mathlib.Core.Path.{_≡_, ap, _∙_}
-use Prim.Native.Nat.{ℕ, _*_, _/_, _≤_}
+use Prim.Native.Nat.{ℕ, _*_, _/_, _≤_, _<_}
+use lib.Dec.{eqb}
 use lib.IntN.{pos}
-use lib.ListN.{length}
+use lib.ListN.{length, getD}
 use Rattle.lists.specs.All.{AllOf}
-use Rattle.lists.specs.Lists.{any, different}
-use Rattle.words.specs.Words.{words, Below}
+use Rattle.lists.specs.Lists.{any, every, empty, different, down}
+use Rattle.words.specs.Words.{words, allOnes, Below}
 use Rattle.postings.specs.declared.Posting.{Posting}
+use Rattle.postings.specs.Merge.{pairs}
 use Rattle.postings.specs.Sums.{sum}
-use Rattle.answers.specs.Answers.{Answer, done, hits, refused, answerOf, stateOf}
+use Rattle.answers.specs.Answers.{Answer, done, hits, refused, answerOf, stateOf, carry}
 use Rattle.answers.specs.declared.Found.{Found}
 use Rattle.answers.specs.declared.Hit.{Hit}
 use Rattle.state.specs.declared.State.{State}
-use Rattle.state.specs.Probe.{Probe}
-use Rattle.state.specs.Views.{blocks, finished}
+use Rattle.state.specs.Probe.{Store, Probe}
+use Rattle.state.specs.Views.{padded, blocks, finished}
 use Rattle.state.specs.Rules.{cardLength, registerLength}
 use Rattle.identifiers.specs.Names.{Name, badLength}
 use Rattle.identifiers.specs.Register.{names}
-use Rattle.card.specs.Blocks.{onCard}
+use Rattle.card.specs.Blocks.{onCard, isFree}
 use Rattle.card.specs.Writes.{store}
 use Rattle.card.specs.Moves.{MovesBytes}
-use Rattle.card.specs.Chains.{blocksFor}
+use Rattle.card.specs.Chains.{blocksFor, content}
 use Rattle.partitions.specs.Layout.{lengthOf, encode, writtenAs}
 use Rattle.partitions.specs.Reading.{postingsOf, stored}
 use Rattle.partitions.specs.Formed.{partitionRule, partitionsFormed, Writable}
@@ -36,28 +38,28 @@ use Rattle.windows.proofs.Refused.{start-unchanged}
 use Rattle.queries.specs.Query.{countIn, numbers, takenUp, queryFormed, fill, queryOf}
 use Rattle.queries.specs.declared.Answered.{Answered}
 use Rattle.queries.proofs.Refused.{query-unchanged}
-use Rattle.engine.specs.Calls.{Call, probeCall, afterwards}
+use Rattle.merges.specs.Merging.{progress}
+use Rattle.engine.specs.Calls.{Call, probeCall}
 use Rattle.engine.proofs.Refused.{call-unchanged}
 use Rattle.engine.proofs.ByteRule.{call-moved}
-use Rattle.answers.specs.Answers.{carry}
-use Rattle.state.specs.Probe.{Store}
 use Rattle.merges.specs.Step.{stepOf}
 use Rattle.engine.specs.Lent.{Lent, withOwn, lentStepOf}
 use Rattle.engine.proofs.Lent.{lent-unchanged, lent-other, lent-own}
-use Rattle.accounts.specs.Account.{Account, emptyAccount, storedIn, steppedAccount}
-use Rattle.accounts.specs.Ledger.{emptyLedger, including, byNumber}
-use Rattle.accounts.specs.Books.{Books, Granted, booksCall, expected}
+use Rattle.accounts.specs.Account.{Account, storedIn, inputsOf, merged, blocksOf, steppedAccount}
+use Rattle.accounts.specs.Ledger.{existing, including, byNumber}
+use Rattle.accounts.specs.Books.{Granted, expected}
 use Rattle.accounts.specs.Lists.{Lists}
 use Rattle.accounts.proofs.Stored.{sum-stored-stepped}
-use Rattle.decoded.specs.Portions.{portionOn}
+use Rattle.decoded.specs.Portions.{portionOn, outputOf, cleanPast}
 use Rattle.decoded.proofs.Simulated.{left-sums}
 use Rattle.histories.specs.Statement.{answers, SameAnswers}
 use Rattle.histories.proofs.Theorem.{entries-most, same-answers, none-malformed, history-left}
-use Rattle.demands.specs.Words.{Sound, Listing}
+use Rattle.demands.specs.Words.{Sound, Listing, probeAfter, booksAfter, unused}
 use Rattle.demands.specs.Promises.{Starts, Opens, Counts, Closes, Removes, Flushes, Steps, Asks, AsksValue, Begun}
 use Rattle.demands.proofs.Granted.{event-bad, query-bad, event-noted, query-answered, answered-listing}
 use Rattle.demands.proofs.Rows.{start-fresh, start-refuses, all-unstarted, begun-run}
 use Rattle.demands.proofs.Single.{one-state, one-store, one-probe, one-opening, one-list, one-found}
+use Rattle.demands.proofs.After.{listing-by-ledger, free-left, byte-left, past-left, output-left}
 
 -- ==== 1. Every call does what the page says, on every input
 
@@ -151,8 +153,14 @@ counted-whole p n e = let w = event-noted p n e in (w .some, w .most, w .whole)
 
 -- The hits that a query answers are of matching windows with exactly the defined scores, in falling order, and cut only where the list is full.
 pub hits-exact : (p : Probe) (ns : List Name) (places found : List Hit) (taken : ℕ) → answerOf (queryOf p ns places) ≡ hits found taken
-    → Listing (p .state .windows .live) (countIn (words (p .card)) (p .state)) (length places) (numbers (p .register) ns) found
+    → Listing (p .state .windows .live) (countIn (words (p .card)) (p .state)) (down 65535) (length places) (numbers (p .register) ns) found
 hits-exact = answered-listing
+
+-- After every history they are so by the ledger: its N, its counts by name, and the numbers that it gave.
+pub hits-by-ledger : (c r : ℕ) → cardLength c ≡ true → registerLength r ≡ true → (cs : List Call) (ns : List Name) (places found : List Hit) (taken : ℕ)
+    → answerOf (queryOf (probeAfter c r cs) ns places) ≡ hits found taken
+    → Listing (existing (booksAfter c r cs .ledger)) (booksAfter c r cs .ledger .count) (down (booksAfter c r cs .ledger .last)) (length places) ns found
+hits-by-ledger = listing-by-ledger
 
 -- The postings that it reports are exactly those stored under its identifiers, in finished partitions and buffer.
 pub taken-exact : (p : Probe) (ns : List Name) (places found : List Hit) (taken : ℕ) → answerOf (queryOf p ns places) ≡ hits found taken
@@ -169,13 +177,6 @@ pub written-reads-back : (W bs : List ℕ) (n level : ℕ) (ps : List Posting) �
     → (partitionRule (store W bs (encode level ps)) n (writtenAs bs level ps) ≡ true) × (postingsOf (store W bs (encode level ps)) (writtenAs bs level ps) ≡ ps)
 written-reads-back W bs n level ps long on once fits w = (rule-written W bs n level ps long on once fits w, postings-written W bs n level ps long on once fits w)
 
--- the probe, and ledger and account, after a list of calls on a fresh card of c bytes with a register of r
-abbrev pub probeAfter : ℕ → ℕ → List Call → Probe
-probeAfter c r cs = afterwards probeCall (fresh c r) cs
-
-abbrev pub booksAfter : ℕ → ℕ → List Call → Books
-booksAfter c r cs = afterwards (booksCall (c / 4096) (r / 65)) (record { ledger = emptyLedger; account = emptyAccount }) cs
-
 -- After every history all finished partitions keep the layout, in different blocks, and decode to the account's: what was buffered, and what merges gave.
 pub partitions-read-back : (c r : ℕ) → cardLength c ≡ true → registerLength r ≡ true → (cs : List Call)
     → (partitionsFormed (words (probeAfter c r cs .card)) (blocks (probeAfter c r cs .state)) (finished (probeAfter c r cs .state .partitions)) ≡ true)
@@ -189,6 +190,29 @@ pub sums-are-counts : (c r : ℕ) → cardLength c ≡ true → registerLength r
     → sum (stored (words (probeAfter c r cs .card)) (probeAfter c r cs .state)) i w ≡ pos (byNumber (booksAfter c r cs .ledger) i w)
 sums-are-counts c r cardFits registerFits cs i w =
     left-sums (record { card = c; register = r }) (entries-most r registerFits) _ _ (history-left c r cardFits registerFits cs) i w
+
+-- After every history a block is 255 all over exactly where no finished partition and no output in progress has it.
+pub free-exactly : (c r : ℕ) → cardLength c ≡ true → registerLength r ≡ true → (cs : List Call) (b : ℕ) → b < c / 4096
+    → isFree (words (probeAfter c r cs .card)) b ≡ unused (probeAfter c r cs) b
+free-exactly = free-left
+
+-- So each byte of an unused block is 255.
+pub free-bytes : (c r : ℕ) → cardLength c ≡ true → registerLength r ≡ true → (cs : List Call) (k : ℕ) → k < c
+    → unused (probeAfter c r cs) (k / 4096) ≡ true → getD (probeAfter c r cs .card) k 0 ≡ 255
+free-bytes = byte-left
+
+-- After every history each finished partition's content is 255 past its total length.
+pub clean-past-length : (c r : ℕ) → cardLength c ≡ true → registerLength r ≡ true → (cs : List Call)
+    → every (cleanPast (words (probeAfter c r cs .card))) (finished (probeAfter c r cs .state .partitions)) ≡ true
+clean-past-length = past-left
+
+-- After step j of a merge in progress its output holds, after the space of header and entries, exactly the sums that are not 0 of the first 16 × j pairs
+-- of its inputs, and 255 everywhere else (an empty result has no block).
+pub output-so-far : (c r : ℕ) → cardLength c ≡ true → registerLength r ≡ true → (cs : List Call)
+    → eqb (booksAfter c r cs .account .steps) 0 ≡ false → empty (merged (booksAfter c r cs .account)) ≡ false
+    → content (words (probeAfter c r cs .card)) (outputOf (words (probeAfter c r cs .card)) (probeAfter c r cs .state))
+    ≡ padded (1023 * blocksOf (merged (booksAfter c r cs .account))) allOnes (progress (pairs (inputsOf (booksAfter c r cs .account))) (booksAfter c r cs .account .steps))
+output-so-far = output-left
 
 -- A merge step, the last one too, moves no sum.
 pub steps-keep-sums : (a : Account) (i w : ℕ) → sum (storedIn (steppedAccount a)) i w ≡ sum (storedIn a) i w

@@ -28,11 +28,11 @@ use Rattle.demands.specs.Words.{Sound, Listing}
 use Rattle.demands.proofs.Listing.{listed-scores, listed-falls, left-out-only-when-full, all-once}
 
 -- where a is answered, what is left is as G says
-record Where {S : Type 0} (s : S) (a : Answer) (G : S → Type 0) (o : Outcome S) : Type 0 where
-  holds : answerOf o ≡ a → G (stateOf s o)
+pub record Where {S : Type 0} (s : S) (a : Answer) (G : S → Type 0) (o : Outcome S) : Type 0 where
+  pub holds : answerOf o ≡ a → G (stateOf s o)
 
 module _ {S : Type 0} {s : S} {a : Answer} {G : S → Type 0} (fine : (m : ℕ) → refused m ≡ a → ⊥) where
-  where-if : (t : Bool) (n : ℕ) (o : Outcome S) → (t ≡ false → Where s a G o) → Where s a G (refuseIf t n o)
+  pub where-if : (t : Bool) (n : ℕ) (o : Outcome S) → (t ≡ false → Where s a G o) → Where s a G (refuseIf t n o)
   unfolding refuseIf
   where-if true n o h = record { holds = λ e. absurd (fine n e) }
   where-if false n o h = h refl
@@ -51,7 +51,7 @@ module _ {S : Type 0} {s : S} {a : Answer} {G : S → Type 0} (fine : (m : ℕ) 
 done-granted : (m : ℕ) → refused m ≡ done → ⊥
 done-granted m e = let z : _≡_ {A = ℕ} 0 1 = cc in absurd (omega arith)
 
-hits-granted : (hs : List Hit) (k m : ℕ) → refused m ≡ hits hs k → ⊥
+pub hits-granted : (hs : List Hit) (k m : ℕ) → refused m ≡ hits hs k → ⊥
 hits-granted hs k m e = let z : _≡_ {A = ℕ} 0 1 = cc in absurd (omega arith)
 
 -- ---- events
@@ -110,13 +110,14 @@ pub record Answered (p : Probe) (ns : List Name) (places found : List Hit) (take
   pub takenIs : takenUp (words (p .card)) (p .state) (numbers (p .register) ns) ≡ taken
   pub leftIs : left ≡ fill found places
 
-abbrev listOf : Answer → List Hit
+-- the hits of an answer, and the postings taken
+abbrev pub listOf : Answer → List Hit
 listOf done = []
 listOf (number n) = []
 listOf (hits hs k) = hs
 listOf (refused n) = []
 
-abbrev takenOf : Answer → ℕ
+abbrev pub takenOf : Answer → ℕ
 takenOf done = 0
 takenOf (number n) = 0
 takenOf (hits hs k) = k
@@ -142,20 +143,20 @@ pub query-answered : (p : Probe) (ns : List Name) (places found : List Hit) (tak
 query-answered p ns places found taken e = query-where p ns places found taken .holds e
 
 -- the hits of the definition are a listing
-ranked-listing : (N : ℕ) (count : ℕ → ℕ → ℕ) (k : ℕ) (is : List ℕ) → Listing N count k is (ranked N count (down 65535) k is)
-ranked-listing N count k is = record {
-  exact = listed-scores N count (down 65535) k is;
-  falling = listed-falls N count (down 65535) k is all-once;
-  full = left-out-only-when-full N count (down 65535) k is all-once;
+pub ranked-listing : {I : Type 0} (N : ℕ) (count : I → ℕ → ℕ) (last k : ℕ) (is : List I) → Listing N count (down last) k is (ranked N count (down last) k is)
+ranked-listing N count last k is = record {
+  exact = listed-scores N count (down last) k is;
+  falling = listed-falls N count (down last) k is (all-once last);
+  full = left-out-only-when-full N count (down last) k is (all-once last);
 }
 
 -- so are those of an answer
 pub answered-listing : (p : Probe) (ns : List Name) (places found : List Hit) (taken : ℕ) → answerOf (queryOf p ns places) ≡ hits found taken
-    → Listing (p .state .windows .live) (countIn (words (p .card)) (p .state)) (length places) (numbers (p .register) ns) found
+    → Listing (p .state .windows .live) (countIn (words (p .card)) (p .state)) (down 65535) (length places) (numbers (p .register) ns) found
 answered-listing p ns places found taken e =
-    subst (Listing (p .state .windows .live) (countIn (words (p .card)) (p .state)) (length places) (numbers (p .register) ns))
+    subst (Listing (p .state .windows .live) (countIn (words (p .card)) (p .state)) (down 65535) (length places) (numbers (p .register) ns))
     (ranked-is ∙ query-answered p ns places found taken e .hitsAre)
-    (ranked-listing (p .state .windows .live) (countIn (words (p .card)) (p .state)) (length places) (numbers (p .register) ns))
+    (ranked-listing (p .state .windows .live) (countIn (words (p .card)) (p .state)) 65535 (length places) (numbers (p .register) ns))
   where
     ranked-is : ranked (p .state .windows .live) (countIn (words (p .card)) (p .state)) (down 65535) (length places) (numbers (p .register) ns) ≡ hitsOf (words (p .card)) (p .state) (length places) (numbers (p .register) ns)
     ranked-is = unfold hitsOf in refl

@@ -2,4 +2,6 @@ pub mod Listing
 pub mod Granted
 pub mod Rows
 pub mod Single
+pub mod Cards
+pub mod After
 pub mod Demands

@@ -159,6 +159,6 @@ module _ {I : Type 0} (n : ℕ) (count : I → ℕ → ℕ) (windows : List ℕ)
             ap₂ (λ (v p : ℕ). record { window = v; score = p }) e
             (eqb-true _ _ (and-right (elem (h .window) found) _ a) ∙ ap (score n count windows is) e)
 
--- no number is twice among those from 65,535 down
-pub all-once : different (down 65535) ≡ true
-all-once = falling-different (down 65535) (down-falling 65535)
+-- no number is twice among those from n down
+pub all-once : (n : ℕ) → different (down n) ≡ true
+all-once n = falling-different (down n) (down-falling n)

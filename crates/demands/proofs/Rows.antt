@@ -32,7 +32,7 @@ answer-carry : {S T : Type 0} (f : S → T) (o : Outcome S) → answerOf (carry 
 answer-carry f (refuse n) = refl
 answer-carry f (leave x s) = refl
 
-state-carry : {S T : Type 0} (f : S → T) (s : S) (o : Outcome S) → stateOf (f s) (carry f o) ≡ f (stateOf s o)
+pub state-carry : {S T : Type 0} (f : S → T) (s : S) (o : Outcome S) → stateOf (f s) (carry f o) ≡ f (stateOf s o)
 state-carry f s (refuse n) = refl
 state-carry f s (leave x t) = refl
 

@@ -1,16 +1,23 @@
 -- Words that the demands are stated with.
-use mathlib.Core.Bool.{Bool, true, false, _&&_}
+use mathlib.Core.Bool.{Bool, true, false, _&&_, not}
 use mathlib.Core.List.{List, [], _∷_}
 use mathlib.Core.Path.{_≡_}
-use Prim.Native.Nat.{ℕ}
+use Prim.Native.Nat.{ℕ, _/_}
 use lib.Dec.{eqb}
 use lib.ListN.{length}
-use Rattle.lists.specs.Lists.{every, any, elem, down}
+use Rattle.lists.specs.Lists.{every, any, elem}
+use Rattle.words.specs.Words.{words}
 use Rattle.answers.specs.declared.Hit.{Hit}
 use Rattle.state.specs.Rules.{stateRule}
 use Rattle.state.specs.Probe.{Probe, sameLength}
 use Rattle.identifiers.specs.Register.{registerRule}
+use Rattle.windows.specs.Calls.{fresh}
 use Rattle.queries.specs.Hits.{outranks, score, matching}
+use Rattle.engine.specs.Calls.{Call, probeCall, afterwards}
+use Rattle.accounts.specs.Account.{emptyAccount}
+use Rattle.accounts.specs.Ledger.{emptyLedger}
+use Rattle.accounts.specs.Books.{Books, booksCall}
+use Rattle.decoded.specs.Portions.{occupied}
 
 -- nothing for refusals 1 to 3 in what an event reads
 pub record Sound (p : Probe) : Type 0 where
@@ -24,20 +31,27 @@ abbrev pub falls : List Hit → Bool
 falls [] = true
 falls (g ∷ hs) = every (outranks g) hs && falls hs
 
--- the windows with a count above 0 of at least one of the identifiers is
-abbrev pub matchingIn : ℕ → (ℕ → ℕ → ℕ) → List ℕ → List ℕ
-matchingIn N count is = matching N count (down 65535) is
-
 -- a window with its score for the identifiers is
-abbrev pub scored : ℕ → (ℕ → ℕ → ℕ) → List ℕ → ℕ → Hit
-scored N count is w = record { window = w; score = score N count (down 65535) is w }
+abbrev pub scored : {I : Type 0} → ℕ → (I → ℕ → ℕ) → List ℕ → List I → ℕ → Hit
+scored N count windows is w = record { window = w; score = score N count windows is w }
 
--- what the hits of a query with k places are, where N windows exist and count is of an identifier's number in a window
-pub record Listing (N : ℕ) (count : ℕ → ℕ → ℕ) (k : ℕ) (is : List ℕ) (found : List Hit) : Type 0 where
+-- what the hits of a query with k places are, where N windows exist, count is of an identifier in a window, and windows are all numbers that may be given
+pub record Listing {I : Type 0} (N : ℕ) (count : I → ℕ → ℕ) (windows : List ℕ) (k : ℕ) (is : List I) (found : List Hit) : Type 0 where
   -- every window listed matches, and its score is exactly the sum of products
-  pub exact : every (λ h. elem (h .window) (matchingIn N count is) && eqb (h .score) (scored N count is (h .window) .score)) found ≡ true
+  pub exact : every (λ h. elem (h .window) (matching N count windows is) && eqb (h .score) (scored N count windows is (h .window) .score)) found ≡ true
   -- they stand by falling score, then falling number
   pub falling : falls found ≡ true
   -- a matching window that is not listed finds the list full, of hits that all outrank it
-  pub full : (w : ℕ) → elem w (matchingIn N count is) ≡ true → any (λ h. eqb (h .window) w) found ≡ false
-      → (length found ≡ k) × (every (λ h. outranks h (scored N count is w)) found ≡ true)
+  pub full : (w : ℕ) → elem w (matching N count windows is) ≡ true → any (λ h. eqb (h .window) w) found ≡ false
+      → (length found ≡ k) × (every (λ h. outranks h (scored N count windows is w)) found ≡ true)
+
+-- the probe, and ledger and account, after a list of calls on a fresh card of c bytes with a register of r
+abbrev pub probeAfter : ℕ → ℕ → List Call → Probe
+probeAfter c r cs = afterwards probeCall (fresh c r) cs
+
+abbrev pub booksAfter : ℕ → ℕ → List Call → Books
+booksAfter c r cs = afterwards (booksCall (c / 4096) (r / 65)) (record { ledger = emptyLedger; account = emptyAccount }) cs
+
+-- is block b of no finished partition and of no output in progress
+abbrev pub unused : Probe → ℕ → Bool
+unused p b = not (elem b (occupied (words (p .card)) (p .state)))

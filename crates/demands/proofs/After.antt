@@ -1,0 +1,155 @@
+-- After every history: what a query lists, by the ledger, and what the card's blocks hold.
+use mathlib.Core.Bool.{true, false, not}
+use mathlib.Core.List.{List, [], _∷_}
+use mathlib.Core.Path.{_≡_, sym, ap, _∙_, subst}
+use Prim.Native.Nat.{ℕ, _*_, _/_, _%_, _<_}
+use native.Mathlib.Omega.{arith}
+use lib.Dec.{eqb}
+use lib.ListN.{length, getD}
+use borrow.Author.Tests.{eqb-true}
+use Rattle.lists.specs.Lists.{every, empty, down}
+use Rattle.lists.proofs.Bools.{and-left}
+use Rattle.words.specs.Words.{words, allOnes}
+use Rattle.postings.specs.Merge.{pairs}
+use Rattle.answers.specs.Answers.{Answer, done, hits, answerOf}
+use Rattle.answers.specs.declared.Hit.{Hit}
+use Rattle.state.specs.declared.Lengths.{Lengths}
+use Rattle.state.specs.declared.State.{State}
+use Rattle.state.specs.Views.{padded, blocks, finished}
+use Rattle.state.specs.Rules.{cardLength, registerLength}
+use Rattle.state.specs.Probe.{Probe}
+use Rattle.identifiers.specs.Names.{Name, numbersOf}
+use Rattle.card.specs.Blocks.{isFree}
+use Rattle.card.specs.Chains.{content}
+use Rattle.card.proofs.FreeBlocks.{free-word}
+use Rattle.merges.specs.Merging.{taking, result, outputBlocks, progress}
+use Rattle.merges.specs.Step.{inProgress}
+use Rattle.queries.specs.Hits.{ranked}
+use Rattle.queries.specs.Query.{queryOf}
+use Rattle.engine.specs.Calls.{Call, Query, probeCall, run}
+use Rattle.accounts.specs.Account.{Account, takenFrom, inputsOf, merged, blocksOf}
+use Rattle.accounts.specs.Ledger.{existing}
+use Rattle.accounts.specs.Books.{Books, books, booksCall}
+use Rattle.accounts.specs.Lists.{Lists}
+use Rattle.decoded.specs.Portions.{outputOf, cleanPast}
+use Rattle.decoded.proofs.Holds.{Holds, taking-is}
+use Rattle.decoded.proofs.Unused.{going, output-going}
+use Rattle.decoded.proofs.Simulated.{runs-simulated, Left}
+use Rattle.histories.proofs.Theorem.{entries-most, history-left}
+use Rattle.demands.specs.Words.{Listing, probeAfter, booksAfter, unused}
+use Rattle.demands.proofs.Granted.{Where, where-if, hits-granted, listOf, takenOf, ranked-listing}
+use Rattle.demands.proofs.Rows.{query-called}
+use Rattle.demands.proofs.Cards.{whole-after, ones-bytes}
+
+-- ---- what ledger and account answer to a query
+
+-- the hits are the ledger's, and the postings taken the account's
+pub record ByBooks (b : Books) (k : ℕ) (ns : List Name) (found : List Hit) (taken : ℕ) : Type 0 where
+  pub hitsAre : ranked (existing (b .ledger)) (b .ledger .count) (down (b .ledger .last)) k ns ≡ found
+  pub takenIs : takenFrom (numbersOf (b .ledger .identifiers) ns) (b .account) ≡ taken
+
+books-where : (n m : ℕ) (b : Books) (k : ℕ) (ns : List Name) (found : List Hit) (taken : ℕ)
+    → Where b (hits found taken) (λ (c : Books). ByBooks b k ns found taken) (booksCall n m b (Query k ns))
+unfolding books
+books-where n m b k ns found taken =
+    where-if (hits-granted found taken) _ 4 _ λ _. where-if (hits-granted found taken) _ 14 _ λ _. record { holds = λ e. record { hitsAre = ap listOf e; takenIs = ap takenOf e } }
+
+-- ---- after a history
+
+module _ (c r : ℕ) (cardFits : cardLength c ≡ true) (registerFits : registerLength r ≡ true) (cs : List Call) where
+  abbrev ls : Lengths
+  ls = record { card = c; register = r }
+
+  abbrev p : Probe
+  p = probeAfter c r cs
+
+  abbrev b : Books
+  b = booksAfter c r cs
+
+  abbrev s : State
+  s = p .state
+
+  abbrev W : List ℕ
+  W = words (p .card)
+
+  left : Left ls (entries-most r registerFits) p b
+  left = history-left c r cardFits registerFits cs
+
+  abbrev firstOf : List Answer → Answer
+  firstOf [] = done
+  firstOf (a ∷ told) = a
+
+  -- one call more
+  answered : (q : Call) → answerOf (probeCall p q) ≡ answerOf (booksCall (c / 4096) (r / 65) b q)
+  answered q = ap firstOf both
+    where
+      both : answerOf (probeCall p q) ∷ [] ≡ answerOf (booksCall (c / 4096) (r / 65) b q) ∷ []
+      both = unfold run in runs-simulated ls (entries-most r registerFits) (q ∷ []) p (left .lists) b (left .stored) (left .stands)
+
+  pub by-books : (ns : List Name) (places found : List Hit) (taken : ℕ) → answerOf (queryOf p ns places) ≡ hits found taken → ByBooks b (length places) ns found taken
+  by-books ns places found taken e =
+      books-where (c / 4096) (r / 65) b (length places) ns found taken .holds (sym (answered (Query (length places) ns)) ∙ sym (query-called p ns places) ∙ e)
+
+  -- a query's hits are the listing of the ledger
+  pub listing-by-ledger : (ns : List Name) (places found : List Hit) (taken : ℕ) → answerOf (queryOf p ns places) ≡ hits found taken
+      → Listing (existing (b .ledger)) (b .ledger .count) (down (b .ledger .last)) (length places) ns found
+  listing-by-ledger ns places found taken e =
+      subst (Listing (existing (b .ledger)) (b .ledger .count) (down (b .ledger .last)) (length places) ns) (by-books ns places found taken e .hitsAre)
+      (ranked-listing (existing (b .ledger)) (b .ledger .count) (b .ledger .last) (length places) ns)
+
+  -- ---- blocks
+
+  holds : Holds s W (left .lists)
+  holds = left .stored .holds
+
+  blocks-are : blocks s ≡ c / 4096
+  blocks-are = ap (λ (l : Lengths). l .card / 4096) (left .stored .sized)
+
+  pub free-left : (k : ℕ) → k < c / 4096 → isFree W k ≡ unused p k
+  free-left k low = holds .free k (subst (λ n. k < n) (sym blocks-are) low)
+
+  pub byte-left : (k : ℕ) → k < c → unused p (k / 4096) ≡ true → getD (p .card) k 0 ≡ 255
+  byte-left k low out =
+      ap (λ (l : List ℕ). getD l k 0) (sym (whole-after c r (omega (arith, even)) cs))
+      ∙ ones-bytes W k (free-word W (k / 4) there (ap (isFree W) same-block ∙ free-left (k / 4096) within ∙ out))
+    where
+      even : c % 4096 ≡ 0
+      even = eqb-true (c % 4096) 0 (and-left (eqb (c % 4096) 0) _ cardFits)
+
+      within : k / 4096 < c / 4096
+      within = omega (arith, even)
+
+      there : k / 4 < length (words (p .card))
+      there = omega (arith, within, holds .long ∙ ap (λ n. 1024 * n) blocks-are)
+
+      same-block : k / 4 / 1024 ≡ k / 4096
+      same-block = omega arith
+
+  pub past-left : every (cleanPast W) (finished (s .partitions)) ≡ true
+  past-left = holds .past
+
+  -- ---- the output in progress
+
+  abbrev a : Account
+  a = b .account
+
+  account-is : left .lists .account ≡ a
+  account-is = ap (λ (e : Lists). e .account) (left .stands .same)
+
+  taking-left : taking W s ≡ pairs (inputsOf a)
+  taking-left = taking-is s W (left .lists .account) (holds .portions) ∙ ap (λ (x : Account). pairs (inputsOf x)) account-is
+
+  steps-left : s .merge .steps ≡ a .steps
+  steps-left = holds .steps ∙ ap (λ (x : Account). x .steps) account-is
+
+  pub output-left : eqb (a .steps) 0 ≡ false → empty (merged a) ≡ false
+      → content W (outputOf W s) ≡ padded (1023 * blocksOf (merged a)) allOnes (progress (pairs (inputsOf a)) (a .steps))
+  unfolding merged blocksOf
+  output-left y z =
+      ap (content W) (output-going s W (left .lists) holds busy)
+      ∙ going s W (left .lists) holds busy .filled (ap (λ l. empty (result l)) taking-left ∙ z)
+      ∙ ap (λ l. padded (1023 * outputBlocks (result l)) allOnes (progress l (s .merge .steps))) taking-left
+      ∙ ap (λ j. padded (1023 * outputBlocks (result (pairs (inputsOf a)))) allOnes (progress (pairs (inputsOf a)) j)) steps-left
+    where
+      busy : inProgress s ≡ true
+      busy = ap (λ n. not (eqb n 0)) steps-left ∙ ap not y
