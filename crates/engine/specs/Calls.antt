@@ -9,6 +9,7 @@ use Rattle.state.specs.Probe.{Store, Probe}
 use Rattle.identifiers.specs.Names.{Name}
 use Rattle.windows.specs.Calls.{openOf, closeOf, eventOf, flushOf}
 use Rattle.queries.specs.Query.{queryOf}
+pub use Rattle.queries.specs.Top.{noHit}
 use Rattle.removals.specs.Removal.{removeOf}
 use Rattle.merges.specs.Step.{stepOf}
 
@@ -31,9 +32,6 @@ withStore p s = record { state = s .state; card = s .card; register = p .registe
 
 abbrev pub withState : Probe → State → Probe
 withState p s = record { state = s; card = p .card; register = p .register }
-
-abbrev pub noHit : Hit
-noHit = record { window = 0; score = 0 }
 
 -- a call on a probe. A query leaves the probe as it is
 unfoldable pub probeCall : Probe → Call → Outcome Probe

@@ -58,29 +58,51 @@ abbrev pub lastOf : ℕ → List ℕ → ℕ
 lastOf t [] = t
 lastOf t (b ∷ bs) = lastOf b bs
 
+-- the list of partitions after the last step: the result, which begins the blocks bs, in its inputs' place
+abbrev pub partitionsAfter : State → List Posting → List ℕ → List Partition
+partitionsAfter s ps bs = replaced (λ (p : Partition). p .level) (dueIn s) (finished (s .partitions)) (outputRecord s (result ps) (getD bs 0 noBlock))
+
+-- the record of the merge after step j, another than the last
+abbrev pub jobAfter : List Posting → ℕ → List ℕ → MergeJob
+jobAfter ps j bs = record { first = getD bs 0 noBlock; length = outputLength (result ps); steps = j }
+
+-- the block last taken: the first step takes all output blocks, the others none
+abbrev pub takenAfter : State → List ℕ → ℕ
+takenAfter s bs = cond (inProgress s) (s .taken) (lastOf (s .taken) bs)
+
 -- the state after step j with the output on blocks bs: the last step puts the result in its inputs' place; any other keeps the merge's record
 unfoldable pub steppedOn : State → List Posting → ℕ → List ℕ → State
 steppedOn s ps j bs =
     withTaken
-    (cond (isLast ps j)
-    (withMerge (withPartitions s (partitionsOf (replaced (λ (p : Partition). p .level) (dueIn s) (finished (s .partitions)) (outputRecord s (result ps) (getD bs 0 noBlock))))) noMerge)
-    (withMerge s (record { first = getD bs 0 noBlock; length = outputLength (result ps); steps = j })))
-    (cond (inProgress s) (s .taken) (lastOf (s .taken) bs))
+    (cond (isLast ps j) (withMerge (withPartitions s (partitionsOf (partitionsAfter s ps bs))) noMerge) (withMerge s (jobAfter ps j bs)))
+    (takenAfter s bs)
 
 -- the card after step j: the output's content on its blocks; the last step frees the inputs' blocks
 unfoldable pub writtenOn : List ℕ → State → List Posting → ℕ → List ℕ → List ℕ
 writtenOn W s ps j bs =
     cond (isLast ps j) (release (store W bs (outputContent s ps j)) (chainsOf W (inputs s))) (store W bs (outputContent s ps j))
 
+-- a merge that begins finds fewer free blocks than its output takes
+abbrev pub fewFree : List ℕ → State → List Posting → Bool
+fewFree W s ps = not (inProgress s) && ltb (length (freeBlocks W (blocks s) (s .taken))) (outputBlocks (result ps))
+
+-- no merge is in progress and no level is due
+abbrev pub nothingDue : State → Bool
+nothingDue s = not (inProgress s) && empty (dueIn s)
+
+-- the step that comes next
+abbrev pub nextStep : State → ℕ
+nextStep s = suc (s .merge .steps)
+
 -- what follows refusals 1 to 3, where ps are the pairs of the inputs
 unfoldable pub stepping : State → List ℕ → List Posting → Outcome Store
 stepping s W ps =
-    refuseIf (not (inProgress s) && ltb (length (freeBlocks W (blocks s) (s .taken))) (outputBlocks (result ps))) 12
-    (refuseIf (not (inProgress s) && empty (dueIn s)) 13
+    refuseIf (fewFree W s ps) 12
+    (refuseIf (nothingDue s) 13
     (leave done
     (record {
-      state = steppedOn s ps (suc (s .merge .steps)) (outputOn W s ps);
-      card = bytes (writtenOn W s ps (suc (s .merge .steps)) (outputOn W s ps));
+      state = steppedOn s ps (nextStep s) (outputOn W s ps);
+      card = bytes (writtenOn W s ps (nextStep s) (outputOn W s ps));
     })))
 
 unfoldable pub stepOf : Store → Outcome Store

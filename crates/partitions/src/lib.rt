@@ -1,6 +1,5 @@
 // Partitions on the card: their layout, and what is read of them.
 use card::Cursor;
-use postings::Posting;
 use state::Partition;
 use state::Partitions;
 ghost use mathlib.Core.Bool.{true};
@@ -299,14 +298,6 @@ pub fn open_reader(card: &[u8], p: Partition) -> Reader
         id: entry.number as u16,
         here: entry.count,
     }
-}
-
-// The first posting to come.
-pub fn reader_head(card: &[u8], r: Reader) -> Posting
-    requires { ⌜ (0 < r .postings .left) × GoodReader (wordsOf (now card)) r ⌝ }
-    ensures { λ q. ⌜ q ≡ firstAhead (wordsOf (now (card .entry))) r ⌝ }
-{
-    postings::unpack(r.id, card::head(card, r.postings))
 }
 
 // The reader past its first posting.

@@ -3,4 +3,3 @@ pub mod Trips
 pub mod Order
 pub mod Sums
 pub mod Merge
-pub mod Frequency

@@ -35,10 +35,6 @@ isAbove z = ltb 0 (above z)
 unfoldable pub frequency : List Posting → ℕ → ℕ
 frequency l i = length (keep (λ w. isAbove (sum l i w)) (down 65535))
 
--- F by the pairs that occur: this form computes at once
-unfoldable pub quickFrequency : List Posting → ℕ → ℕ
-quickFrequency l i = length (keep (λ p. isAbove (p .count)) (pairs (under i l)))
-
 -- is a posting's window one of 1 to 65,535
 abbrev pub inWindows : Posting → Bool
 inWindows p = leb 1 (p .window) && leb (p .window) 65535

@@ -8,16 +8,12 @@ use Rattle.answers.specs.Numbers.{foundAs}
 use Rattle.answers.specs.declared.Found.{Found}
 use Rattle.answers.specs.declared.Found.the-variants as found
 use Rattle.answers.specs.declared.Hit.{Hit}
-use Rattle.state.specs.declared.State.{State}
 use Rattle.state.specs.Probe.{Probe}
+pub use Rattle.state.specs.Probe.{probeOf}
 use Rattle.identifiers.specs.Names.{Name}
 use Rattle.queries.specs.declared.Top.{Top}
 use Rattle.queries.specs.Query.{queryOf}
 use Rattle.queries.specs.Top.{noHit, topOf}
-
--- a state with both buffers
-abbrev pub probeOf : State → List ℕ → List ℕ → Probe
-probeOf s card register = record { state = s; card = card; register = register }
 
 -- the hits of an answer, none where it has none
 abbrev pub hitsIn : Answer → List Hit

@@ -20,3 +20,11 @@ pub record Probe : Type 0 where
 -- refusal 2: a buffer has the length given at the start; that this lies within the limits is a rule of the state
 abbrev pub sameLength : List ℕ → ℕ → Bool
 sameLength buffer n = eqb (length buffer) n
+
+-- a state with a card
+abbrev pub storeOf : State → List ℕ → Store
+storeOf s card = record { state = s; card = card }
+
+-- a state with both buffers
+abbrev pub probeOf : State → List ℕ → List ℕ → Probe
+probeOf s card register = record { state = s; card = card; register = register }

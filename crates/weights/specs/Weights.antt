@@ -8,11 +8,12 @@ unfoldable pub largest : (ℕ → Bool) → ℕ → ℕ
 largest t zero = zero
 largest t (suc n) = cond (t (suc n)) (suc n) (largest t n)
 
--- a count f: the largest a with 2 ^ a at most (f + 1) ^ 4
+-- a count f: the largest a with 2 ^ a at most (f + 1) ^ 4. The search may begin at 63: a count is at most 32,767, so that the power is at most 2 ^ 60
 unfoldable pub tfWeight : ℕ → ℕ
 tfWeight f = largest (λ a. leb (2 ^ a) ((f + 1) ^ 4)) 63
 
--- f windows of n: the largest b with 2 ^ b * f ^ 4 at most n ^ 4; no window, or more than there are, weigh nothing
+-- f windows of n: the largest b with 2 ^ b * f ^ 4 at most n ^ 4; no window, or more than there are, weigh nothing. 63 is enough here too: n is at most 65,535,
+-- so that n ^ 4 is below 2 ^ 64
 unfoldable pub idfWeight : ℕ → ℕ → ℕ
 idfWeight n f = cond (eqb f 0 || ltb n f) 0 (largest (λ b. leb (2 ^ b * f ^ 4) (n ^ 4)) 63)
 

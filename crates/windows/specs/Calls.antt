@@ -91,19 +91,39 @@ counted s i =
 abbrev pub isNew : List ℕ → Name → Bool
 isNew register n = leb (length (names register)) (numberOf (names register) n)
 
+-- the number that an identifier has, or gets as a new one
+abbrev pub numberIn : Probe → Name → ℕ
+numberIn p n = numberOf (names (p .register)) n
+
+-- both buffers have the length given at the start
+abbrev pub sameLengths : Probe → Bool
+sameLengths p = sameLength (p .card) (p .state .lengths .card) && sameLength (p .register) (p .state .lengths .register)
+
+-- a new identifier meets a register whose entries are all used
+abbrev pub registerFull : Probe → Name → Bool
+registerFull p n = isNew (p .register) n && leb (entries (p .state)) (length (names (p .register)))
+
+-- an identifier new to the open window would be its 65th
+abbrev pub windowFull : Probe → Name → Bool
+windowFull p n = not (elem (numberIn p n) (listed (p .state .listed))) && leb 64 (length (listed (p .state .listed)))
+
+-- the register with the identifier in it
+abbrev pub registered : List ℕ → Name → List ℕ
+registered register n = cond (isNew register n) (added register n) register
+
+-- refusals 1 to 9 as they concern an event, then a flush where its pair finds no room; then it is counted, and its identifier has an entry
 unfoldable pub eventOf : Probe → Name → Outcome Probe
 eventOf p n =
     refuseIf (not (stateRule (p .state))) 1
-    (refuseIf (not (sameLength (p .card) (p .state .lengths .card) && sameLength (p .register) (p .state .lengths .register))) 2
+    (refuseIf (not (sameLengths p)) 2
     (refuseIf (not (registerRule (p .register))) 3
     (refuseIf (badLength n) 4
     (refuseIf (not (isOpen (p .state))) 5
     (refuseIf (leb 32767 (p .state .windows .events)) 6
-    (refuseIf (isNew (p .register) n && leb (entries (p .state)) (length (names (p .register)))) 8
-    (refuseIf (not (elem (numberOf (names (p .register)) n) (listed (p .state .listed))) && leb 64 (length (listed (p .state .listed)))) 9
-    (flushingIf (eventFlushes (p .state) (numberOf (names (p .register)) n)) (p .state) (p .card)
-    (λ s card. leave done
-    (record { state = counted s (numberOf (names (p .register)) n); card = card; register = cond (isNew (p .register) n) (added (p .register) n) (p .register) }))))))))))
+    (refuseIf (registerFull p n) 8
+    (refuseIf (windowFull p n) 9
+    (flushingIf (eventFlushes (p .state) (numberIn p n)) (p .state) (p .card)
+    (λ s card. leave done (record { state = counted s (numberIn p n); card = card; register = registered (p .register) n }))))))))))
 
 -- ---- flush
 
