@@ -1,2 +1,4 @@
 pub mod Carried
 pub mod Fields
+pub mod Program
+pub mod Taking

@@ -1,4 +1,6 @@
 // Lines of commands obeyed on a probe, one at a time.
+pub mod lines; // the input cut into lines
+
 use commands::Order;
 use commands::calls::Done;
 use state::State;

@@ -1,0 +1,41 @@
+-- `sessions::lines::take_end` meets its contract.
+use mathlib.Core.Path.{sym}
+use native.Mathlib.Omega.{arith}
+use lib.Seq.{length-take-le}
+use Rattle.sessions.proofs.Taking.{end-none, end-line}
+use borrow.Author.Needs.{needs}
+use Rattle.sessions.proofs.lines.take_end.Statement.{statement}
+use Rattle.sessions.proofs.lines.take_end.Tie as tie
+
+returns : tie.Need-returns
+returns c = end-none _ _ _ _ (c .if1 .taken)
+
+slice-aggregate-answer : tie.Need-slice-aggregate-answer
+slice-aggregate-answer c = sym (length-take-le _ _ (omega arith))
+
+answer-requires : tie.Need-answer-requires
+answer-requires c κs = search needs
+
+same-length : tie.Need-same-length
+same-length c = search needs
+
+same-length-2 : tie.Need-same-length-2
+same-length-2 c = search needs
+
+same-length-3 : tie.Need-same-length-3
+same-length-3 c = search needs
+
+returns-2 : tie.Need-returns-2
+returns-2 c = end-line _ _ (c .before .before .before .before .before .before .before .before .before .before .before .if1 .left) (omega arith) (c .before .before .before .before .before .before .answer .ensures)
+
+pub take-end-spec : {M : Type 1} → statement M
+take-end-spec =
+    tie.close
+    (tie.spec
+    returns
+    slice-aggregate-answer
+    answer-requires
+    same-length
+    same-length-2
+    same-length-3
+    returns-2)
