@@ -27,7 +27,7 @@ use Rattle.partitions.specs.Formed.{partitionsFormed, listRule, sumsInRange, id
 use Rattle.windows.specs.Flush.{flushingIf}
 use Rattle.queries.specs.Hits.{ranked}
 use Rattle.queries.specs.Query.{countIn, takenUp, numbers, queryFormed, badQuery, hitsOf, querying, queryOf, fill}
-use Rattle.removals.specs.Removal.{ofWindow, countsOf, isLive, removalFormed, removalFlushes, removed, removing, removeOf, openCounted}
+use Rattle.removals.specs.Removal.{ofWindow, countsOf, isLive, listsFormed, removalFormed, removalFlushes, removed, removing, removeOf, openCounted}
 use Rattle.engine.specs.Calls.{Remove, Query, noHit, withStore, probeCall}
 use Rattle.accounts.specs.Account.{Portion, Account, postingsIn, storedIn, takenFrom, exceeds, addedTo, flushingIf as accountFlushingIf}
 use Rattle.accounts.specs.Lists.{Lists, identifierRule, windowRule, callRule, countOf, removedLists, removingLists, withAccount, pursued, openCounted as openCountedIn}
@@ -121,7 +121,7 @@ module _ {ls : Lengths} (p : Probe) (e : Lists) (k : Stored ls p e) (fine : Fine
   -- ---- removal
 
   window-same : (w : ℕ) → windowRule (e .account) w ≡ true → removalFormed W s w ≡ true
-  unfolding removalFormed windowRule
+  unfolding removalFormed listsFormed windowRule
   window-same w rule =
       and-both (partitionsFormed W (blocks s) (finished (s .partitions))) _ (h .formed)
       (ap₂ _&&_ (every-partition listRule)

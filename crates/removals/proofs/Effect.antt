@@ -24,7 +24,7 @@ use Rattle.windows.specs.Flush.{flushedTo, flushedCard}
 use Rattle.windows.specs.Targets.{Chosen}
 use Rattle.windows.proofs.Rooms.{chosen-there, chosen-free}
 use Rattle.removals.specs.Removal.{countsOf, removed}
-use Rattle.removals.proofs.Windowed.{counts-own, counts-other}
+use Rattle.sums.proofs.Windowed.{counts-own, counts-other}
 
 -- ---- over lists: `parts` are the partitions' postings, and l what is buffered
 

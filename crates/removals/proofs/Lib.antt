@@ -1,10 +1,7 @@
 pub mod Refused
-pub mod Windowed
 pub mod Takes
 pub mod Given
 pub mod Takeables
-pub mod Tallies
-pub mod ReadBack
 pub mod Turns
 pub mod Effect
 pub mod Whole

@@ -29,9 +29,9 @@ use Rattle.windows.proofs.Targets.{empty-length}
 use Rattle.windows.proofs.Counts.{nothing-wanted}
 use Rattle.sums.specs.declared.Counts.{Counts}
 use Rattle.sums.specs.Views.{countsIn}
-use Rattle.removals.specs.Removal.{ofWindow, countsOf, removalFormed, removalFlushes}
+use Rattle.removals.specs.Removal.{ofWindow, countsOf, listsFormed, removalFormed, removalFlushes}
 use Rattle.removals.specs.Taking.{takeable, Takeable, Removable}
-use Rattle.removals.proofs.Windowed.{every-member, window-fits, counts-ordered, counts-some, count-there}
+use Rattle.sums.proofs.Windowed.{every-member, window-fits, counts-ordered, counts-some, count-there}
 
 -- ---- signed numbers
 
@@ -53,7 +53,7 @@ pub record Formed (W : List ℕ) (s : State) (w : ℕ) : Type 0 where
   pub few : length (countsOf w (stored W s)) ≤ 64
 
 pub formed-of : (W : List ℕ) (s : State) (w : ℕ) → removalFormed W s w ≡ true → Formed W s w
-unfolding removalFormed
+unfolding removalFormed listsFormed
 formed-of W s w e =
     let a = and-right (partitionsFormed W (blocks s) (finished (s .partitions))) _ e in
     let b = and-right (every (λ p. listRule (postingsOf W p)) (finished (s .partitions))) _ a in

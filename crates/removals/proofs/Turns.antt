@@ -1,7 +1,7 @@
 -- Refusals 1 to 3 of a removal, and what goes on after them.
-use mathlib.Core.Bool.{true, false, not}
+use mathlib.Core.Bool.{true, false, _&&_, not}
 use mathlib.Core.List.{List}
-use mathlib.Core.Path.{_≡_, sym, ap, _∙_}
+use mathlib.Core.Path.{_≡_, refl, sym, ap, _∙_}
 use Prim.Native.Nat.{ℕ, _*_}
 use native.Mathlib.Omega.{arith}
 use lib.ListN.{length}
@@ -19,9 +19,14 @@ use Rattle.windows.specs.Promises.{Gives, storeOf}
 use Rattle.windows.proofs.Outcomes.{stopped, passed}
 use Rattle.sums.specs.declared.Judged.{Judged}
 use Rattle.sums.specs.Views.{countsIn}
+use Rattle.sums.specs.Tally.{listsFormed, ReadOf}
 use Rattle.removals.specs.Removal.{removalFormed, removing, removeOf}
-use Rattle.removals.specs.Taking.{Removable, ReadOf}
-use Rattle.removals.proofs.ReadBack.{formed-parts}
+use Rattle.removals.specs.Taking.{Removable}
+
+-- refusal 3 in its two parts
+pub formed-parts : (W : List ℕ) (s : State) (w : ℕ) → removalFormed W s w ≡ (partitionsFormed W (blocks s) (finished (s .partitions)) && listsFormed W s w)
+unfolding removalFormed
+formed-parts W s w = refl
 
 module _ (s : State) (card : List ℕ) (w : ℕ) where
   pub broken-state : stateRule s ≡ false → Gives (storeOf s card) (removeOf (storeOf s card) w) (refused 1) (storeOf s card)

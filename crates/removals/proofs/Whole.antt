@@ -26,8 +26,7 @@ use Rattle.windows.specs.Promises.{storeOf}
 use Rattle.windows.proofs.Targets.{follows, chosen}
 use Rattle.removals.specs.Removal.{countsOf, removalFormed, removalFlushes, removed, removing, removeOf}
 use Rattle.removals.proofs.Given.{namesOpen, notLive}
-use Rattle.removals.proofs.ReadBack.{formed-parts}
-use Rattle.removals.proofs.Turns.{card-words}
+use Rattle.removals.proofs.Turns.{formed-parts, card-words}
 use Rattle.removals.proofs.Effect.{removed-gone, removed-others, one-less, flushed-gone, flushed-others}
 
 -- what a removal of window w leaves of the state s and the card

@@ -4,10 +4,10 @@ use mathlib.Core.List.{List, foldr}
 use Prim.Native.Nat.{ℕ, _+_, _-_}
 use lib.Dec.{eqb, ltb, leb}
 use lib.ListN.{length}
-use Rattle.lists.specs.Lists.{keep, any, every}
+use Rattle.lists.specs.Lists.{any}
 use Rattle.words.specs.Words.{words}
 use Rattle.postings.specs.declared.Posting.{Posting}
-use Rattle.postings.specs.Merge.{put, nonzero, pairs, negated}
+use Rattle.postings.specs.Merge.{put, nonzero, negated}
 use Rattle.postings.specs.Sums.{isAbove}
 use Rattle.answers.specs.Answers.{Outcome, refuse, leave, refuseIf, done}
 use Rattle.state.specs.declared.Windows.{Windows}
@@ -15,18 +15,13 @@ use Rattle.state.specs.declared.State.{State}
 use Rattle.state.specs.Views.{blocks, buffered, finished, bufferOf, withWindows, withBuffer}
 use Rattle.state.specs.Rules.{stateRule}
 use Rattle.state.specs.Probe.{Store, sameLength}
-use Rattle.partitions.specs.Reading.{postingsOf, inPartitions, stored}
-use Rattle.partitions.specs.Formed.{partitionsFormed, listRule, sumsInRange}
+use Rattle.partitions.specs.Reading.{stored}
+use Rattle.partitions.specs.Formed.{partitionsFormed}
 use Rattle.windows.specs.Flush.{flushingIf}
 use Rattle.windows.specs.Calls.{isOpen}
-
--- the postings of window w
-abbrev pub ofWindow : ℕ → List Posting → List Posting
-ofWindow w l = keep (λ p. eqb (p .window) w) l
-
--- a window's counts, read from the buffers: its sums that are not 0, by identifier
-unfoldable pub countsOf : ℕ → List Posting → List Posting
-countsOf w l = nonzero (pairs (ofWindow w l))
+-- the postings of a window, its counts read from the buffers, and refusal 3 of lists and sums
+pub use Rattle.sums.specs.Tally.{ofWindow}
+unfoldable pub use Rattle.sums.specs.Tally.{countsOf, listsFormed}
 
 -- read from the buffers, a window is live when a count of it is above 0
 abbrev pub isLive : List Posting → Bool
@@ -34,11 +29,7 @@ isLive counts = any (λ p. isAbove (p .count)) counts
 
 -- refusal 3: all finished partitions and all their lists, the window's sums over the partitions and with the buffer, and more than 64 of them
 unfoldable pub removalFormed : List ℕ → State → ℕ → Bool
-removalFormed W s w =
-    partitionsFormed W (blocks s) (finished (s .partitions))
-    && (every (λ p. listRule (postingsOf W p)) (finished (s .partitions))
-    && (sumsInRange (ofWindow w (inPartitions W (finished (s .partitions))))
-    && (sumsInRange (ofWindow w (stored W s)) && leb (length (countsOf w (stored W s))) 64)))
+removalFormed W s w = partitionsFormed W (blocks s) (finished (s .partitions)) && listsFormed W s w
 
 -- 1 where the open window is counted in N
 abbrev pub openCounted : State → ℕ

@@ -1,4 +1,4 @@
--- A window's counts: reading them, and taking them back from the buffer.
+-- A window's counts taken back from the buffer.
 use mathlib.Core.Bool.{Bool, true, _&&_}
 use mathlib.Core.List.{List, map, foldr}
 use mathlib.Core.Path.{_≡_}
@@ -15,14 +15,12 @@ use Rattle.words.specs.Words.{words}
 use Rattle.state.specs.declared.Buffer.{Buffer}
 use Rattle.state.specs.declared.State.{State}
 use Rattle.state.specs.Rules.{stateRule}
-use Rattle.partitions.specs.Reading.{postingsOf, inPartitions, stored}
-use Rattle.partitions.specs.Formed.{listRule, sumsInRange}
-use Rattle.state.specs.Views.{buffered, finished}
+use Rattle.partitions.specs.Reading.{stored}
+use Rattle.state.specs.Views.{buffered}
 use Rattle.buffer.specs.Canonical.{Canonical}
 use Rattle.sums.specs.declared.Counts.{Counts}
-use Rattle.sums.specs.declared.Judged.{Judged}
-use Rattle.sums.specs.Views.{countsIn, Neat}
-use Rattle.removals.specs.Removal.{ofWindow, countsOf, removalFormed}
+use Rattle.sums.specs.Views.{countsIn}
+use Rattle.removals.specs.Removal.{countsOf, removalFormed}
 
 -- what takes a posting back
 abbrev pub opposite : Posting → Posting
@@ -53,16 +51,3 @@ pub record Removable (s : State) (card : List ℕ) (w : ℕ) (c : Counts) : Type
   pub formed : removalFormed (words card) s w ≡ true
   pub few : c .used ≤ 64
   pub counts : countsIn c ≡ countsOf w (stored (words card) s)
-
--- refusal 3 without chains, headers and entries: every list, the window's sums over the partitions and with the buffer, and at most 64 counts
-unfoldable pub listsFormed : List ℕ → State → ℕ → Bool
-listsFormed W s w =
-    every (λ p. listRule (postingsOf W p)) (finished (s .partitions))
-    && (sumsInRange (ofWindow w (inPartitions W (finished (s .partitions))))
-    && (sumsInRange (ofWindow w (stored W s)) && leb (length (countsOf w (stored W s))) 64))
-
--- whether that is so is told, and the counts where it is
-pub record ReadOf (W : List ℕ) (s : State) (w : ℕ) (r : Judged) : Type 0 where
-  pub fine : r .fine ≡ listsFormed W s w
-  pub counts : r .fine ≡ true → countsIn (r .counts) ≡ countsOf w (stored W s)
-  pub neat : Neat (r .counts)

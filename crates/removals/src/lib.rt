@@ -6,26 +6,22 @@ use state::Buffer;
 use state::State;
 use state::Windows;
 use sums::Counts;
-use sums::Judged;
 use windows::Replied;
 use windows::Target;
-ghost use mathlib.Core.Bool.{true, _&&_, _||_, not, cond};
+ghost use mathlib.Core.Bool.{_&&_, _||_, not, cond};
 ghost use mathlib.Core.List.{foldr};
 ghost use mathlib.Core.Path.{_≡_};
-ghost use Prim.Native.Nat.{_+_, _*_, _≤_};
+ghost use Prim.Native.Nat.{_+_, _≤_};
 ghost use lib.Dec.{eqb, ltb, leb};
 ghost use lib.ListN.{length};
-ghost use Rattle.words.specs.Words.{words as wordsOf};
 ghost use Rattle.postings.specs.Merge.{put, nonzero, negated};
 ghost use Rattle.postings.specs.Sums.{isAbove};
 ghost use Rattle.answers.specs.Numbers.{replied};
-ghost use Rattle.state.specs.Views.{buffered, bufferOf, blocks, finished};
-ghost use Rattle.state.specs.Rules.{stateRule};
-ghost use Rattle.partitions.specs.Formed.{partitionsFormed};
+ghost use Rattle.state.specs.Views.{buffered, bufferOf};
 ghost use Rattle.windows.specs.Promises.{Gives, storeOf};
 ghost use Rattle.sums.specs.Views.{countsIn};
 ghost use Rattle.removals.specs.Removal.{isLive, removed, removing, removeOf};
-ghost use Rattle.removals.specs.Taking.{Takeable, Removable, ReadOf};
+ghost use Rattle.removals.specs.Taking.{Takeable, Removable};
 
 // A refusal: the state stays.
 fn refuse(s: State, why: Refusal) -> Replied
@@ -45,18 +41,6 @@ fn done(s: State) -> Replied
         reply: Reply::Done,
         state: s,
     }
-}
-
-// The window's counts, read from the partitions and the buffer together, where all lists and the window's sums are well formed.
-fn window_counts(card: &[u8], s: State, window: u32) -> Judged
-    requires { ⌜ (stateRule s ≡ true) × (length (wordsOf (now card)) ≡ 1024 * blocks s)
-        × (partitionsFormed (wordsOf (now card)) (blocks s) (finished (s .partitions)) ≡ true) ⌝ }
-    ensures { λ r. ⌜ ReadOf (wordsOf (now (card .entry))) s window r ⌝ }
-{
-    let ps = s.partitions;
-    let b = s.buffer;
-    let sources = scans::open_sources(card, ps);
-    sums::walk(card, sources, b, window)
 }
 
 // Takes each of a window's counts back: it is added to the buffer negated, and a sum that comes to 0 is dropped.
@@ -202,7 +186,7 @@ pub fn remove(s: State, card: &mut [u8], window: u32) -> Replied
     if !partitions::partitions_ok(card, s.lengths.card / 4096, s.partitions) {
         return refuse(s, Refusal::Malformed);
     }
-    let read = window_counts(card, s, window);
+    let read = sums::read(card, s, window);
     let fine = read.fine;
     if !fine {
         return refuse(s, Refusal::Malformed);

@@ -19,7 +19,7 @@ use Rattle.postings.specs.Merge.{isZero}
 use Rattle.walks.specs.Judged.{totalZ, inRanges}
 use Rattle.walks.proofs.Steps.{total-none, quiet}
 use Rattle.scans.specs.Keys.{keyWindow}
-use Rattle.sums.specs.Tally.{Tally, faulty, tallied, totalAt, checked, gathered, windowChecked, windowGathered, tallyIf, tallyOf, keptOf}
+use Rattle.sums.proofs.Tally.{Tally, faulty, tallied, totalAt, checked, gathered, windowChecked, windowGathered, tallyIf, tallyOf, keptOf}
 use Rattle.sums.proofs.Keeps.{append-none}
 
 -- ---- more counts after those so far

@@ -1,17 +1,22 @@
 // The counts of one window, read from all that is stored in one pass by falling key.
 use postings::Posting;
-use scans::Sources;
 use state::Buffer;
+use state::State;
+ghost use mathlib.Core.Bool.{true, cond};
 ghost use mathlib.Core.Path.{_≡_};
 ghost use mathlib.Core.List.{[], _∷_, _++_};
-ghost use Prim.Native.Nat.{_≤_, _<_};
-ghost use Rattle.keyed.specs.Keys.{reach, rest, headVal};
+ghost use Prim.Native.Nat.{_+_, _*_, _≤_, _<_};
+ghost use lib.Dec.{eqb};
+ghost use lib.IntN.{pos};
+ghost use lib.ListN.{length};
 ghost use Rattle.words.specs.Words.{words as wordsOf};
+ghost use Rattle.state.specs.Views.{blocks, finished};
+ghost use Rattle.state.specs.Rules.{stateRule};
+ghost use Rattle.partitions.specs.Formed.{partitionsFormed};
 ghost use Rattle.scans.specs.Keys.{keyOf};
-ghost use Rattle.scans.specs.Items.{Ready};
 ghost use Rattle.sums.specs.Views.{countsIn, Neat};
-ghost use Rattle.sums.specs.Tally.{keptOf, tallyOf};
-ghost use Rattle.sums.specs.Steps.{told, bufferItems, Walkable, groups, Moved};
+ghost use Rattle.sums.specs.Tally.{ReadOf};
+ghost use Rattle.sums.specs.Steps.{Counted, Begun};
 
 // The counts of a window, by identifier.
 pub struct Counts {
@@ -25,19 +30,10 @@ pub struct Judged {
     pub counts: Counts,
 }
 
-// What is taken of the buffer under a key: the place past it, and the count.
-struct Place {
-    pub at: u16,
+// What the buffer has still to come first: one more than the key, and the count; 0 where nothing is to come.
+struct Front {
+    pub reach: u32,
     pub count: i16,
-}
-
-// What is taken under a key: sources and buffer past it, the sum over the sources, the total with the buffer, and whether all is well formed.
-struct Step {
-    pub sources: Sources,
-    pub at: u16,
-    pub sum: i32,
-    pub total: i32,
-    pub fine: bool,
 }
 
 // No counts.
@@ -55,61 +51,30 @@ fn none() -> Counts
     }
 }
 
-// The key of a posting.
-fn key_of(p: Posting) -> u32
+// A buffered posting that is to come first.
+fn front_of(p: Posting) -> Front
     requires { ⌜ p .id ≤ 1023 ⌝ }
-    ensures { λ r. ⌜ (r ≡ keyOf (p .id) (p .window)) × (r < 67108864) ⌝ }
+    ensures { λ r. ⌜ (r .reach ≡ keyOf (p .id) (p .window) + 1) × (r .count ≡ p .count) ⌝ }
 {
-    (1023 - p.id as u32) * 65536 + p.window as u32
-}
-
-// One more than the key at a place of the buffer, 0 past its end.
-fn buffer_reach(b: Buffer, at: u16) -> u32
-    requires { ⌜ Walkable b × (at ≤ b .used) ⌝ }
-    ensures { λ r. ⌜ (r ≡ reach (bufferItems b at)) × (r ≤ 67108864) ⌝ }
-{
-    if at == b.used {
-        return 0;
-    }
-    let p = b.postings[at as usize];
-    key_of(p) + 1
-}
-
-// The posting at a place of the buffer, if it has the key.
-fn buffer_took(b: Buffer, at: u16, key: u32) -> Place
-    requires { ⌜ Walkable b × (at ≤ b .used) ⌝ }
-    ensures { λ r. ⌜ (r .at ≤ b .used) × (bufferItems b (r .at) ≡ rest key (bufferItems b at)) × (r .count ≡ headVal key (bufferItems b at)) ⌝ }
-{
-    if at == b.used {
-        return Place { at: at, count: 0 };
-    }
-    let p = b.postings[at as usize];
-    if key_of(p) == key {
-        Place {
-            at: at + 1,
-            count: p.count,
-        }
-    } else {
-        Place { at: at, count: 0 }
+    Front {
+        reach: (1023 - p.id as u32) * 65536 + p.window as u32 + 1,
+        count: p.count,
     }
 }
 
-// Sources and buffer past the key.
-fn take_step(card: &[u8], ss: Sources, b: Buffer, at: u16, key: u32) -> Step
-    requires { ⌜ Ready (wordsOf (now card)) ss × Walkable b × (at ≤ b .used) ⌝ }
-    ensures { λ r. ⌜ Moved (wordsOf (now (card .entry))) ss b at key r ⌝ }
+// The count that the buffer has under the key below `top`.
+fn count_under(f: Front, top: u32) -> i16
+    ensures { λ r. ⌜ r ≡ cond (eqb (f .reach) top) (f .count) (pos 0) ⌝ }
 {
-    let t = scans::take_key(card, ss, key);
-    let q = buffer_took(b, at, key);
-    let next = t.sources;
-    let total = walks::added(t.sum, q.count);
-    Step {
-        sources: next,
-        at: q.at,
-        sum: t.sum,
-        total: total,
-        fine: t.fine,
-    }
+    if f.reach == top { f.count } else { 0 }
+}
+
+// The buffer's place past the key below `top`.
+fn past(at: usize, f: Front, top: u32) -> usize
+    requires { ⌜ at ≤ 128 ⌝ }
+    ensures { λ r. ⌜ r ≡ cond (eqb (f .reach) top) (at + 1) at ⌝ }
+{
+    if f.reach == top { at + 1 } else { at }
 }
 
 // One count more.
@@ -124,18 +89,12 @@ fn append(c: Counts, p: Posting) -> Counts
     next
 }
 
-// The total under a key is a count, where it is of the window and not 0.
-fn keep_total(c: Counts, w: u32, key: u32, sum: i32, total: i32) -> Judged
+// The total under a key of the window is a count, where it is not 0.
+fn keep_total(c: Counts, key: u32, sum: i32, total: i32) -> Judged
     requires { ⌜ Neat c × (key < 67108864) ⌝ }
-    ensures { λ r. ⌜ (told r ≡ keptOf w key sum total (countsIn c)) × Neat (r .counts) ⌝ }
+    ensures { λ r. ⌜ Counted c key sum total r ⌝ }
 {
-    if scans::key_window(key) as u32 != w {
-        return Judged {
-            fine: true,
-            counts: c,
-        };
-    }
-    if !walks::both(walks::in_range(sum), walks::in_range(total)) {
+    if !kway::both(kway::in_range(sum), kway::in_range(total)) {
         return Judged {
             fine: false,
             counts: c,
@@ -166,16 +125,23 @@ fn keep_total(c: Counts, w: u32, key: u32, sum: i32, total: i32) -> Judged
 }
 
 // The walk: key after key, from the greatest at any head down. No list may reach a key that was passed.
-pub fn walk(card: &[u8], sources: Sources, b: Buffer, w: u32) -> Judged
-    requires { ⌜ Ready (wordsOf (now card)) sources × Walkable b ⌝ }
-    ensures { λ r. ⌜ (told r ≡ tallyOf w (groups (wordsOf (now (card .entry))) sources b 0)) × Neat (r .counts) ⌝ }
+fn walk(card: &[u8], heads: &mut [u32], start: u32, s: State, b: Buffer, w: u32) -> Judged
+    requires { ⌜ Begun (wordsOf (now card)) s b (now heads) start ⌝ }
+    ensures { λ r. ⌜ ReadOf (wordsOf (now (card .entry))) s w r ⌝ }
 {
-    let mut ss = sources;
-    let mut at: u16 = 0;
+    let n = s.partitions.used as usize;
+    let used = b.used as usize;
+    let mut at: usize = 0;
+    let mut next = start;
     let mut bound: u32 = 67108864;
     let mut c = none();
     loop {
-        let top = walks::larger(scans::top_key(card, ss), buffer_reach(b, at));
+        let mut front = Front { reach: 0, count: 0 };
+        if at < used {
+            let p = b.postings[at];
+            front = front_of(p);
+        }
+        let top = kway::larger(next, front.reach);
         if top == 0 {
             return Judged {
                 fine: true,
@@ -189,25 +155,33 @@ pub fn walk(card: &[u8], sources: Sources, b: Buffer, w: u32) -> Judged
             };
         }
         let key = top - 1;
-        let t = take_step(card, ss, b, at, key);
-        let fine = t.fine;
+        let t = scans::take(card, heads, n, key);
+        let mut fine = t.fine;
+        if scans::key_window(key) as u32 == w {
+            let total = kway::added(t.sum, count_under(front, top));
+            let k = keep_total(c, key, t.sum, total);
+            fine = kway::both(fine, k.fine);
+            c = k.counts;
+        }
         if !fine {
             return Judged {
                 fine: false,
                 counts: c,
             };
         }
-        let k = keep_total(c, w, key, t.sum, t.total);
-        let kept = k.fine;
-        if !kept {
-            return Judged {
-                fine: false,
-                counts: c,
-            };
-        }
-        ss = t.sources;
-        at = t.at;
-        c = k.counts;
+        at = past(at, front, top);
+        next = t.next;
         bound = key;
     }
+}
+
+// The window's counts, read from the partitions and the buffer together, where all lists and the window's sums are well formed.
+pub fn read(card: &[u8], s: State, window: u32) -> Judged
+    requires { ⌜ (stateRule s ≡ true) × (length (wordsOf (now card)) ≡ 1024 * blocks s)
+        × (partitionsFormed (wordsOf (now card)) (blocks s) (finished (s .partitions)) ≡ true) ⌝ }
+    ensures { λ r. ⌜ ReadOf (wordsOf (now (card .entry))) s window r ⌝ }
+{
+    let mut heads = [0u32; 510];
+    let start = scans::open_heads(card, s.partitions, &mut heads);
+    walk(card, &mut heads, start, s, s.buffer, window)
 }

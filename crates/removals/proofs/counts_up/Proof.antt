@@ -2,7 +2,7 @@ use borrow.Author.Needs.{needs}
 use mir.Syntax.{w16}
 use mir.Val.{SFits}
 use mir.Facts.{toZ-ofZ}
-use Rattle.walks.proofs.Steps.{above-test}
+use Rattle.kway.proofs.Turns.{above-test}
 use Rattle.removals.proofs.counts_up.Statement.{statement}
 use Rattle.removals.proofs.counts_up.Tie as tie
 

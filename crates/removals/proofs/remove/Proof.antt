@@ -64,8 +64,8 @@ returns-3 c =
     let rule = ok ∙ not-false _ (c .before .before .before .before .before .before .before .if1 .left) in
     rw (c .refuse3 .ensures) (bad-partitions s card w rule (c .before .before .before .before .before .if2 .left) (sym (c .before .before .partitions-ok .ensures) ∙ not-true _ (c .before .if3 .taken)))
 
-window-counts-requires : tie.Need-window-counts-requires
-window-counts-requires c κs =
+read-requires : tie.Need-read-requires
+read-requires c κs =
     let a = c .before .before .before .before .before .before .before .before .before .before in
     let s = a .args .s in
     let card = a .args .card .now in
@@ -92,7 +92,7 @@ returns-4 c =
     let rule = ok ∙ not-false _ (c .before .before .before .before .before .before .before .before .before .before .if1 .left) in
     let size = c .before .before .before .before .before .before .before .before .if2 .left in
     let parts = sym (c .before .before .before .before .before .partitions-ok .ensures) ∙ not-false _ (c .before .before .before .before .if3 .left) in
-    let r = c .before .before .window-counts in
+    let r = c .before .before .read in
     rw (c .refuse4 .ensures) (bad-lists s card w rule size parts (r .result) (r .ensures) (not-true _ (c .before .if4 .taken)))
 
 remove-counts-requires : tie.Need-remove-counts-requires
@@ -105,7 +105,7 @@ remove-counts-requires c κs =
     let rule = ok ∙ not-false _ (c .before .before .before .before .before .before .before .before .before .before .before .if1 .left) in
     let size = c .before .before .before .before .before .before .before .before .before .if2 .left in
     let parts = sym (c .before .before .before .before .before .before .partitions-ok .ensures) ∙ not-false _ (c .before .before .before .before .before .if3 .left) in
-    let r = c .before .before .before .window-counts in
+    let r = c .before .before .before .read in
     removable s card w rule size parts (r .result) (r .ensures) (not-false _ (c .before .before .if4 .left))
 
 same-length-3 : tie.Need-same-length-3
@@ -121,7 +121,7 @@ returns-5 c =
     let rule = ok ∙ not-false _ (c .before .before .before .before .before .before .before .before .before .before .before .before .before .before .if1 .left) in
     let size = c .before .before .before .before .before .before .before .before .before .before .before .before .if2 .left in
     let parts = sym (c .before .before .before .before .before .before .before .before .before .partitions-ok .ensures) ∙ not-false _ (c .before .before .before .before .before .before .before .before .if3 .left) in
-    let r = c .before .before .before .before .before .before .window-counts in
+    let r = c .before .before .before .before .before .before .read in
     goes-on s card w rule size parts (r .result) (r .ensures) (not-false _ (c .before .before .before .before .before .if4 .left)) (c .before .before .remove-counts .ensures)
 
 pub remove-spec : {M : Type 1} → statement M
@@ -138,7 +138,7 @@ remove-spec =
     refuse-requires-3
     same-length
     returns-3
-    window-counts-requires
+    read-requires
     refuse-requires-4
     same-length-2
     returns-4

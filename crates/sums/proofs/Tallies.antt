@@ -22,9 +22,9 @@ use Rattle.partitions.specs.Formed.{inRange, sumsInRange, listRule}
 use Rattle.walks.specs.Judged.{totalZ, inRanges}
 use Rattle.scans.specs.Keys.{keyOf, keyId, keyWindow, itemOf, isKeyed}
 use Rattle.scans.proofs.Keys.{key-whole, key-of-id, key-of-window, key-below, key-precedes, falls-rule, lists-rule, sum-keyed, sums-keyed}
-use Rattle.sums.specs.Tally.{faulty, totalAt, checked, gathered, windowChecked, windowGathered, tallyIf, tallyOf}
-use Rattle.removals.specs.Removal.{ofWindow, countsOf}
-use Rattle.removals.proofs.Windowed.{every-member, window-sum, window-fits, counts-ordered, counts-some, counts-own, counts-other, counts-pass}
+use Rattle.sums.proofs.Tally.{faulty, totalAt, checked, gathered, windowChecked, windowGathered, tallyIf, tallyOf}
+use Rattle.sums.specs.Tally.{ofWindow, countsOf}
+use Rattle.sums.proofs.Windowed.{every-member, window-sum, window-fits, counts-ordered, counts-some, counts-own, counts-other, counts-pass}
 
 -- ---- a test at every key
 

@@ -8,6 +8,7 @@ use lib.Dec.{leb}
 use lib.ListN.{length}
 use borrow.Author.Tests.{le-leb}
 use Rattle.lists.specs.Lists.{every, joined}
+use Rattle.lists.specs.All.{AllOf}
 use Rattle.lists.proofs.Bools.{by-test, and-both}
 use Rattle.lists.proofs.Tests.{every-from}
 use Rattle.lists.proofs.Ranges.{every-map}
@@ -15,23 +16,24 @@ use Rattle.keyed.specs.Groups.{Group}
 use Rattle.words.specs.Words.{Below}
 use Rattle.postings.specs.declared.Posting.{Posting}
 use Rattle.postings.specs.Order.{ordered}
+use Rattle.state.specs.declared.Buffer.{Buffer}
 use Rattle.state.specs.declared.State.{State}
-use Rattle.state.specs.Views.{blocks, buffered, finished}
+use Rattle.state.specs.Views.{buffered, finished}
 use Rattle.state.specs.Rules.{postingRule, stateRule}
 use Rattle.state.proofs.Kept.{state-kept, posting-kept}
 use Rattle.partitions.specs.Reading.{postingsOf, inPartitions, stored}
-use Rattle.partitions.specs.Formed.{listRule, sumsInRange, partitionsFormed}
-use Rattle.scans.specs.declared.Sources.{Sources}
+use Rattle.partitions.specs.Formed.{listRule, sumsInRange}
+use Rattle.kway.specs.Parts.{parts}
 use Rattle.scans.specs.Keys.{itemOf, isKeyed}
-use Rattle.scans.specs.Items.{postingLists, Ready}
-use Rattle.scans.proofs.Moves.{items-lists, lists-keyed}
+use Rattle.scans.specs.Items.{items}
+use Rattle.scans.specs.Heads.{readerAt, ahead, view, Kept}
+use Rattle.scans.proofs.Moves.{reader-keyed}
 use Rattle.sums.specs.declared.Judged.{Judged}
 use Rattle.sums.specs.Views.{countsIn, Neat}
-use Rattle.sums.specs.Tally.{faulty, tallied, tallyIf, tallyOf}
-use Rattle.sums.specs.Steps.{told, isFine, bufferItems, Walkable, groups}
-use Rattle.removals.specs.Removal.{ofWindow, countsOf, removalFormed}
-use Rattle.removals.specs.Taking.{listsFormed, ReadOf}
-use Rattle.removals.proofs.Tallies.{tally-lists}
+use Rattle.sums.specs.Tally.{ofWindow, countsOf, listsFormed, ReadOf}
+use Rattle.sums.specs.Steps.{Begun}
+use Rattle.sums.proofs.Tally.{Tally, faulty, tallied, tallyIf, tallyOf, told, isFine, bufferItems, Walkable, groups}
+use Rattle.sums.proofs.Tallies.{tally-lists}
 
 -- ---- a result against its tests
 
@@ -78,11 +80,6 @@ module _ (r : Judged) (l : List Posting) where
       (λ n. settled-faulty _ (both-some x y t (leb (length l) 64) ∙ n) (f ∙ rw (t, n))))
       (λ n. settled-faulty _ (both-none x y n (leb (length l) 64)) (f ∙ rw n))
 
--- refusal 3 in its two parts
-pub formed-parts : (W : List ℕ) (s : State) (w : ℕ) → removalFormed W s w ≡ (partitionsFormed W (blocks s) (finished (s .partitions)) && listsFormed W s w)
-unfolding removalFormed listsFormed
-formed-parts W s w = refl
-
 -- ---- the buffer
 
 module _ (s : State) (rule : stateRule s ≡ true) (last : s .windows .last ≤ 65535) where
@@ -103,36 +100,54 @@ module _ (s : State) (rule : stateRule s ≡ true) (last : s .windows .last ≤ 
   pub buffer-walkable : Walkable (s .buffer)
   buffer-walkable = record { few = state-kept s rule .buffer .used; keyed = buffer-keyed; fine = buffer-fine }
 
+-- ---- the heads
+
+module _ (W : List ℕ) where
+  -- what heads have to come are their postings
+  views-lists : (hs : List (List ℕ)) → map (view W) hs ≡ map (map itemOf) (map (ahead W) hs)
+  unfolding view items
+  views-lists [] = refl
+  views-lists (h ∷ hs) = ap (λ (x : Group). map itemOf (ahead W h) ∷ x) (views-lists hs)
+
+  -- and have keys
+  heads-keyed : Below 4294967296 W → (hs : List (List ℕ)) → AllOf (Kept W) hs → every (every isKeyed) (map (ahead W) hs) ≡ true
+  unfolding AllOf
+  heads-keyed small [] g = refl
+  heads-keyed small (h ∷ hs) g = and-both _ _ (reader-keyed W small (readerAt h) (g .0 .good)) (heads-keyed small hs (g .1))
+
 -- ---- the walk's answer
 
-module _ (s : State) (rule : stateRule s ≡ true) (ok : Walkable (s .buffer)) where
+module _ (W : List ℕ) (s : State) (b : Buffer) (w : ℕ) (H : List ℕ) (start : ℕ) (g : Begun W s b H start) (small : Below 4294967296 W) (ok : Walkable (s .buffer)) where
   buffer-rule : listRule (buffered (s .buffer)) ≡ true
   unfolding listRule
-  buffer-rule = and-both (ordered (buffered (s .buffer))) _ (state-kept s rule .buffer .order) (ok .fine)
+  buffer-rule = and-both (ordered (buffered (s .buffer))) _ (state-kept s (g .rule) .buffer .order) (ok .fine)
 
-  module _ (W : List ℕ) (w : ℕ) (ss : Sources) (small : Below 4294967296 W) (ready : Ready W ss) (same : postingLists W ss ≡ map (postingsOf W) (finished (s .partitions))) where
-    abbrev lists : List (List Posting)
-    lists = map (postingsOf W) (finished (s .partitions))
+  abbrev lists : List (List Posting)
+  lists = map (postingsOf W) (finished (s .partitions))
 
-    groups-same : groups W ss (s .buffer) 0 ≡ map (map itemOf) lists ∷ (map itemOf (buffered (s .buffer)) ∷ []) ∷ []
-    unfolding bufferItems
-    groups-same =
-        ap (λ (x : Group). x ∷ (map itemOf (buffered (s .buffer)) ∷ []) ∷ []) (items-lists W ss ∙ ap (map (map itemOf)) same)
+  abbrev pub whole : Tally
+  whole = tallyOf w (groups W (s .partitions .used) H b 0)
 
-    -- what is told, by the definitions of a removal
-    tally-stored : tallyOf w (groups W ss (s .buffer) 0)
-        ≡ cond (every (λ p. listRule (postingsOf W p)) (finished (s .partitions)))
-        (tallyIf (sumsInRange (ofWindow w (inPartitions W (finished (s .partitions)))) && sumsInRange (ofWindow w (stored W s))) (countsOf w (stored W s))) faulty
-    unfolding inPartitions stored
-    tally-stored =
-        ap (tallyOf w) groups-same
-        ∙ tally-lists w lists (buffered (s .buffer)) (rw same at (lists-keyed W small ss ready)) (ok .keyed) buffer-rule
-        ∙ ap (λ (t : Bool). cond t (tallyIf (sumsInRange (ofWindow w (joined lists)) && sumsInRange (ofWindow w (joined lists ++ buffered (s .buffer)))) (countsOf w (joined lists ++ buffered (s .buffer)))) faulty)
-        (every-map listRule (postingsOf W) (finished (s .partitions)))
+  groups-same : groups W (s .partitions .used) H b 0 ≡ map (map itemOf) lists ∷ (map itemOf (buffered (s .buffer)) ∷ []) ∷ []
+  unfolding bufferItems
+  groups-same =
+      rw (g .buffer)
+      (ap (λ (x : Group). x ∷ (map itemOf (buffered (s .buffer)) ∷ []) ∷ []) (views-lists W (parts 10 (s .partitions .used) H) ∙ ap (map (map itemOf)) (g .lists)))
 
-    -- so the result says what a removal reads
-    pub read-back : (r : Judged) → told r ≡ tallyOf w (groups W ss (s .buffer) 0) → Neat (r .counts) → ReadOf W s w r
-    unfolding listsFormed
-    read-back r e neat =
-        let t = settled r (countsOf w (stored W s)) (every (λ p. listRule (postingsOf W p)) (finished (s .partitions))) (sumsInRange (ofWindow w (inPartitions W (finished (s .partitions))))) (sumsInRange (ofWindow w (stored W s))) (e ∙ tally-stored) in
-        record { fine = t .0; counts = t .1; neat = neat }
+  -- what is told, by the definitions of a removal
+  tally-stored : whole
+      ≡ cond (every (λ p. listRule (postingsOf W p)) (finished (s .partitions)))
+      (tallyIf (sumsInRange (ofWindow w (inPartitions W (finished (s .partitions)))) && sumsInRange (ofWindow w (stored W s))) (countsOf w (stored W s))) faulty
+  unfolding inPartitions stored
+  tally-stored =
+      ap (tallyOf w) groups-same
+      ∙ tally-lists w lists (buffered (s .buffer)) (rw (g .lists) at (heads-keyed W small (parts 10 (s .partitions .used) H) (g .kept))) (ok .keyed) buffer-rule
+      ∙ ap (λ (t : Bool). cond t (tallyIf (sumsInRange (ofWindow w (joined lists)) && sumsInRange (ofWindow w (joined lists ++ buffered (s .buffer)))) (countsOf w (joined lists ++ buffered (s .buffer)))) faulty)
+      (every-map listRule (postingsOf W) (finished (s .partitions)))
+
+  -- so the result says what a removal reads
+  pub read-back : (r : Judged) → told r ≡ whole → Neat (r .counts) → ReadOf W s w r
+  unfolding listsFormed
+  read-back r e neat =
+      let t = settled r (countsOf w (stored W s)) (every (λ p. listRule (postingsOf W p)) (finished (s .partitions))) (sumsInRange (ofWindow w (inPartitions W (finished (s .partitions))))) (sumsInRange (ofWindow w (stored W s))) (e ∙ tally-stored) in
+      record { fine = t .0; counts = t .1; neat = neat }

@@ -18,7 +18,7 @@ use Rattle.postings.proofs.Order.{any-before}
 use Rattle.postings.proofs.Sums.{sum-pairs, sum-merge}
 use Rattle.postings.proofs.Merge.{every-puts, pairs-ordered, nonzero-ordered, nonzero-counts, ordered-sum, sum-none}
 use Rattle.partitions.specs.Formed.{inRange, sumsInRange}
-use Rattle.removals.specs.Removal.{ofWindow, countsOf}
+use Rattle.sums.specs.Tally.{ofWindow, countsOf}
 
 -- what holds of each member holds of all
 pub every-member : {A : Type 0} (t : A → Bool) (l : List A) → ((x : A) → List·Memᴰ x l → t x ≡ true) → every t l ≡ true
