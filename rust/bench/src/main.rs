@@ -6,7 +6,7 @@ mod probes;
 mod stack;
 mod timing;
 
-use probes::{Probe, half_full, name, register, to_merge, with_full_buffer};
+use probes::{Probe, alike, chained, half_full, name, register, to_merge, with_full_buffer};
 use second::engine;
 use second::state::Hit;
 use std::hint::black_box;
@@ -18,21 +18,33 @@ const BLOCK: usize = 4_096;
 const ENTRIES: usize = 1_024;
 const PLACES: usize = 32;
 
+/// Times the judging of a register, and tells the proved engine's time.
+fn judging(case: &str, register: &[u8]) -> f64 {
+    assert!(proved::register_ok(register) && second::register::read(register).is_some());
+    compare(
+        case,
+        || {
+            black_box(proved::register_ok(black_box(register)));
+        },
+        || {
+            black_box(second::register::read(black_box(register)));
+        },
+    )
+}
+
 fn registers() {
     title("judging a full register", "entries");
-    for entries in [64, 256, 1_024] {
-        let register = register(entries);
-        assert!(proved::register_ok(&register) && second::register::read(&register).is_some());
-        compare(
-            &entries.to_string(),
-            || {
-                black_box(proved::register_ok(black_box(&register)));
-            },
-            || {
-                black_box(second::register::read(black_box(&register)));
-            },
-        );
-    }
+    let times = [64, 256, 1_024].map(|entries| {
+        let register = register(entries, name);
+        judging(&entries.to_string(), &register)
+    });
+    let long = judging("1,024 alike in 62 bytes", &register(1_024, alike));
+    let worst = judging("1,024 of one hash", &register(1_024, chained));
+    println!(
+        "of 1,024, to the first: alike {:.2}, of one hash {:.2}",
+        long / times[2],
+        worst / times[2]
+    );
 }
 
 /// Times an event of an identifier on copies of one probe. What it writes is put back, a block of the card too.

@@ -22,8 +22,32 @@ pub fn name(number: usize) -> Vec<u8> {
     name
 }
 
+/// An identifier of 64 bytes that differs from the others of its kind in its last two alone.
+pub fn alike(number: usize) -> Vec<u8> {
+    let mut name = vec![b'A'; 64];
+    name[62..].copy_from_slice(&(number as u16).to_le_bytes());
+    name
+}
+
+/// An identifier of 64 bytes, like the others of its kind in its first 60, whose last two are chosen so that all of them have one hash
+/// of 31 times the hash before and the next byte, modulo 1,024.
+pub fn chained(number: usize) -> Vec<u8> {
+    let mut name = vec![b'A'; 64];
+    name[60..62].copy_from_slice(&(number as u16).to_le_bytes());
+    let hash = name[..62]
+        .iter()
+        .fold(64, |hash, &byte| (31 * hash + usize::from(byte)) % 1_024);
+    let left = (2_048 - 31 * 31 * hash % 1_024) % 1_024;
+    let last = (0..256)
+        .find(|first| (1_024 * 8 + left - 31 * first) % 1_024 < 256)
+        .expect("two bytes give every hash");
+    name[62] = last as u8;
+    name[63] = ((1_024 * 8 + left - 31 * last) % 1_024) as u8;
+    name
+}
+
 /// A full register of different identifiers.
-pub fn register(entries: usize) -> Vec<u8> {
+pub fn register(entries: usize, name: impl Fn(usize) -> Vec<u8>) -> Vec<u8> {
     let mut register = vec![0; entries * 65];
     for (number, entry) in register.chunks_exact_mut(65).enumerate() {
         let name = name(number);
@@ -96,7 +120,7 @@ fn empty(blocks: usize, entries: usize) -> Probe {
         },
         image: Vec::new(),
         card: vec![255; blocks * BLOCK],
-        register: register(entries),
+        register: register(entries, name),
     };
     buffer(&mut probe.state, 64);
     probe.image = image::write(&probe.state);

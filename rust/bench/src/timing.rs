@@ -33,8 +33,8 @@ pub fn title(what: &str, case: &str) {
     );
 }
 
-/// Prints the time of a call of each engine, as the least of several rounds that take turns.
-pub fn compare(case: &str, mut proved: impl FnMut(), mut second: impl FnMut()) {
+/// Prints the time of a call of each engine, as the least of several rounds that take turns, and tells the proved engine's.
+pub fn compare(case: &str, mut proved: impl FnMut(), mut second: impl FnMut()) -> f64 {
     let calls = (fitting(&mut proved), fitting(&mut second));
     let mut least = (f64::INFINITY, f64::INFINITY);
     for _ in 0..7 {
@@ -42,6 +42,7 @@ pub fn compare(case: &str, mut proved: impl FnMut(), mut second: impl FnMut()) {
         least.1 = least.1.min(round(calls.1, &mut second));
     }
     print(case, least.0, least.1);
+    least.0
 }
 
 /// Prints the times of both engines and their ratio.
