@@ -60,33 +60,40 @@ pub fn stands_apart(card: &[u8], first: u16, n: u32, ps: Partitions) -> bool
 
 // The pairs that a merge takes first.
 pub fn first_batch(card: &[u8], ps: Partitions) -> Batch
-    requires { ⌜ (ps .used ≤ 51) × AllOf (Readable (wordsOf (now card))) (finished ps) × (inputsFormed (wordsOf (now card)) (finished ps) ≡ true) ⌝ }
-    ensures { λ r. ⌜ (batched r ≡ nonzero (take 16 (pairsOf (inPartitions (wordsOf (now (card .entry))) (finished ps))))) × (r .used ≤ 16) ⌝ }
+    requires { ⌜ (ps .used ≤ 8) × AllOf (Readable (wordsOf (now card))) (finished ps) × (inputsFormed (wordsOf (now card)) (finished ps) ≡ true) ⌝ }
+    ensures { λ r. ⌜ (batched r ≡ nonzero (take 16 (pairsOf (inPartitions (wordsOf (now (card .entry))) (finished ps)))))
+        × (r .taken ≡ length (take 16 (pairsOf (inPartitions (wordsOf (now (card .entry))) (finished ps)))))
+        × (r .used ≤ 16) ⌝ }
 {
-    let ss = inputs::open_inputs(card, ps);
-    inputs::sixteen(card, ss)
+    let n = ps.used as usize;
+    let mut heads: [u32; 80] = [0; 80];
+    let top = inputs::open_inputs(card, ps, &mut heads);
+    inputs::sixteen(card, &mut heads, n, top)
 }
 
 // Reads the output in the n blocks from `first` on, of which `front` words are for header and entries, after `passed` pairs of the inputs.
 pub fn read_draft(card: &[u8], ps: Partitions, first: u16, n: u32, front: u32, passed: u32) -> Draft
-    requires { ⌜ (ps .used ≤ 51) × AllOf (Readable (wordsOf (now card))) (finished ps) × (inputsFormed (wordsOf (now card)) (finished ps) ≡ true)
+    requires { ⌜ (ps .used ≤ 8) × AllOf (Readable (wordsOf (now card))) (finished ps) × (inputsFormed (wordsOf (now card)) (finished ps) ≡ true)
         × Chained (wordsOf (now card)) first n × (1023 * n < 4294967296)
         × (front + length (nonzero (pairsOf (inPartitions (wordsOf (now card)) (finished ps)))) ≤ 1023 * n) ⌝ }
     ensures { λ r. ⌜ (r .ok ≡ holdsDraft (wordsOf (now (card .entry))) first n front passed (pairsOf (inPartitions (wordsOf (now (card .entry))) (finished ps))))
         × (r .written ≡ length (nonzero (take passed (pairsOf (inPartitions (wordsOf (now (card .entry))) (finished ps))))))
         × (batched (r .batch) ≡ nonzero (take 16 (drop passed (pairsOf (inPartitions (wordsOf (now (card .entry))) (finished ps))))))
+        × (r .batch .taken ≡ length (take 16 (drop passed (pairsOf (inPartitions (wordsOf (now (card .entry))) (finished ps))))))
         × (r .batch .used ≤ 16) ⌝ }
 {
+    let k = ps.used as usize;
     let head = card::seek(card, first, n, 0, front);
     let space = outputs::rest_free(card, head);
     let room = 1023 * n - front;
     let out = card::seek(card, first, n, front, room);
-    let ss = inputs::open_inputs(card, ps);
-    let p = inputs::pass(card, ss, passed, out);
+    let mut heads: [u32; 80] = [0; 80];
+    let top = inputs::open_inputs(card, ps, &mut heads);
+    let p = inputs::pass(card, &mut heads, k, top, passed, out);
     let rest = outputs::rest_free(card, p.out);
-    let b = inputs::sixteen(card, p.sources);
+    let b = inputs::sixteen(card, &mut heads, k, p.top);
     Draft {
-        ok: walks::both(walks::both(space, p.same), rest),
+        ok: kway::both(kway::both(space, p.same), rest),
         written: room - p.out.left,
         batch: b,
     }

@@ -3,22 +3,17 @@ use mathlib.Core.Bool.{Bool, true, false, _&&_, and-assoc}
 use mathlib.Core.List.{List, [], _∷_, _++_, map, map-append, append-assoc, append-nil}
 use mathlib.Core.Path.{_≡_, refl, sym, ap, _∙_}
 use Prim.Native.Nat.{ℕ, zero, suc, _+_, _-_, _<_, _≤_}
-use native.Mathlib.Nat.{zero-add}
 use native.Mathlib.Omega.{arith}
 use lib.Dec.{eqb}
-use lib.ListN.{length, take, drop, length-append, length-map, length-drop, take-append-drop}
+use lib.ListN.{length, take, drop, length-append, length-drop}
 use lib.Seq.{drop-drop}
-use Rattle.lists.specs.Lists.{keep, same}
+use Rattle.lists.specs.Lists.{same}
 use Rattle.lists.proofs.Bools.{by-test}
-use Rattle.lists.proofs.Sections.{part-add}
 use Rattle.lists.proofs.Tests.{keep-append}
 use Rattle.postings.specs.declared.Posting.{Posting}
 use Rattle.postings.specs.Merge.{counts, nonzero}
 use Rattle.partitions.specs.Layout.{wordOf}
 use Rattle.inputs.specs.Ahead.{outWords, Matched}
-
-take-drop-add : (n m : ℕ) (ps : List Posting) → take (n + m) ps ≡ take n ps ++ take m (drop n ps)
-take-drop-add n m ps = part-add ps 0 n m ∙ ap (λ (k : ℕ). take n ps ++ take m (drop k ps)) (zero-add n)
 
 -- the first pair, and the others
 nonzero-first : (p : Posting) (l : List Posting) → nonzero (p ∷ l) ≡ nonzero (p ∷ []) ++ nonzero l
@@ -66,25 +61,6 @@ nonzero-none = refl
 
 pub words-none : {l : List Posting} → l ≡ [] → map wordOf (nonzero l) ≡ []
 words-none e = ap (λ (r : List Posting). map wordOf (nonzero r)) e ∙ ap (map wordOf) nonzero-none
-
--- ---- the first pairs, and the next
-
-module _ (n m : ℕ) (ps : List Posting) where
-  -- the sums other than 0 of the first n pairs and of the next m
-  pub nonzero-on : nonzero (take (n + m) ps) ≡ nonzero (take n ps) ++ nonzero (take m (drop n ps))
-  unfolding nonzero
-  nonzero-on = ap (keep counts) (take-drop-add n m ps) ∙ keep-append counts (take n ps) (take m (drop n ps))
-
-  -- and as words
-  pub words-on : outWords (n + m) ps ≡ outWords n ps ++ outWords m (drop n ps)
-  words-on = ap (map wordOf) nonzero-on ∙ map-append wordOf (nonzero (take n ps)) (nonzero (take m (drop n ps)))
-
--- the words of the first n pairs are no more than those of all
-pub words-fit : (n : ℕ) (ps : List Posting) → length (outWords n ps) ≤ length (nonzero ps)
-unfolding nonzero
-words-fit n ps =
-    let e : nonzero ps ≡ nonzero (take n ps) ++ nonzero (drop n ps) = ap (keep counts) (sym (take-append-drop n ps)) ∙ keep-append counts (take n ps) (drop n ps) in
-    omega (arith, length-map (nonzero (take n ps)) wordOf, ap length e, length-append (nonzero (take n ps)) (nonzero (drop n ps)))
 
 -- ---- a batch
 

@@ -1,9 +1,10 @@
--- The walk over opened sources tells what is told of the inputs.
-use mathlib.Core.Bool.{true}
+-- The walk over opened heads tells what is told of the inputs.
+use mathlib.Core.Bool.{true, cond}
 use mathlib.Core.List.{List, map}
 use mathlib.Core.Path.{_≡_, sym, ap, _∙_}
 use Prim.Native.Nat.{ℕ}
 use lib.Dec.{leb}
+use Rattle.lists.specs.All.{AllOf}
 use Rattle.lists.specs.Lists.{every, joined}
 use Rattle.lists.proofs.Bools.{by-test, and-left, and-right}
 use Rattle.lists.proofs.Tests.{every-from}
@@ -15,15 +16,16 @@ use Rattle.postings.specs.Merge.{pairs}
 use Rattle.state.specs.declared.Partition.{Partition}
 use Rattle.partitions.specs.Reading.{postingsOf, inPartitions}
 use Rattle.partitions.specs.Formed.{listRule}
-use Rattle.scans.specs.declared.Sources.{Sources}
+use Rattle.kway.specs.Parts.{parts}
 use Rattle.scans.specs.Keys.{itemOf, isKeyed}
-use Rattle.scans.specs.Items.{postingLists, itemLists, Ready}
+use Rattle.scans.specs.Heads.{Kept, views}
 use Rattle.scans.proofs.Keys.{lists-rule}
 use Rattle.scans.proofs.Merged.{pairs-bound, pairs-keyed}
-use Rattle.scans.proofs.Moves.{items-lists, lists-keyed}
-use Rattle.inputs.specs.Judging.{allInRange, inputsFormed, totalsOf, zeros, judgedOf, resumed}
-use Rattle.inputs.specs.Ahead.{pairsAhead, Formed}
-use Rattle.inputs.proofs.Tallies.{tallied-all}
+use Rattle.inputs.specs.declared.Totals.{Totals}
+use Rattle.inputs.specs.Judging.{allInRange, inputsFormed, totalsOf, countsOf, judgedOf, Tally, untold, broken, resumed, Told}
+use Rattle.inputs.specs.Ahead.{postingLists, pairsAhead, Ready, Formed}
+use Rattle.inputs.proofs.Views.{items-lists, lists-keyed}
+use Rattle.inputs.proofs.Tallies.{toldOf, tallied-all}
 
 -- inputs are told to be well formed where they are
 pub judged-fine : (W : List ℕ) (ps : List Partition) → judgedOf W ps .fine ≡ inputsFormed W ps
@@ -35,15 +37,15 @@ pub judged-totals : (W : List ℕ) (ps : List Partition) → inputsFormed W ps �
 unfolding judgedOf
 judged-totals W ps e = rw e
 
-module _ (W : List ℕ) (small : Below 4294967296 W) (ps : List Partition) (ss : Sources) (ready : Ready W ss) (lists : postingLists W ss ≡ map (postingsOf W) ps) where
+module _ (W : List ℕ) (small : Below 4294967296 W) (ps : List Partition) (n : ℕ) (H : List ℕ) (kept : AllOf (Kept W) (parts 10 n H)) (lists : postingLists W n H ≡ map (postingsOf W) ps) where
   abbrev ls : List (List Posting)
   ls = map (postingsOf W) ps
 
   keyed : every (every isKeyed) ls ≡ true
-  keyed = rw lists at (lists-keyed W small ss ready)
+  keyed = rw lists at (lists-keyed W small n H kept)
 
-  items : itemLists W ss ≡ map (map itemOf) ls
-  items = items-lists W ss ∙ ap (map (map itemOf)) lists
+  items : views W n H ≡ map (map itemOf) ls
+  items = items-lists W n H ∙ ap (map (map itemOf)) lists
 
   falls : allFall 67108864 (map (map itemOf) ls) ≡ every (λ p. listRule (postingsOf W p)) ps
   falls = lists-rule ls keyed ∙ every-map listRule (postingsOf W) ps
@@ -53,22 +55,30 @@ module _ (W : List ℕ) (small : Below 4294967296 W) (ps : List Partition) (ss :
       every-from isKeyed isKeyed (λ p. leb (p .id) 1023) (λ p a b. and-left (leb (p .id) 1023) _ a) (pairs (joined ls)) (pairs-bound ls keyed) (pairs-bound ls keyed)
 
   -- what the walk tells
-  pub judged-walk : resumed 67108864 (itemLists W ss) (zeros true) ≡ judgedOf W ps
-  unfolding resumed judgedOf inputsFormed inPartitions
-  judged-walk =
+  walked : resumed 67108864 (views W n H) untold ≡ cond (inputsFormed W ps) (toldOf (pairs (inPartitions W ps))) broken
+  unfolding resumed inputsFormed inPartitions
+  walked =
       rw items
       (by-test (allFall 67108864 (map (map itemOf) ls))
       (λ y. rw (pairs-keyed ls keyed y, tallied-all (pairs (joined ls)) ids, falls))
       (λ n. rw (n, sym falls ∙ n)))
 
-  -- sources of well formed inputs
-  pub opened-ahead : pairsAhead W ss ≡ pairs (inPartitions W ps)
+  module _ (r : Totals) (ns : List ℕ) (t : Told (resumed 67108864 (views W n H) untold) r ns) where
+    pub told-totals : r ≡ judgedOf W ps
+    unfolding judgedOf
+    told-totals = t .totals ∙ ap (λ (x : Tally). x .totals) walked ∙ by-test (inputsFormed W ps) (λ y. rw y) (λ n. rw n)
+
+    pub told-counts : r .fine ≡ true → ns ≡ countsOf (pairs (inPartitions W ps))
+    told-counts f = t .counts f ∙ ap (λ (x : Tally). x .counts) walked ∙ rw (sym (judged-fine W ps) ∙ ap (λ (x : Totals). x .fine) (sym told-totals) ∙ f)
+
+  -- heads of well formed inputs
+  pub opened-ahead : pairsAhead W n H ≡ pairs (inPartitions W ps)
   unfolding pairsAhead inPartitions
   opened-ahead = ap (λ (l : List (List Posting)). pairs (joined l)) lists
 
-  pub opened-formed : inputsFormed W ps ≡ true → Formed W ss
+  pub opened-formed : (top : ℕ) → Ready W n H top → inputsFormed W ps ≡ true → Formed W n H top
   unfolding inputsFormed
-  opened-formed e = record {
+  opened-formed top ready e = record {
     ready = ready;
     lists = ap (every listRule) lists ∙ every-map listRule (postingsOf W) ps ∙ and-left _ _ e;
     sums = ap allInRange opened-ahead ∙ and-right (every (λ p. listRule (postingsOf W p)) ps) _ e;

@@ -1,3 +1,4 @@
+pub mod Views
 pub mod Resuming
 pub mod Tallies
 pub mod Room

@@ -11,6 +11,7 @@ use lib.IntN.{ℤ}
 use lib.ListN.{length, getD, set, replicate, length-set}
 use lib.Seq.{getD-set-same, getD-set-other}
 use borrow.Author.Tests.{leb-true, le-ltb, eqb-true, eqb-false, eq-eqb, ne-eqb}
+use Rattle.lists.specs.All.{AllOf}
 use Rattle.lists.specs.Lists.{keep, every}
 use Rattle.lists.proofs.Bools.{by-test, and-left, and-right}
 use Rattle.lists.proofs.Tests.{length-keep}
@@ -19,32 +20,33 @@ use Rattle.words.specs.Words.{Below}
 use Rattle.postings.specs.declared.Posting.{Posting}
 use Rattle.postings.specs.Merge.{isZero}
 use Rattle.scans.specs.Keys.{keyOf, keyId, keyWindow, itemOf, isKeyed, postingOf}
-use Rattle.scans.specs.declared.Sources.{Sources}
-use Rattle.scans.specs.Items.{postingLists, itemLists, Ready}
+use Rattle.kway.specs.Parts.{parts}
+use Rattle.scans.specs.Heads.{Kept, views}
 use Rattle.scans.proofs.Keys.{bounds, key-of-window}
-use Rattle.scans.proofs.Moves.{items-lists, lists-keyed}
 use Rattle.inputs.specs.declared.Totals.{Totals}
-use Rattle.inputs.specs.Judging.{Small, zeros, risen, tallyOf}
+use Rattle.inputs.specs.Judging.{Small, zeros, risen, totalsMore, countsMore}
+use Rattle.inputs.specs.Ahead.{postingLists}
+use Rattle.inputs.proofs.Views.{items-lists, lists-keyed}
 
 -- is a number of postings not 0
 abbrev some : ℕ → Bool
 some n = not (eqb n 0)
 
 -- totals of keys from `bound` up: under each identifier no more postings than windows that were passed
-pub record Room (t : Totals) (bound : ℕ) : Type 0 where
-  pub long : length (t .counts) ≡ 1024
+pub record Room (t : Totals) (ns : List ℕ) (bound : ℕ) : Type 0 where
+  pub long : length ns ≡ 1024
   pub pairs : t .pairs + bound ≤ 67108864
   pub postings : t .postings ≤ t .pairs
-  pub terms : t .terms ≡ length (keep some (t .counts))
-  pub counts : (i : ℕ) → i ≤ 1023 → (getD (t .counts) i 0 ≡ 0) ⊎ (getD (t .counts) i 0 + bound ≤ keyOf i 0 + 65536)
+  pub terms : t .terms ≡ length (keep some ns)
+  pub counts : (i : ℕ) → i ≤ 1023 → (getD ns i 0 ≡ 0) ⊎ (getD ns i 0 + bound ≤ keyOf i 0 + 65536)
 
 -- so they fit
-pub room-small : (t : Totals) (bound : ℕ) → Room t bound → Small t
-room-small t bound r =
-    record { pairs = omega (arith, r .pairs); postings = r .postings; terms = omega (arith, r .terms, r .long, length-keep some (t .counts)) }
+pub room-small : (t : Totals) (ns : List ℕ) (bound : ℕ) → Room t ns bound → Small t
+room-small t ns bound r =
+    record { pairs = omega (arith, r .pairs); postings = r .postings; terms = omega (arith, r .terms, r .long, length-keep some ns) }
 
 -- at first there is room
-pub room-none : Room (zeros true) 67108864
+pub room-none : Room (zeros true) (replicate 1024 0) 67108864
 room-none = record { long = refl; pairs = omega arith; postings = omega arith; terms = sym (none 1024); counts = λ i h. inl (all 1024 i) }
   where
     none : (n : ℕ) → length (keep some (replicate n 0)) ≡ 0
@@ -94,26 +96,32 @@ top-window k t ((p ∷ l) ∷ ls) e top f =
 key-window : (k : ℕ) (ls : List (List Posting)) → every (every isKeyed) ls ≡ true → topFrom 0 (map (map itemOf) ls) ≡ suc k → headsFine k (map (map itemOf) ls) ≡ true → 1 ≤ keyWindow k
 key-window k ls e top f = ⊎-elim (λ q. absurd (omega arith)) (λ h. h) (top-window k 0 ls e top f)
 
--- the same of sources
-pub window-top : (W : List ℕ) → Below 4294967296 W → (ss : Sources) → Ready W ss → (k : ℕ) → topFrom 0 (itemLists W ss) ≡ suc k → headsFine k (itemLists W ss) ≡ true → 1 ≤ keyWindow k
-window-top W small ss ready k top fine =
-    let e = items-lists W ss in
-    key-window k (postingLists W ss) (lists-keyed W small ss ready) (rw e at top) (rw e at fine)
+-- the same of heads
+pub window-top : (W : List ℕ) → Below 4294967296 W → (n : ℕ) (H : List ℕ) → AllOf (Kept W) (parts 10 n H) → (k : ℕ) → topFrom 0 (views W n H) ≡ suc k → headsFine k (views W n H) ≡ true → 1 ≤ keyWindow k
+window-top W small n H kept k top fine =
+    let e = items-lists W n H in
+    key-window k (postingLists W n H) (lists-keyed W small n H kept) (rw e at top) (rw e at fine)
 
-module _ (t : Totals) (bound k : ℕ) (z : ℤ) (r : Room t bound) (low : k < bound) (window : 1 ≤ keyWindow k) where
+module _ (t : Totals) (ns : List ℕ) (bound k : ℕ) (z : ℤ) (r : Room t ns bound) (low : k < bound) (window : 1 ≤ keyWindow k) where
+  abbrev n : ℕ
+  n = getD ns (keyId k) 0
+
   -- there is room for one more
-  pub room-here : getD (t .counts) (keyId k) 0 ≤ 65534
+  pub room-here : n ≤ 65534
   room-here = ⊎-elim (λ e. omega arith) (λ h. omega (arith, r .pairs)) (r .counts (keyId k) (omega arith))
 
+  abbrev p : Posting
+  p = postingOf (record { key = k; sum = z })
+
   -- and then for the next
-  pub room-more : Room (tallyOf t (postingOf (record { key = k; sum = z }))) k
-  unfolding tallyOf
+  pub room-more : Room (totalsMore t n p) (countsMore ns p) k
+  unfolding totalsMore countsMore
   room-more = by-test (isZero z) (λ y. rw y zero-sum) (λ n. rw n other-sum)
     where
-      long : length (t .counts) ≡ 1024
+      long : length ns ≡ 1024
       long = r .long
 
-      zero-sum : Room (record { fine = t .fine; pairs = t .pairs + 1; postings = t .postings; terms = t .terms; counts = t .counts }) k
+      zero-sum : Room (record { fine = t .fine; pairs = t .pairs + 1; postings = t .postings; terms = t .terms }) ns k
       zero-sum = record {
         long = long;
         pairs = omega (arith, r .pairs);
@@ -122,26 +130,20 @@ module _ (t : Totals) (bound k : ℕ) (z : ℤ) (r : Room t bound) (low : k < bo
         counts = λ i h. ⊎-elim (λ e. inl e) (λ b. inr (omega arith)) (r .counts i h);
       }
 
-      other : (i : ℕ) → i ≤ 1023 → (getD (set (t .counts) (keyId k) (getD (t .counts) (keyId k) 0 + 1)) i 0 ≡ 0) ⊎ (getD (set (t .counts) (keyId k) (getD (t .counts) (keyId k) 0 + 1)) i 0 + k ≤ keyOf i 0 + 65536)
+      other : (i : ℕ) → i ≤ 1023 → (getD (set ns (keyId k) (n + 1)) i 0 ≡ 0) ⊎ (getD (set ns (keyId k) (n + 1)) i 0 + k ≤ keyOf i 0 + 65536)
       other i h =
           by-test (eqb i (keyId k))
           (λ y. let e : i ≡ keyId k = eqb-true i (keyId k) y in
-          rw (e, getD-set-same (t .counts) (keyId k) (getD (t .counts) (keyId k) 0 + 1) 0 (omega arith))
+          rw (e, getD-set-same ns (keyId k) (n + 1) 0 (omega arith))
           (inr (⊎-elim (λ q. omega (arith, r .pairs)) (λ b. omega (arith, r .pairs)) (r .counts (keyId k) (omega arith)))))
-          (λ n. rw (getD-set-other (t .counts) (keyId k) i (getD (t .counts) (keyId k) 0 + 1) 0 (eqb-false i (keyId k) n))
+          (λ f. rw (getD-set-other ns (keyId k) i (n + 1) 0 (eqb-false i (keyId k) f))
           (⊎-elim (λ q. inl q) (λ b. inr (omega arith)) (r .counts i h)))
 
-      other-sum : Room (record {
-        fine = t .fine;
-        pairs = t .pairs + 1;
-        postings = t .postings + 1;
-        terms = risen (t .terms) (getD (t .counts) (keyId k) 0);
-        counts = set (t .counts) (keyId k) (getD (t .counts) (keyId k) 0 + 1);
-      }) k
+      other-sum : Room (record { fine = t .fine; pairs = t .pairs + 1; postings = t .postings + 1; terms = risen (t .terms) n }) (set ns (keyId k) (n + 1)) k
       other-sum = record {
-        long = length-set (t .counts) (keyId k) (getD (t .counts) (keyId k) 0 + 1) ∙ long;
+        long = length-set ns (keyId k) (n + 1) ∙ long;
         pairs = omega (arith, r .pairs);
         postings = omega (arith, r .postings);
-        terms = rw (r .terms) (sym (count-set (t .counts) (keyId k) (omega arith)));
+        terms = rw (r .terms) (sym (count-set ns (keyId k) (omega arith)));
         counts = other;
       }

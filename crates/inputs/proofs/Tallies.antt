@@ -16,8 +16,7 @@ use Rattle.postings.specs.declared.Posting.{Posting}
 use Rattle.postings.specs.Merge.{isZero, counts, nonzero}
 use Rattle.postings.specs.Sums.{under}
 use Rattle.partitions.specs.Layout.{identifiersOf, termCount}
-use Rattle.inputs.specs.declared.Totals.{Totals}
-use Rattle.inputs.specs.Judging.{totalsOf, zeros, risen, tallyOf, tallied}
+use Rattle.inputs.specs.Judging.{Tally, totalsOf, countsOf, risen, totalsMore, countsMore, tallyOf, tallied, untold}
 
 -- ---- a posting more at the end
 
@@ -98,8 +97,12 @@ nonzero-more : (l : List Posting) (p : Posting) → nonzero (l ++ (p ∷ [])) �
 unfolding nonzero
 nonzero-more l p = keep-append counts l (p ∷ [])
 
-tally-more : (l : List Posting) (p : Posting) → p .id ≤ 1023 → totalsOf (l ++ (p ∷ [])) ≡ tallyOf (totalsOf l) p
-unfolding totalsOf tallyOf
+-- what is told of all pairs of a list
+abbrev pub toldOf : List Posting → Tally
+toldOf l = record { totals = totalsOf l; counts = countsOf l }
+
+tally-more : (l : List Posting) (p : Posting) → p .id ≤ 1023 → toldOf (l ++ (p ∷ [])) ≡ tallyOf (toldOf l) p
+unfolding totalsOf countsOf totalsMore countsMore
 tally-more l p h =
     let e = length-append l (p ∷ []) in
     by-test (isZero (p .count))
@@ -110,22 +113,22 @@ tally-more l p h =
 
 -- ---- all pairs
 
-tallied-from : (d l : List Posting) → every (λ p. leb (p .id) 1023) l ≡ true → tallied (totalsOf d) l ≡ totalsOf (d ++ l)
+tallied-from : (d l : List Posting) → every (λ p. leb (p .id) 1023) l ≡ true → tallied (toldOf d) l ≡ toldOf (d ++ l)
 unfolding tallied
-tallied-from d [] e = ap totalsOf (sym (append-nil d))
+tallied-from d [] e = ap toldOf (sym (append-nil d))
 tallied-from d (p ∷ l) e =
-    ap (λ (t : Totals). tallied t l) (sym (tally-more d p (leb-true (p .id) 1023 (and-left (leb (p .id) 1023) _ e))))
+    ap (λ (t : Tally). tallied t l) (sym (tally-more d p (leb-true (p .id) 1023 (and-left (leb (p .id) 1023) _ e))))
     ∙ tallied-from (d ++ (p ∷ [])) l (and-right (leb (p .id) 1023) _ e)
-    ∙ ap totalsOf (append-assoc d (p ∷ []) l)
+    ∙ ap toldOf (append-assoc d (p ∷ []) l)
 
 no-numbers : (n k : ℕ) → map {B = ℕ} (λ i. 0) (rising n k) ≡ replicate k 0
 unfolding rising
 no-numbers n zero = refl
 no-numbers n (suc k) = ap (λ (r : List ℕ). 0 ∷ r) (no-numbers (suc n) k)
 
-totals-none : totalsOf [] ≡ zeros true
-unfolding totalsOf nonzero
-totals-none = rw (no-numbers 0 1024)
+told-none : toldOf [] ≡ untold
+unfolding totalsOf countsOf nonzero
+told-none = rw (no-numbers 0 1024)
 
-pub tallied-all : (l : List Posting) → every (λ p. leb (p .id) 1023) l ≡ true → tallied (zeros true) l ≡ totalsOf l
-tallied-all l e = ap (λ (t : Totals). tallied t l) (sym totals-none) ∙ tallied-from [] l e
+pub tallied-all : (l : List Posting) → every (λ p. leb (p .id) 1023) l ≡ true → tallied untold l ≡ toldOf l
+tallied-all l e = ap (λ (t : Tally). tallied t l) (sym told-none) ∙ tallied-from [] l e

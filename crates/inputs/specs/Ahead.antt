@@ -1,35 +1,41 @@
--- The pairs that sources have still to come, and what is taken of them.
-use mathlib.Core.Bool.{Bool, true, false}
-use mathlib.Core.List.{List, [], _∷_, map}
+-- The pairs that heads have still to come, and what is taken of them.
+use mathlib.Core.Bool.{Bool, true}
+use mathlib.Core.List.{List, map}
 use mathlib.Core.Path.{_≡_}
-use Prim.Native.Nat.{ℕ}
+use Prim.Native.Nat.{ℕ, _*_, _≤_}
 use lib.ListN.{length, take, drop}
+use Rattle.lists.specs.All.{AllOf}
 use Rattle.lists.specs.Lists.{every, joined, same as sameOf}
+use Rattle.keyed.specs.Keys.{topFrom}
 use Rattle.postings.specs.declared.Posting.{Posting}
 use Rattle.postings.specs.Merge.{nonzero, pairs}
 use Rattle.partitions.specs.Layout.{wordOf}
 use Rattle.partitions.specs.Formed.{listRule}
-use Rattle.scans.specs.declared.Sources.{Sources}
-use Rattle.scans.specs.Items.{postingLists, Ready}
-use Rattle.inputs.specs.declared.Next.{Next}
+use Rattle.kway.specs.Parts.{parts}
+use Rattle.scans.specs.Heads.{ahead, Kept, views}
 use Rattle.inputs.specs.declared.Batch.{Batch}
 use Rattle.inputs.specs.Judging.{allInRange}
 
--- the pairs of all postings to come, in order, with their sums, 0 among them
-unfoldable pub pairsAhead : List ℕ → Sources → List Posting
-pairsAhead W ss = pairs (joined (postingLists W ss))
+-- n heads, each kept; t is one more than the greatest key at any
+pub record Ready (W : List ℕ) (n : ℕ) (H : List ℕ) (t : ℕ) : Type 0 where
+  pub few : n ≤ 51
+  pub fits : 10 * n ≤ length H
+  pub kept : AllOf (Kept W) (parts 10 n H)
+  pub top : t ≡ topFrom 0 (views W n H)
 
--- sources of inputs that are well formed
-pub record Formed (W : List ℕ) (ss : Sources) : Type 0 where
-  pub ready : Ready W ss
-  pub lists : every listRule (postingLists W ss) ≡ true
-  pub sums : allInRange (pairsAhead W ss) ≡ true
+-- the postings that they have still to come
+abbrev pub postingLists : List ℕ → ℕ → List ℕ → List (List Posting)
+postingLists W n H = map (ahead W) (parts 10 n H)
 
--- what is taken next: the first pair to come, where there is one, and the sources past it
-pub record Follows (W : List ℕ) (ss : Sources) (n : Next) : Type 0 where
-  pub none : n .some ≡ false → pairsAhead W ss ≡ []
-  pub more : n .some ≡ true → pairsAhead W ss ≡ n .pair ∷ pairsAhead W (n .sources)
-  pub formed : Formed W (n .sources)
+-- the pairs of all these, in order, with their sums, 0 among them
+unfoldable pub pairsAhead : List ℕ → ℕ → List ℕ → List Posting
+pairsAhead W n H = pairs (joined (postingLists W n H))
+
+-- heads of inputs that are well formed
+pub record Formed (W : List ℕ) (n : ℕ) (H : List ℕ) (t : ℕ) : Type 0 where
+  pub ready : Ready W n H t
+  pub lists : every listRule (postingLists W n H) ≡ true
+  pub sums : allInRange (pairsAhead W n H) ≡ true
 
 -- the sums that are not 0 of the first n pairs, as the output has them
 abbrev pub outWords : ℕ → List Posting → List ℕ

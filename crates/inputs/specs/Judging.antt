@@ -1,6 +1,7 @@
 -- What is told of a merge's inputs: whether they are well formed, and what their pairs come to.
 use mathlib.Core.Bool.{Bool, true, false, cond, _&&_}
 use mathlib.Core.List.{List, [], _∷_, map}
+use mathlib.Core.Path.{_≡_}
 use Prim.Native.Nat.{ℕ, _+_, _≤_}
 use lib.Dec.{eqb}
 use lib.ListN.{length, getD, set, replicate}
@@ -24,19 +25,17 @@ allInRange ps = every (λ p. inRange (p .count)) ps
 unfoldable pub inputsFormed : List ℕ → List Partition → Bool
 inputsFormed W ps = every (λ p. listRule (postingsOf W p)) ps && allInRange (pairs (inPartitions W ps))
 
--- the totals of pairs: how many, how many with a sum other than 0, and of these how many identifiers, and how many under each
+-- the totals of pairs: how many, how many with a sum other than 0, and of these how many identifiers
 unfoldable pub totalsOf : List Posting → Totals
-totalsOf ps = record {
-  fine = true;
-  pairs = length ps;
-  postings = length (nonzero ps);
-  terms = termCount (nonzero ps);
-  counts = map (λ i. length (under i (nonzero ps))) (upTo 1024);
-}
+totalsOf ps = record { fine = true; pairs = length ps; postings = length (nonzero ps); terms = termCount (nonzero ps) }
+
+-- and how many of them are under each identifier
+unfoldable pub countsOf : List Posting → List ℕ
+countsOf ps = map (λ i. length (under i (nonzero ps))) (upTo 1024)
 
 -- totals of zeros
 abbrev pub zeros : Bool → Totals
-zeros fine = record { fine = fine; pairs = 0; postings = 0; terms = 0; counts = replicate 1024 0 }
+zeros fine = record { fine = fine; pairs = 0; postings = 0; terms = 0 }
 
 -- what is told of inputs; of malformed ones zeros
 unfoldable pub judgedOf : List ℕ → List Partition → Totals
@@ -50,32 +49,51 @@ pub record Small (t : Totals) : Type 0 where
 
 -- ---- pair by pair
 
+-- totals, and how many postings are under each identifier
+pub record Tally : Type 0 where
+  pub totals : Totals
+  pub counts : List ℕ
+
 -- an identifier more, where its first posting comes
 abbrev pub risen : ℕ → ℕ → ℕ
 risen terms n = cond (eqb n 0) (terms + 1) terms
 
--- totals with a pair more
-unfoldable pub tallyOf : Totals → Posting → Totals
-tallyOf t p =
+-- totals with a pair more, of whose identifier there are n postings
+unfoldable pub totalsMore : Totals → ℕ → Posting → Totals
+totalsMore t n p =
     cond (isZero (p .count))
-    (record { fine = t .fine; pairs = t .pairs + 1; postings = t .postings; terms = t .terms; counts = t .counts })
-    (record {
-      fine = t .fine;
-      pairs = t .pairs + 1;
-      postings = t .postings + 1;
-      terms = risen (t .terms) (getD (t .counts) (p .id) 0);
-      counts = set (t .counts) (p .id) (getD (t .counts) (p .id) 0 + 1);
-    })
+    (record { fine = t .fine; pairs = t .pairs + 1; postings = t .postings; terms = t .terms })
+    (record { fine = t .fine; pairs = t .pairs + 1; postings = t .postings + 1; terms = risen (t .terms) n })
+
+-- and the numbers by identifier
+unfoldable pub countsMore : List ℕ → Posting → List ℕ
+countsMore ns p = cond (isZero (p .count)) ns (set ns (p .id) (getD ns (p .id) 0 + 1))
+
+-- both
+abbrev pub tallyOf : Tally → Posting → Tally
+tallyOf t p = record { totals = totalsMore (t .totals) (getD (t .counts) (p .id) 0) p; counts = countsMore (t .counts) p }
 
 -- with all of a list, the first one first
-unfoldable pub tallied : Totals → List Posting → Totals
+unfoldable pub tallied : Tally → List Posting → Tally
 tallied t [] = t
 tallied t (p ∷ ps) = tallied (tallyOf t p) ps
+
+-- nothing is told yet; and nothing can be
+abbrev pub untold : Tally
+untold = record { totals = zeros true; counts = replicate 1024 0 }
+
+abbrev pub broken : Tally
+broken = record { totals = zeros false; counts = [] }
 
 -- the pairs of lists by falling key below m, as postings
 abbrev pub postingsBelow : ℕ → List (List Item) → List Posting
 postingsBelow m ls = map postingOf (keyedPairs m ls)
 
 -- what is told where the lists ls with keys below m are left and t is told of what was taken
-unfoldable pub resumed : ℕ → List (List Item) → Totals → Totals
-resumed m ls t = cond (allFall m ls && allInRange (postingsBelow m ls)) (tallied t (postingsBelow m ls)) (zeros false)
+unfoldable pub resumed : ℕ → List (List Item) → Tally → Tally
+resumed m ls t = cond (allFall m ls && allInRange (postingsBelow m ls)) (tallied t (postingsBelow m ls)) broken
+
+-- totals r and numbers ns are what is told; of malformed lists there are no numbers to tell
+pub record Told (t : Tally) (r : Totals) (ns : List ℕ) : Type 0 where
+  pub totals : r ≡ t .totals
+  pub counts : r .fine ≡ true → ns ≡ t .counts

@@ -1,14 +1,14 @@
-// The reading side of a merge step: the inputs judged in one walk, and their pairs taken in order.
+// The reading side of a merge step: the inputs judged in one walk, and their pairs taken in order. A head for each input stands in a lent array of
+// numbers (`scans`), and is moved in place.
 use card::Cursor;
 use postings::Posting;
-use scans::Sources;
 use state::Partitions;
 ghost use mathlib.Core.Path.{_≡_};
 ghost use mathlib.Core.Bool.{true};
 ghost use mathlib.Core.List.{[], _∷_, _++_};
-ghost use Prim.Native.Nat.{_+_, _≤_, _<_};
+ghost use Prim.Native.Nat.{_+_, _*_, _≤_, _<_};
 ghost use lib.IntN.{natAbs};
-ghost use lib.ListN.{length, getD, take, drop};
+ghost use lib.ListN.{length, getD, take, drop, replicate};
 ghost use Rattle.lists.specs.All.{AllOf};
 ghost use Rattle.words.specs.Words.{words as wordsOf};
 ghost use Rattle.postings.specs.Merge.{isZero, nonzero, pairs as pairsOf};
@@ -17,25 +17,23 @@ ghost use Rattle.card.specs.Cursors.{ahead, Good};
 ghost use Rattle.partitions.specs.Reading.{inPartitions};
 ghost use Rattle.partitions.specs.Terms.{Readable};
 ghost use Rattle.scans.specs.Keys.{postingOf};
-ghost use Rattle.scans.specs.Items.{itemLists, Ready};
-ghost use Rattle.inputs.specs.Judging.{inputsFormed, judgedOf, zeros as zerosOf, Small, risen as risenOf, tallyOf, resumed};
-ghost use Rattle.inputs.specs.Ahead.{pairsAhead, Formed, Follows, outWords, Matched, batched};
+ghost use Rattle.scans.specs.Heads.{views};
+ghost use Rattle.inputs.specs.Judging.{inputsFormed, judgedOf, countsOf, zeros as zerosOf, Small, risen as risenOf, totalsMore, countsMore, untold, resumed, Told};
+ghost use Rattle.inputs.specs.Ahead.{pairsAhead, Ready, Formed, outWords, Matched, batched};
 
-// What is told of a merge's inputs: whether they are well formed, how many pairs they have, how many of these have a sum other than 0, of how many
-// identifiers, and how many under each.
+// What is told of a merge's inputs: whether they are well formed, how many pairs they have, how many of these have a sum other than 0, and of how many
+// identifiers.
 pub struct Totals {
     pub fine: bool,
     pub pairs: u32,
     pub postings: u32,
     pub terms: u16,
-    pub counts: [u16; 1024],
 }
 
-// The pair that is taken next, if there is one, and the sources past it.
+// The pair that is taken next, and one more than the greatest key at any head past it.
 struct Next {
-    pub some: bool,
-    pub sources: Sources,
     pub pair: Posting,
+    pub top: u32,
 }
 
 // Pairs taken: those with a sum other than 0, and how many were taken in all.
@@ -51,10 +49,10 @@ struct Compared {
     pub out: Cursor,
 }
 
-// Whether the output has the words of pairs, and sources and output past them.
+// Whether the output has the words of pairs, one more than the greatest key at any head past them, and the output past them.
 pub struct Passed {
     pub same: bool,
-    pub sources: Sources,
+    pub top: u32,
     pub out: Cursor,
 }
 
@@ -88,7 +86,6 @@ fn zeros(fine: bool) -> Totals
         pairs: 0,
         postings: 0,
         terms: 0,
-        counts: [0; 1024],
     }
 }
 
@@ -100,10 +97,10 @@ fn risen(terms: u16, n: u16) -> u16
     if n == 0 { terms + 1 } else { terms }
 }
 
-// Totals with a pair more.
-fn tally(t: Totals, p: Posting) -> Totals
-    requires { ⌜ Small t × (p .id ≤ 1023) × (getD (t .counts) (p .id) 0 ≤ 65534) ⌝ }
-    ensures { λ r. ⌜ r ≡ tallyOf t p ⌝ }
+// Totals with a pair more, which is counted under its identifier.
+fn tally(t: Totals, counts: &mut [u16], p: Posting) -> Totals
+    requires { ⌜ Small t × (p .id < length (now counts)) × (getD (now counts) (p .id) 0 ≤ 65534) ⌝ }
+    ensures { λ r. ⌜ (r ≡ totalsMore t (getD (now (counts .entry)) (p .id) 0) p) × (now (counts .exit) ≡ countsMore (now (counts .entry)) p) ⌝ }
 {
     let mut next = t;
     next.pairs = t.pairs + 1;
@@ -111,23 +108,22 @@ fn tally(t: Totals, p: Posting) -> Totals
         return next;
     }
     let i = p.id as usize;
-    let n = t.counts[i];
+    let n = counts[i];
     next.postings = t.postings + 1;
     next.terms = risen(t.terms, n);
-    next.counts[i] = n + 1;
+    counts[i] = n + 1;
     next
 }
 
-// The walk over the inputs: key after key, from the greatest at any head down. No source may reach a key that was passed.
-fn walk(card: &[u8], ss: Sources) -> Totals
-    requires { ⌜ Ready (wordsOf (now card)) ss ⌝ }
-    ensures { λ r. ⌜ (r ≡ resumed 67108864 (itemLists (wordsOf (now (card .entry))) ss) (zerosOf true)) × Small r ⌝ }
+// The walk over the inputs: key after key, from the greatest at any head down. No head may reach a key that was passed.
+fn walk(card: &[u8], heads: &mut [u32], n: usize, first: u32, counts: &mut [u16]) -> Totals
+    requires { ⌜ Ready (wordsOf (now card)) n (now heads) first × (now counts ≡ replicate 1024 0) ⌝ }
+    ensures { λ r. ⌜ Told (resumed 67108864 (views (wordsOf (now (card .entry))) n (now (heads .entry))) untold) r (now (counts .exit)) × Small r ⌝ }
 {
-    let mut c = ss;
+    let mut top = first;
     let mut bound: u32 = 67108864;
     let mut t = zeros(true);
     loop {
-        let top = scans::top_key(card, c);
         if top == 0 {
             return t;
         }
@@ -135,65 +131,55 @@ fn walk(card: &[u8], ss: Sources) -> Totals
             return zeros(false);
         }
         let key = top - 1;
-        let k = scans::take_key(card, c, key);
-        let fine = k.fine;
-        if !fine {
+        let k = scans::take(card, heads, n, key);
+        if !k.fine {
             return zeros(false);
         }
         let sum = k.sum;
-        if !walks::in_range(sum) {
+        if !kway::in_range(sum) {
             return zeros(false);
         }
-        t = tally(t, pair_of(key, sum));
-        c = k.sources;
+        t = tally(t, counts, pair_of(key, sum));
         bound = key;
+        top = k.next;
     }
 }
 
-// What is told of a merge's inputs, by one walk over them.
-pub fn judge(card: &[u8], ps: Partitions) -> Totals
-    requires { ⌜ (ps .used ≤ 51) × AllOf (Readable (wordsOf (now card))) (finished ps) ⌝ }
-    ensures { λ r. ⌜ (r ≡ judgedOf (wordsOf (now (card .entry))) (finished ps)) × Small r ⌝ }
+// What is told of a merge's inputs, by one walk over them, and where they are well formed how many postings are under each identifier.
+pub fn judge(card: &[u8], ps: Partitions, heads: &mut [u32], counts: &mut [u16]) -> Totals
+    requires { ⌜ (ps .used ≤ 51) × AllOf (Readable (wordsOf (now card))) (finished ps) × (10 * ps .used ≤ length (now heads)) × (length (now heads) ≤ 65536)
+        × (now counts ≡ replicate 1024 0) ⌝ }
+    ensures { λ r. ⌜ (r ≡ judgedOf (wordsOf (now (card .entry))) (finished ps))
+        × (r .fine ≡ true → now (counts .exit) ≡ countsOf (pairsOf (inPartitions (wordsOf (now (card .entry))) (finished ps))))
+        × Small r ⌝ }
 {
-    let ss = scans::open_sources(card, ps);
-    walk(card, ss)
+    let n = ps.used as usize;
+    let top = scans::open_heads(card, ps, heads);
+    walk(card, heads, n, top, counts)
 }
 
-// The sources of inputs that are well formed.
-pub fn open_inputs(card: &[u8], ps: Partitions) -> Sources
-    requires { ⌜ (ps .used ≤ 51) × AllOf (Readable (wordsOf (now card))) (finished ps) × (inputsFormed (wordsOf (now card)) (finished ps) ≡ true) ⌝ }
-    ensures { λ r. ⌜ Formed (wordsOf (now (card .entry))) r
-        × (pairsAhead (wordsOf (now (card .entry))) r ≡ pairsOf (inPartitions (wordsOf (now (card .entry))) (finished ps))) ⌝ }
+// The heads of inputs that are well formed, and one more than the greatest key at any.
+pub fn open_inputs(card: &[u8], ps: Partitions, heads: &mut [u32]) -> u32
+    requires { ⌜ (ps .used ≤ 51) × AllOf (Readable (wordsOf (now card))) (finished ps) × (10 * ps .used ≤ length (now heads)) × (length (now heads) ≤ 65536)
+        × (inputsFormed (wordsOf (now card)) (finished ps) ≡ true) ⌝ }
+    ensures { λ r. ⌜ Formed (wordsOf (now (card .entry))) (ps .used) (now (heads .exit)) r
+        × (pairsAhead (wordsOf (now (card .entry))) (ps .used) (now (heads .exit)) ≡ pairsOf (inPartitions (wordsOf (now (card .entry))) (finished ps))) ⌝ }
 {
-    scans::open_sources(card, ps)
+    scans::open_heads(card, ps, heads)
 }
 
-// The next pair.
-fn next_pair(card: &[u8], ss: Sources) -> Next
-    requires { ⌜ Formed (wordsOf (now card)) ss ⌝ }
-    ensures { λ r. ⌜ Follows (wordsOf (now (card .entry))) ss r ⌝ }
+// The next pair, where there is one.
+fn next_pair(card: &[u8], heads: &mut [u32], n: usize, top: u32) -> Next
+    requires { ⌜ Formed (wordsOf (now card)) n (now heads) top × (0 < top) ⌝ }
+    ensures { λ r. ⌜ (pairsAhead (wordsOf (now (card .entry))) n (now (heads .entry)) ≡ r .pair ∷ pairsAhead (wordsOf (now (card .entry))) n (now (heads .exit)))
+        × Formed (wordsOf (now (card .entry))) n (now (heads .exit)) (r .top) ⌝ }
 {
-    let top = scans::top_key(card, ss);
-    if top == 0 {
-        let none = Posting {
-            id: 0,
-            window: 0,
-            count: 0,
-        };
-        return Next {
-            some: false,
-            sources: ss,
-            pair: none,
-        };
-    }
     let key = top - 1;
-    let t = scans::take_key(card, ss, key);
-    let next = t.sources;
-    let pair = pair_of(key, t.sum);
+    let moved = scans::take(card, heads, n, key);
+    let pair = pair_of(key, moved.sum);
     Next {
-        some: true,
-        sources: next,
         pair: pair,
+        top: moved.next,
     }
 }
 
@@ -213,18 +199,19 @@ fn kept(b: Batch, p: Posting) -> Batch
 }
 
 // The next sixteen pairs, or all that are left: the sums other than 0, and how many pairs were taken.
-pub fn sixteen(card: &[u8], ss: Sources) -> Batch
-    requires { ⌜ Formed (wordsOf (now card)) ss ⌝ }
-    ensures { λ r. ⌜ (batched r ≡ nonzero (take 16 (pairsAhead (wordsOf (now (card .entry))) ss)))
-        × (r .taken ≡ length (take 16 (pairsAhead (wordsOf (now (card .entry))) ss)))
-        × (r .used ≤ 16) ⌝ }
+pub fn sixteen(card: &[u8], heads: &mut [u32], n: usize, first: u32) -> Batch
+    requires { ⌜ Formed (wordsOf (now card)) n (now heads) first ⌝ }
+    ensures { λ r. ⌜ (batched r ≡ nonzero (take 16 (pairsAhead (wordsOf (now (card .entry))) n (now (heads .entry)))))
+        × (r .taken ≡ length (take 16 (pairsAhead (wordsOf (now (card .entry))) n (now (heads .entry)))))
+        × (r .used ≤ 16)
+        × (pairsAhead (wordsOf (now (card .entry))) n (now (heads .exit)) ≡ drop 16 (pairsAhead (wordsOf (now (card .entry))) n (now (heads .entry)))) ⌝ }
 {
     let none = Posting {
         id: 0,
         window: 0,
         count: 0,
     };
-    let mut c = ss;
+    let mut top = first;
     let mut b = Batch {
         pairs: [none; 16],
         used: 0,
@@ -235,14 +222,13 @@ pub fn sixteen(card: &[u8], ss: Sources) -> Batch
         if i == 16 {
             break 'pairs i;
         }
-        let t = next_pair(card, c);
-        let some = t.some;
-        if !some {
+        if top == 0 {
             break 'pairs i;
         }
+        let t = next_pair(card, heads, n, top);
         let p = t.pair;
         b = kept(b, p);
-        c = t.sources;
+        top = t.top;
         i += 1;
     };
     b.taken = taken;
@@ -269,39 +255,38 @@ fn compare(card: &[u8], out: Cursor, p: Posting) -> Compared
     }
 }
 
-// Whether the output has the words of the next n pairs, or of all that are left, and sources and output past them.
-pub fn pass(card: &[u8], ss: Sources, n: u32, out: Cursor) -> Passed
-    requires { ⌜ Formed (wordsOf (now card)) ss × Good (wordsOf (now card)) out
-        × (length (outWords n (pairsAhead (wordsOf (now card)) ss)) ≤ out .left) ⌝ }
-    ensures { λ r. ⌜ Matched (ahead (wordsOf (now (card .entry))) out) (outWords n (pairsAhead (wordsOf (now (card .entry))) ss)) (r .same) (ahead (wordsOf (now (card .entry))) (r .out))
-        × (pairsAhead (wordsOf (now (card .entry))) (r .sources) ≡ drop n (pairsAhead (wordsOf (now (card .entry))) ss))
-        × Formed (wordsOf (now (card .entry))) (r .sources)
+// Whether the output has the words of the next m pairs, or of all that are left, and heads and output past them.
+pub fn pass(card: &[u8], heads: &mut [u32], n: usize, first: u32, m: u32, out: Cursor) -> Passed
+    requires { ⌜ Formed (wordsOf (now card)) n (now heads) first × Good (wordsOf (now card)) out
+        × (length (outWords m (pairsAhead (wordsOf (now card)) n (now heads))) ≤ out .left) ⌝ }
+    ensures { λ r. ⌜ Matched (ahead (wordsOf (now (card .entry))) out) (outWords m (pairsAhead (wordsOf (now (card .entry))) n (now (heads .entry)))) (r .same) (ahead (wordsOf (now (card .entry))) (r .out))
+        × (pairsAhead (wordsOf (now (card .entry))) n (now (heads .exit)) ≡ drop m (pairsAhead (wordsOf (now (card .entry))) n (now (heads .entry))))
+        × Formed (wordsOf (now (card .entry))) n (now (heads .exit)) (r .top)
         × Good (wordsOf (now (card .entry))) (r .out) ⌝ }
 {
-    let mut c = ss;
+    let mut top = first;
     let mut o = out;
     let mut same = true;
     let mut i: u32 = 0;
-    while i < n {
-        let t = next_pair(card, c);
-        let some = t.some;
-        if !some {
+    while i < m {
+        if top == 0 {
             return Passed {
                 same: same,
-                sources: c,
+                top: top,
                 out: o,
             };
         }
+        let t = next_pair(card, heads, n, top);
         let p = t.pair;
         let d = compare(card, o, p);
-        same = walks::both(same, d.same);
-        c = t.sources;
+        same = kway::both(same, d.same);
+        top = t.top;
         o = d.out;
         i += 1;
     }
     Passed {
         same: same,
-        sources: c,
+        top: top,
         out: o,
     }
 }

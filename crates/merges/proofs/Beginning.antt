@@ -41,7 +41,7 @@ use Rattle.merges.specs.Merging.{inputs, taking, result, outputBlocks, p
 use Rattle.merges.specs.Step.{lastOf, writtenOn}
 use Rattle.merges.specs.Acting.{Drafted, Judged, Acts, lengthFrom}
 use Rattle.merges.proofs.Merged.{part-all}
-use Rattle.merges.proofs.Progress.{front, progress-none, progress-room, result-room}
+use Rattle.merges.proofs.Progress.{front, progress-none, progress-room, result-room, last-taken}
 use Rattle.merges.proofs.Drafting.{rules, chains-apart, part}
 use Rattle.merges.proofs.Refusing.{blocks-told, some-there}
 
@@ -200,9 +200,9 @@ module _ (W : List ℕ) (s : State) (is : Partitions) (t : Totals) (g : Judged W
 
   -- the output stands as after no step
   pub acts-linked : (o : Output) (b : Batch) → o .first ≡ getD bs 0 noBlock → o .blocks ≡ n → o .written ≡ 0 → s .merge .steps ≡ 0
-      → batched b ≡ nonzero (take 16 (taking W s)) → b .used ≤ 16 → Acts W₁ s o b
+      → batched b ≡ nonzero (take 16 (taking W s)) → b .taken ≡ length (take 16 (taking W s)) → b .used ≤ 16 → Acts W₁ s o b
   unfolding nonzero
-  acts-linked o b e m w z x u =
+  acts-linked o b e m w z x k u =
       record {
         blocks = m ∙ many-told ∙ ap (λ (l : List Posting). outputBlocks (result l)) (sym same-pairs);
         none = λ y. e ∙ rw (none-bs (sym m ∙ y));
@@ -212,6 +212,10 @@ module _ (W : List ℕ) (s : State) (is : Partitions) (t : Totals) (g : Judged W
             ∙ ap (λ (k : ℕ). nonzero (take 16 (drop (16 * k) (taking W s)))) (sym z)
             ∙ ap (λ (l : List Posting). nonzero (take 16 (drop (16 * s .merge .steps) l))) (sym same-pairs);
         few = u;
+        last = last-taken (taking W₁ s) (s .merge .steps) (b .taken)
+            (k
+            ∙ ap (λ (k : ℕ). length (take 16 (drop (16 * k) (taking W s)))) (sym z)
+            ∙ ap (λ (l : List Posting). length (take 16 (drop (16 * s .merge .steps) l))) (sym same-pairs));
       }
 
   -- and what is written there is written to the free blocks
@@ -222,11 +226,3 @@ module _ (W : List ℕ) (s : State) (is : Partitions) (t : Totals) (g : Judged W
       (λ y. let z = eqb-true n 0 y in
       rw (none-same z, z, none-bs z))
       (λ y. let h : 0 < n = omega (arith, eqb-false n 0 y) in stored-linked h b j (first-bs h b e))
-
-  -- the blocks are the output's
-  pub chain-linked : (b : ℕ) → b ≡ getD bs 0 noBlock → chain W₁ b n ≡ bs
-  unfolding chain
-  chain-linked b e =
-      by-test (eqb n 0)
-      (λ y. let z = eqb-true n 0 y in rw (z, none-bs z))
-      (λ y. let h : 0 < n = omega (arith, eqb-false n 0 y) in linked h b (first-bs h b e))

@@ -1,21 +1,22 @@
 -- The output on its blocks, from one step to the next.
-use mathlib.Core.Bool.{Bool, true, false, cond, not}
+use mathlib.Core.Bool.{Bool, true, false, cond}
 use mathlib.Core.List.{List, _++_, map}
 use mathlib.Core.Path.{_≡_, refl, sym, ap, _∙_}
 use Prim.Native.Nat.{ℕ, zero, suc, _+_, _-_, _*_, _<_, _≤_}
 use native.Mathlib.Omega.{arith}
 use lib.Dec.{leb, eqb}
-use lib.ListN.{length, getD, take, drop, length-append, length-map, length-take, length-drop}
+use lib.ListN.{length, getD, take, drop, length-append, length-map}
 use lib.Seq.{sets, length-sets}
 use borrow.Author.Tests.{eqb-true, eqb-false}
 use Rattle.lists.specs.All.{AllOf}
-use Rattle.lists.specs.Lists.{every, empty, joined, different}
+use Rattle.lists.specs.Lists.{every, empty, joined, different, upTo}
 use Rattle.lists.proofs.Bools.{by-test, and-left, and-right}
 use Rattle.lists.proofs.Tests.{every-take, every-drop, every-keep}
-use Rattle.lists.proofs.Ranges.{length-joined}
+use Rattle.lists.proofs.Ranges.{length-joined, length-rising}
 use Rattle.postings.specs.declared.Posting.{Posting}
 use Rattle.postings.specs.Order.{ordered}
 use Rattle.postings.specs.Merge.{counts, nonzero, pairs}
+use Rattle.postings.specs.Sums.{under}
 use Rattle.postings.proofs.Merge.{pairs-ordered, nonzero-ordered}
 use Rattle.state.specs.declared.Partition.{Partition}
 use Rattle.state.specs.declared.Partitions.{Partitions}
@@ -36,20 +37,19 @@ use Rattle.partitions.specs.Terms.{Readable}
 use Rattle.partitions.proofs.Kept.{AgreeAll, chains-kept, store-keeps}
 use Rattle.inputs.specs.declared.Totals.{Totals}
 use Rattle.inputs.specs.declared.Batch.{Batch}
-use Rattle.inputs.specs.Judging.{totalsOf}
+use Rattle.inputs.specs.Judging.{totalsOf, countsOf}
 use Rattle.inputs.specs.Ahead.{batched}
 use Rattle.outputs.specs.Contents.{written}
 use Rattle.outputs.specs.Entries.{entriesBy}
 use Rattle.outputs.proofs.Contents.{Blocks, Holds, holds-store, store-past, store-over}
 use Rattle.outputs.proofs.Entries.{entries-by}
 use Rattle.outputs.proofs.Freeing.{Parted, different-parts, every-chains}
-use Rattle.outputs.proofs.Writing.{chained-written}
 use Rattle.merges.specs.declared.Output.{Output}
 use Rattle.merges.specs.Merging.{dueIn, inputs, taking, result, outputBlocks, outputLevel, progress, isLast, outputContent}
 use Rattle.merges.specs.Step.{writtenOn}
-use Rattle.merges.specs.Acting.{Drafted, Judged, Acts}
-use Rattle.merges.proofs.Merged.{Part, oldest-part, part-all, part-every, part-different, all-readable, all-chained, chained-kept, agrees-self, numbered, pairs-numbered}
-use Rattle.merges.proofs.Progress.{progress-more, length-progress, result-room, progress-room, completed}
+use Rattle.merges.specs.Acting.{Drafted, Judged, Acts, Fits, withSums, withFront, outputWritten}
+use Rattle.merges.proofs.Merged.{Part, oldest-part, oldest-few, part-all, part-every, part-different, all-readable, all-chained, chained-kept, agrees-self, numbered, pairs-numbered}
+use Rattle.merges.proofs.Progress.{nonzero-take, progress-more, length-progress, result-room, progress-room, completed}
 
 -- a chain of at least one block begins with its first
 pub chain-first : (W : List ℕ) (b n : ℕ) → 0 < n → getD (chain W b n) 0 0 ≡ b
@@ -92,10 +92,14 @@ module _ (W : List ℕ) (s : State) (is : Partitions) (t : Totals) (g : Judged W
   unfolding taking
   in-order = nonzero-ordered (pairs (inPartitions W (inputs s))) (pairs-ordered (inPartitions W (inputs s)))
 
-  -- the entries by the totals are those of the layout
-  pub entries-told : entriesBy 0 0 (t .counts) ≡ joined (map (entryOf (result ps)) (identifiersOf (result ps)))
-  unfolding totalsOf
-  entries-told = entries-by (result ps) in-order ids-small (t .counts) (ap (λ (u : Totals). u .counts) (g .totals))
+  -- the entries by the numbers of postings are those of the layout
+  entries-told : (ns : List ℕ) → ns ≡ countsOf ps → entriesBy 0 0 ns ≡ joined (map (entryOf (result ps)) (identifiersOf (result ps)))
+  unfolding countsOf
+  entries-told ns e = entries-by (result ps) in-order ids-small ns e
+
+  counts-long : (ns : List ℕ) → ns ≡ countsOf ps → length ns ≡ 1024
+  unfolding countsOf
+  counts-long ns e = ap length e ∙ length-map (upTo 1024) (λ i. length (under i (result ps))) ∙ length-rising 0 1024
 
   pub terms-told : t .terms ≡ termCount (result ps)
   unfolding totalsOf
@@ -117,7 +121,7 @@ module _ (W : List ℕ) (s : State) (is : Partitions) (t : Totals) (g : Judged W
     j = s .merge .steps
 
     -- the sums of the step fit a posting
-    pub batch-range : every (λ p. inRange (p .count)) (batched b) ≡ true
+    batch-range : every (λ p. inRange (p .count)) (batched b) ≡ true
     unfolding nonzero
     batch-range =
         rw (a .batch)
@@ -127,7 +131,7 @@ module _ (W : List ℕ) (s : State) (is : Partitions) (t : Totals) (g : Judged W
       d : Drafted W s ps (o .first) (o .blocks)
       d = a .draft h
 
-      pub chained : Chained W (o .first) (o .blocks)
+      chained : Chained W (o .first) (o .blocks)
       chained = rule-chained W (blocks s) (o .first) (o .blocks) (g .long) (g .few) (d .rule)
 
       long-bs : length bs ≡ o .blocks
@@ -170,61 +174,63 @@ module _ (W : List ℕ) (s : State) (is : Partitions) (t : Totals) (g : Judged W
       more-long = ap length more ∙ length-append (progress ps j) (map wordOf (batched b)) ∙ (omega (arith, length-map (batched b) wordOf))
 
       -- room for the step
-      pub batch-room : 8 + 3 * t .terms + o .written + length (batched b) ≤ 1023 * o .blocks
+      batch-room : 8 + 3 * t .terms + o .written + length (batched b) ≤ 1023 * o .blocks
       batch-room = omega (arith, offset, more-long, room (suc j), long-bs)
 
       -- the step's sums are written
-      pub batch-stored : written W bs (8 + 3 * t .terms + o .written) (map wordOf (batched b)) ≡ store W bs (progress ps (suc j))
+      batch-stored : written W bs (8 + 3 * t .terms + o .written) (map wordOf (batched b)) ≡ store W bs (progress ps (suc j))
       batch-stored =
           ap (λ (k : ℕ). written W bs k (map wordOf (batched b))) offset
           ∙ ap (λ (U : List ℕ). written U bs (length (progress ps j)) (map wordOf (batched b))) stands
           ∙ store-past W bs (blocks s) (g .long) blocks-of (progress ps j) (map wordOf (batched b)) (omega (arith, more-long, room (suc j), length-map (batched b) wordOf))
           ∙ ap (store W bs) (sym more)
 
-      -- header and entries have room
-      pub entries-room : 8 + length (entriesBy 0 0 (t .counts)) ≤ 1023 * o .blocks
-      entries-room =
-          omega (arith, ap length entries-told, length-joined (entryOf (result ps)) 3 (λ x. refl) (identifiersOf (result ps)), result-room ps (o .blocks) (a .blocks) some)
-
       -- they are written, after the last step's sums
       module _ (X : List ℕ) (x : X ≡ store W bs (progress ps (suc j))) where
-        pub links-kept : chain X (o .first) (o .blocks) ≡ bs
+        links-kept : chain X (o .first) (o .blocks) ≡ bs
         links-kept =
             let f = chain-first W (o .first) (o .blocks) h in
             rw x (rw (f, long-bs) at (chain-stored W bs (progress ps (suc j)) (blocks s) (g .long) (blocks-of .on) (blocks-of .new)))
 
-        pub still-chained : Chained X (o .first) (o .blocks)
-        still-chained =
-            let e : X ≡ written W bs (8 + 3 * t .terms + o .written) (map wordOf (batched b)) = x ∙ sym batch-stored in
-            rw e (chained-written bs W (8 + 3 * t .terms + o .written) (map wordOf (batched b)) (o .first) (o .blocks) chained)
-
-        pub whole-stored : (level : ℕ) → isLast ps (suc j) ≡ true
-            → written (written X (chain X (o .first) (o .blocks)) 0 (header level (t .terms) (t .postings))) (chain X (o .first) (o .blocks)) 8 (entriesBy 0 0 (t .counts))
-            ≡ store W bs (encode level (result ps))
-        whole-stored level e =
+        whole-stored : (ns : List ℕ) → ns ≡ countsOf ps → (level : ℕ) → isLast ps (suc j) ≡ true → withFront X level t ns o ≡ store W bs (encode level (result ps))
+        whole-stored ns n level e =
             let r = result ps in
             let c = progress ps (suc j) in
             let hs = header level (termCount r) (length r) in
             let es = joined (map (entryOf r) (identifiersOf r)) in
             let le = length-joined (entryOf r) 3 (λ x. refl) (identifiersOf r) in
             let lp = length-progress ps (suc j) in
-            rw (links-kept, x, terms-told, postings-told, entries-told)
+            rw (links-kept, x, terms-told, postings-told, entries-told ns n)
             (ap (λ (U : List ℕ). written U bs 8 es) (store-over W bs (blocks s) (g .long) blocks-of c 0 hs (room (suc j)) (omega arith))
             ∙ store-over W bs (blocks s) (g .long) blocks-of (sets c 0 hs) 8 es (omega (arith, length-sets c 0 hs, room (suc j))) (omega (arith, length-sets c 0 hs))
             ∙ ap (store W bs) (completed ps level (suc j) e))
 
+      module _ (ns : List ℕ) (n : ns ≡ countsOf ps) where
+        -- all that a step writes has room
+        pub step-fits : Fits W t ns o b
+        step-fits = record {
+          some = h;
+          chained = chained;
+          written = omega (arith, a .written, nonzero-take (16 * j) ps, postings-told, g .small .postings, g .small .pairs);
+          few = a .few;
+          range = batch-range;
+          room = batch-room;
+          small = g .small;
+          long = counts-long ns n;
+          entries = omega (arith, ap length (entries-told ns n), length-joined (entryOf (result ps)) 3 (λ x. refl) (identifiersOf (result ps)), result-room ps (o .blocks) (a .blocks) some);
+        }
+
+        -- and then the output has its content
+        pub step-stored : outputWritten W (isLast ps (suc j)) (outputLevel s) t ns o b ≡ store W bs (outputContent s ps (suc j))
+        unfolding outputContent
+        step-stored =
+            by-test (isLast ps (suc j))
+            (λ y. rw y (whole-stored (withSums W t o b) batch-stored ns n (outputLevel s) y))
+            (λ f. rw f batch-stored)
+
       -- storing to the output leaves the inputs
       pub inputs-kept : (c : List ℕ) → AgreeAll (store W bs c) W (inputs s)
       inputs-kept c = store-keeps W bs c (inputs s) (part-every (inputs s) fin part (λ q. apart (chainOf W q) bs) (every-chains W bs fin (parted .apart)))
-
-      -- so the output has its content
-      pub content-more : isLast ps (suc j) ≡ false → store W bs (progress ps (suc j)) ≡ store W bs (outputContent s ps (suc j))
-      unfolding outputContent
-      content-more e = rw e
-
-      pub content-last : isLast ps (suc j) ≡ true → store W bs (encode (outputLevel s) (result ps)) ≡ store W bs (outputContent s ps (suc j))
-      unfolding outputContent
-      content-last e = rw e
 
     -- an output without blocks has nothing stored
     pub none-stored : (c : List ℕ) → o .blocks ≡ 0 → W ≡ store W bs c
@@ -247,23 +253,15 @@ module _ (W : List ℕ) (s : State) (is : Partitions) (t : Totals) (g : Judged W
     unfolding writtenOn
     step-last e = rw e
 
-    pub last-told : leb (t .pairs) (16 * suc j) ≡ isLast ps (suc j)
-    last-told = rw pairs-told
+    -- which step is the last
+    pub last-told : leb (t .pairs) (16 * j + b .taken) ≡ isLast ps (suc j)
+    last-told = rw pairs-told (a .last)
 
   -- Freeing the inputs -----------------------------------------------------------------------------------------------------
 
-  -- they are not more than there are partitions
-  pub inputs-few : is .used ≤ 51
-  inputs-few =
-      rw (g .are)
-      (omega (
-        arith,
-        ap length (part .same),
-        length-take (part .count) (drop (part .from) fin),
-        length-drop (part .from) fin,
-        length-take (s .partitions .used) (s .partitions .records),
-        g .used,
-      ))
+  -- there are at most eight
+  pub inputs-few : is .used ≤ 8
+  inputs-few = rw (g .are) (oldest-few (dueIn s) fin)
 
   -- on a card that agrees on the inputs their blocks can be freed
   pub inputs-free : (Y : List ℕ) → length Y ≡ length W → AgreeAll Y W (inputs s)

@@ -1,11 +1,11 @@
 -- The inputs of a merge are a part of the list of finished partitions: what holds of all holds of them.
-use mathlib.Core.Bool.{Bool, true}
+use mathlib.Core.Bool.{Bool, true, false, cond}
 use mathlib.Core.List.{List, [], _∷_, _++_, map}
 use mathlib.Core.Path.{_≡_, refl, sym, ap, _∙_}
 use Prim.Native.Nat.{ℕ, zero, suc, _*_, _≤_}
 use native.Mathlib.Omega.{arith}
-use lib.Dec.{leb}
-use lib.ListN.{length, take, drop, take-append-drop}
+use lib.Dec.{eqb, leb}
+use lib.ListN.{length, take, drop, length-take, take-append-drop}
 use Rattle.lists.specs.All.{AllOf}
 use Rattle.lists.specs.Lists.{every, keep, joined, different, upTo}
 use Rattle.lists.proofs.Bools.{and-left, and-right, and-both}
@@ -40,6 +40,15 @@ pub record Part (is ps : List Partition) : Type 0 where
 pub oldest-part : (vs : List ℕ) (ps : List Partition) → Part (oldest levelOf vs ps) ps
 oldest-part [] ps = record { from = 0; count = 0; same = refl }
 oldest-part (v ∷ vs) ps = record { from = placeOf levelOf v ps; count = dueAt v; same = refl }
+
+-- and at most eight
+pub oldest-few : (vs : List ℕ) (ps : List Partition) → length (oldest levelOf vs ps) ≤ 8
+oldest-few [] ps = omega arith
+oldest-few (v ∷ vs) ps = let l = length-take (dueAt v) (drop (placeOf levelOf v ps) ps) in let m = most (eqb v 5) in omega arith
+  where
+    most : (t : Bool) → cond t 3 8 ≤ 8
+    most true = omega arith
+    most false = omega arith
 
 all-take : (P : Partition → Type 0) (k : ℕ) (l : List Partition) → AllOf P l → AllOf P (take k l)
 unfolding AllOf

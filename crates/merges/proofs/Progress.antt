@@ -4,10 +4,12 @@ use mathlib.Core.List.{List, [], _∷_, _++_, map, append-nil, append-assoc}
 use mathlib.Core.Path.{_≡_, refl, sym, ap, _∙_}
 use Prim.Native.Nat.{ℕ, suc, _+_, _-_, _*_, _≤_}
 use native.Mathlib.Omega.{arith}
-use lib.ListN.{length, take, drop, replicate, length-append, length-map, length-replicate, take-append-drop}
+use lib.Dec.{leb}
+use lib.ListN.{length, take, drop, replicate, length-take, length-drop, length-append, length-map, length-replicate, take-append-drop}
 use lib.Seq.{sets, sets-eq, take-all, take-add, drop-at}
-use borrow.Author.Tests.{leb-true}
+use borrow.Author.Tests.{leb-true, leb-false, le-leb, lt-leb}
 use Rattle.lists.specs.Lists.{joined, empty}
+use Rattle.lists.proofs.Bools.{by-test}
 use Rattle.lists.proofs.Tests.{keep-append}
 use Rattle.lists.proofs.Ranges.{length-joined}
 use Rattle.lists.proofs.Stores.{sets-append}
@@ -96,3 +98,12 @@ module _ (ps : List Posting) where
       ∙ sets-eq (hs ++ es) c 0 (omega arith)
       ∙ ap (λ (l : List ℕ). (hs ++ es) ++ l) (rw lh (drop-at (replicate front allOnes) (map wordOf r) front lr))
       ∙ append-assoc hs es (map wordOf r))
+
+-- the step that takes the next sixteen pairs, or all that are left, is the last exactly where none is left after it
+pub last-taken : (ps : List Posting) (j k : ℕ) → k ≡ length (take 16 (drop (16 * j) ps)) → leb (length ps) (16 * j + k) ≡ isLast ps (suc j)
+last-taken ps j k e =
+    let a = length-take 16 (drop (16 * j) ps) in
+    let b = length-drop (16 * j) ps in
+    by-test (isLast ps (suc j))
+    (λ y. let h = leb-true (length ps) (16 * suc j) y in le-leb (length ps) (16 * j + k) (omega arith) ∙ sym y)
+    (λ n. let h = leb-false (length ps) (16 * suc j) n in lt-leb (length ps) (16 * j + k) (omega arith) ∙ sym n)

@@ -29,7 +29,7 @@ use Rattle.merges.specs.Merging.{inputs, taking, result, outputLength, o
 use Rattle.merges.specs.Step.{outputRule}
 use Rattle.merges.specs.Acting.{Judged, Acts, lengthFrom}
 use Rattle.merges.proofs.Choosing.{finished-of}
-use Rattle.merges.proofs.Progress.{nonzero-append, nonzero-take, result-room}
+use Rattle.merges.proofs.Progress.{nonzero-append, nonzero-take, result-room, last-taken}
 use Rattle.merges.proofs.Drafting.{terms-told, postings-told, pairs-told}
 
 -- Lists ------------------------------------------------------------------------------------------------------------------
@@ -123,8 +123,8 @@ module _ (W : List ℕ) (s : State) (is : Partitions) (t : Totals) (g : Judged W
 
   module _ (o : Output) (b : Batch) (first : o .first ≡ s .merge .first) (many : o .blocks ≡ n) where
     -- an empty result
-    pub acts-none : n ≡ 0 → s .merge .first ≡ noBlock → o .written ≡ 0 → b .used ≡ 0 → Acts W s o b
-    acts-none z e w u =
+    pub acts-none : n ≡ 0 → s .merge .first ≡ noBlock → o .written ≡ 0 → b .used ≡ 0 → b .taken ≡ 16 → Acts W s o b
+    acts-none z e w u k =
         let nothing : length (nonzero ps) ≡ 0 = eqb-true (length (nonzero ps)) 0 (sym (empty-length (nonzero ps)) ∙ none-empty z) in
         let after : nonzero (take 16 (drop (16 * j) ps)) ≡ [] =
         none-length (nonzero (take 16 (drop (16 * j) ps)))
@@ -136,14 +136,15 @@ module _ (W : List ℕ) (s : State) (is : Partitions) (t : Totals) (g : Judged W
           written = w ∙ sym (let q : length (nonzero (take (16 * j) ps)) ≡ 0 = omega (arith, nonzero-take (16 * j) ps) in q);
           batch = ap (λ (k : ℕ). take k (b .pairs)) u ∙ sym after;
           few = omega arith;
+          last = let q : 16 * j + b .taken ≡ 16 * suc j = omega arith in rw q;
         }
 
     -- one with blocks that hold it
     pub acts-held : (n ≡ 0 → ⊥) → chainRule W (blocks s) (s .merge .first) n ≡ true → standsApart W (s .merge .first) n (finished (s .partitions)) ≡ true
         → holdsDraft W (s .merge .first) n (8 + 3 * t .terms) (16 * j) ps ≡ true
-        → o .written ≡ length (nonzero (take (16 * j) ps)) → batched b ≡ nonzero (take 16 (drop (16 * j) ps)) → b .used ≤ 16 → Acts W s o b
+        → o .written ≡ length (nonzero (take (16 * j) ps)) → batched b ≡ nonzero (take 16 (drop (16 * j) ps)) → b .taken ≡ length (take 16 (drop (16 * j) ps)) → b .used ≤ 16 → Acts W s o b
     unfolding progress
-    acts-held some e f h w x u =
+    acts-held some e f h w x k u =
         record {
           blocks = many ∙ blocks-told;
           none = λ z. absurd (some (sym many ∙ z));
@@ -155,4 +156,5 @@ module _ (W : List ℕ) (s : State) (is : Partitions) (t : Totals) (g : Judged W
           written = w;
           batch = x;
           few = u;
+          last = last-taken ps j (b .taken) k;
         }

@@ -5,7 +5,7 @@ use mathlib.Core.Path.{_≡_, refl, sym, ap, _∙_}
 use Prim.Native.Nat.{ℕ, zero, suc, _-_, _*_, _%_, _<_, _≤_}
 use native.Mathlib.Omega.{arith}
 use lib.Dec.{eqb, leb, ltb}
-use lib.ListN.{length, getD, take, drop, length-take, length-drop}
+use lib.ListN.{length, getD, take}
 use borrow.Author.Tests.{eq-eqb, ne-eqb, leb-true, leb-false, lt-ltb, le-ltb, not-true}
 use Rattle.lists.specs.All.{AllOf}
 use Rattle.lists.specs.Lists.{every, empty}
@@ -37,11 +37,11 @@ use Rattle.inputs.proofs.Judged.{judged-totals}
 use Rattle.windows.specs.Promises.{Gives, storeOf}
 use Rattle.windows.proofs.Outcomes.{stopped, passed, given}
 use Rattle.merges.specs.declared.Output.{Output}
-use Rattle.merges.specs.Merging.{dueIn, inputs, taking, result, outputBlocks}
+use Rattle.merges.specs.Merging.{dueIn, inputs, taking, result, outputBlocks, isLast}
 use Rattle.merges.specs.Step.{inProgress, outputRule, stepFormed, outputOn, lastOf, steppedOn, writtenOn, stepping}
 use Rattle.merges.specs.Acting.{Judged, Acts, lengthFrom, nextState}
 use Rattle.merges.proofs.Choosing.{levelOf, finished-of, due-some}
-use Rattle.merges.proofs.Merged.{oldest-part, part-all, all-readable}
+use Rattle.merges.proofs.Merged.{oldest-part, oldest-few, part-all, all-readable}
 use Rattle.merges.proofs.Drafting.{terms-told, postings-told, pairs-told}
 use Rattle.merges.proofs.Refusing.{empty-told, blocks-told}
 
@@ -75,22 +75,14 @@ module _ (s : State) (card : List ℕ) (rule : stateRule s ≡ true) (same : len
 
   -- the inputs can be read before they are judged
   pub inputs-read : partitionsFormed (words card) (blocks s) (finished (s .partitions)) ≡ true → (is : Partitions) → is ≡ partitionsOf (inputs s)
-      → (is .used ≤ 51) × AllOf (Readable (words card)) (finished is)
+      → (is .used ≤ 8) × AllOf (Readable (words card)) (finished is)
   unfolding partitionsFormed
   inputs-read p is x =
       let k = state-kept s rule in
       let fin = finished (s .partitions) in
       let part = oldest-part (dueIn s) fin in
       let f : finished is ≡ inputs s = ap finished x ∙ finished-of (inputs s) in (
-        rw x
-            (omega (
-              arith,
-              ap length (part .same),
-              length-take (part .count) (drop (part .from) fin),
-              length-drop (part .from) fin,
-              length-take (s .partitions .used) (s .partitions .records),
-              k .partitions .used,
-            )),
+        rw x (oldest-few (dueIn s) fin),
         rw f
             (part-all (inputs s) fin part (Readable (words card))
             (all-readable (words card) (blocks s) card-long (k .lengths .mostBlocks) fin (and-left (every (partitionRule (words card) (blocks s)) fin) _ p))),
@@ -150,10 +142,10 @@ module _ (W : List ℕ) (s : State) (is : Partitions) (t : Totals) (g : Judged W
 
   -- the state, as the definition has it
   pub state-told : (o : Output) (bs : List ℕ) → o .first ≡ getD bs 0 noBlock → o .taken ≡ cond (inProgress s) (s .taken) (lastOf (s .taken) bs)
-      → nextState s t o ≡ steppedOn s ps (suc j) bs
+      → nextState s (isLast ps (suc j)) t o ≡ steppedOn s ps (suc j) bs
   unfolding nextState steppedOn lengthOf
   state-told o bs e f =
-      rw (empty-told W s is t g, e, f, pairs-told W s is t g)
+      rw (empty-told W s is t g, e, f)
       (by-test (empty (result ps))
       (λ y. rw y)
       (λ y. rw (y, terms-told W s is t g, postings-told W s is t g)))

@@ -1,10 +1,10 @@
 -- A step that is not refused: what is known before it writes, and the state that it leaves.
-use mathlib.Core.Bool.{true, cond}
-use mathlib.Core.List.{List, [], _∷_, _++_}
+use mathlib.Core.Bool.{Bool, true, cond}
+use mathlib.Core.List.{List, [], _∷_, _++_, map}
 use mathlib.Core.Path.{_≡_}
 use Prim.Native.Nat.{ℕ, suc, _+_, _*_, _<_, _≤_}
 use lib.Dec.{eqb, leb}
-use lib.ListN.{length, take, drop}
+use lib.ListN.{length, getD, take, drop}
 use Rattle.lists.specs.Lists.{different}
 use Rattle.words.specs.Words.{allOnes}
 use Rattle.postings.specs.declared.Posting.{Posting}
@@ -13,17 +13,20 @@ use Rattle.state.specs.declared.Partition.{Partition}
 use Rattle.state.specs.declared.Partitions.{Partitions}
 use Rattle.state.specs.declared.State.{State}
 use Rattle.state.specs.Views.{padded, noMerge, blocks, finished, partitionsOf, withPartitions, withTaken, withMerge}
-use Rattle.state.specs.Levels.{replaced}
+use Rattle.state.specs.Levels.{nextLevel, dueLevels, replaced}
 use Rattle.card.specs.Blocks.{noBlock}
 use Rattle.card.specs.Chains.{chain, chainRule, content}
-use Rattle.partitions.specs.Layout.{totalLength}
+use Rattle.card.specs.Cursors.{Chained}
+use Rattle.partitions.specs.Layout.{totalLength, header, wordOf}
 use Rattle.partitions.specs.Formed.{partitionsFormed, chainsOf}
 use Rattle.inputs.specs.declared.Totals.{Totals}
 use Rattle.inputs.specs.declared.Batch.{Batch}
 use Rattle.inputs.specs.Judging.{totalsOf, Small, allInRange}
 use Rattle.inputs.specs.Ahead.{batched}
+use Rattle.outputs.specs.Contents.{written}
+use Rattle.outputs.specs.Entries.{entriesBy}
 use Rattle.merges.specs.declared.Output.{Output}
-use Rattle.merges.specs.Merging.{dueIn, inputs, taking, result, outputBlocks, outputLevel, progress}
+use Rattle.merges.specs.Merging.{dueIn, inputs, taking, result, outputBlocks, progress, isLast}
 
 -- the output stands on n blocks from b on: they are a chain, in no finished partition, and hold what the steps done have written
 pub record Drafted (W : List ℕ) (s : State) (ps : List Posting) (b n : ℕ) : Type 0 where
@@ -51,20 +54,48 @@ pub record Acts (W : List ℕ) (s : State) (o : Output) (b : Batch) : Type 0 whe
   pub written : o .written ≡ length (nonzero (take (16 * s .merge .steps) (taking W s)))
   pub batch : batched b ≡ nonzero (take 16 (drop (16 * s .merge .steps) (taking W s)))
   pub few : b .used ≤ 16
+  pub last : leb (length (taking W s)) (16 * s .merge .steps + b .taken) ≡ isLast (taking W s) (suc (s .merge .steps))
+
+-- there is room on the output's blocks for a step's sums, and for header and entries, where ns says how many postings each identifier has
+pub record Fits (W : List ℕ) (t : Totals) (ns : List ℕ) (o : Output) (b : Batch) : Type 0 where
+  pub some : 0 < o .blocks
+  pub chained : Chained W (o .first) (o .blocks)
+  pub written : o .written ≤ 67108864
+  pub few : b .used ≤ 16
+  pub range : allInRange (batched b) ≡ true
+  pub room : 8 + 3 * t .terms + o .written + length (batched b) ≤ 1023 * o .blocks
+  pub small : Small t
+  pub long : length ns ≡ 1024
+  pub entries : 8 + length (entriesBy 0 0 ns) ≤ 1023 * o .blocks
+
+-- the sums of a step, after those that were written before
+abbrev pub withSums : List ℕ → Totals → Output → Batch → List ℕ
+withSums W t o b = written W (chain W (o .first) (o .blocks)) (8 + 3 * t .terms + o .written) (map wordOf (batched b))
+
+-- header and entries, before the postings
+abbrev pub withFront : List ℕ → ℕ → Totals → List ℕ → Output → List ℕ
+withFront W level t ns o =
+    written (written W (chain W (o .first) (o .blocks)) 0 (header level (t .terms) (t .postings))) (chain W (o .first) (o .blocks)) 8 (entriesBy 0 0 ns)
+
+-- the output's words that a step writes: with header and entries after the last
+abbrev pub outputWritten : List ℕ → Bool → ℕ → Totals → List ℕ → Output → Batch → List ℕ
+outputWritten W last level t ns o b = cond last (withFront (withSums W t o b) level t ns o) (withSums W t o b)
 
 -- the length of the output, by the totals
 abbrev pub lengthFrom : Totals → ℕ
 lengthFrom t = cond (eqb (t .postings) 0) 0 (totalLength (t .terms) (t .postings))
 
--- the result as a partition, by the totals
-abbrev pub recordFrom : State → Totals → Output → List Partition
-recordFrom s t o = cond (eqb (t .postings) 0) [] (record { first = o .first; level = outputLevel s; length = lengthFrom t } ∷ [])
+-- the result as a partition, by the totals, where fin are the finished partitions
+abbrev pub recordFrom : List Partition → Totals → Output → List Partition
+recordFrom fin t o =
+    cond (eqb (t .postings) 0) []
+    (record { first = o .first; level = nextLevel (getD (dueLevels (λ (p : Partition). p .level) fin) 0 0); length = lengthFrom t } ∷ [])
 
 -- the state after the step, by the totals
-unfoldable pub nextState : State → Totals → Output → State
-nextState s t o =
+unfoldable pub nextState : State → Bool → Totals → Output → State
+nextState s last t o =
     withTaken
-    (cond (leb (t .pairs) (16 * suc (s .merge .steps)))
-    (withMerge (withPartitions s (partitionsOf (replaced (λ (p : Partition). p .level) (dueIn s) (finished (s .partitions)) (recordFrom s t o)))) noMerge)
+    (cond last
+    (withMerge (withPartitions s (partitionsOf (replaced (λ (p : Partition). p .level) (dueIn s) (finished (s .partitions)) (recordFrom (finished (s .partitions)) t o)))) noMerge)
     (withMerge s (record { first = o .first; length = lengthFrom t; steps = suc (s .merge .steps) })))
     (o .taken)

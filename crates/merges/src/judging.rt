@@ -15,9 +15,9 @@ ghost use Rattle.merges.specs.Merging.{inputs, taking};
 ghost use Rattle.merges.specs.Step.{outputRule};
 ghost use Rattle.merges.specs.Acting.{Judged, Acts, lengthFrom};
 
-// Nothing written, and nothing that comes next.
+// Nothing written, and sixteen pairs that come next and have no sum to write, or all that are left.
 fn no_draft(ok: bool) -> Draft
-    ensures { λ r. ⌜ (r .ok ≡ ok) × (r .written ≡ 0) × (r .batch .used ≡ 0) ⌝ }
+    ensures { λ r. ⌜ (r .ok ≡ ok) × (r .written ≡ 0) × (r .batch .used ≡ 0) × (r .batch .taken ≡ 16) ⌝ }
 {
     let none = Posting {
         id: 0,
@@ -27,7 +27,7 @@ fn no_draft(ok: bool) -> Draft
     let b = Batch {
         pairs: [none; 16],
         used: 0,
-        taken: 0,
+        taken: 16,
     };
     Draft {
         ok: ok,

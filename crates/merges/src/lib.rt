@@ -18,9 +18,9 @@ ghost use Rattle.state.specs.Views.{blocks as blocksOf};
 ghost use Rattle.card.specs.Blocks.{noBlock, freeBlocks};
 ghost use Rattle.card.specs.Chains.{chain};
 ghost use Rattle.card.specs.Writes.{store};
-ghost use Rattle.inputs.specs.Judging.{inputsFormed};
+ghost use Rattle.inputs.specs.Judging.{inputsFormed, countsOf};
 ghost use Rattle.windows.specs.Promises.{Gives, storeOf};
-ghost use Rattle.merges.specs.Merging.{inputs as inputsOf, taking};
+ghost use Rattle.merges.specs.Merging.{inputs as inputsOf, taking, isLast};
 ghost use Rattle.merges.specs.Step.{outputRule, lastOf, writtenOn, stepping, stepOf};
 ghost use Rattle.merges.specs.Acting.{Judged, Acts, nextState};
 
@@ -73,15 +73,31 @@ fn take_blocks(card: &mut [u8], blocks: u32, taken: u16, n: u32) -> Output
     }
 }
 
-// Writes the step, and tells the state after it.
-fn finish(s: State, card: &mut [u8], is: Partitions, t: Totals, o: Output, b: Batch) -> Replied
-    requires { ⌜ (length (now card) % 4 ≡ 0) × Judged (wordsOf (now card)) s is t × Acts (wordsOf (now card)) s o b × (s .merge .steps < 4294967295) ⌝ }
-    ensures { λ r. ⌜ (r ≡ record { reply = Reply.Done; state = nextState s t o })
+// Writes the step, and tells the state after it: the output's words, and the inputs' blocks freed after the last.
+fn finish(
+    s: State,
+    card: &mut [u8],
+    is: Partitions,
+    t: Totals,
+    counts: &[u16],
+    o: Output,
+    b: Batch,
+) -> Replied
+    requires { ⌜ (length (now card) % 4 ≡ 0) × Judged (wordsOf (now card)) s is t × (now counts ≡ countsOf (taking (wordsOf (now card)) s)) × Acts (wordsOf (now card)) s o b
+        × (s .merge .steps < 4294967295) ⌝ }
+    ensures { λ r. ⌜ (r ≡ record { reply = Reply.Done; state = nextState s (isLast (taking (wordsOf (now (card .entry))) s) (suc (s .merge .steps))) t o })
         × (now (card .exit) ≡ bytes (writtenOn (wordsOf (now (card .entry))) s (taking (wordsOf (now (card .entry))) s) (suc (s .merge .steps))
         (chain (wordsOf (now (card .entry))) (o .first) (o .blocks)))) ⌝ }
 {
-    writing::write_step(s, card, is, t, o, b);
-    let next = writing::next_state(s, t, o);
+    let last = writing::is_last(t, s.merge.steps, b.taken);
+    if 0 < o.blocks {
+        let level = listing::output_level(s.partitions);
+        writing::put_output(card, o, b, last, level, t, counts);
+    }
+    if last {
+        outputs::release_inputs(card, is);
+    }
+    let next = writing::next_state(s, last, t, o);
     Replied {
         reply: Reply::Done,
         state: next,
@@ -89,9 +105,9 @@ fn finish(s: State, card: &mut [u8], is: Partitions, t: Totals, o: Output, b: Ba
 }
 
 // A step with no merge in progress begins one.
-fn begin(s: State, card: &mut [u8], is: Partitions, t: Totals) -> Replied
+fn begin(s: State, card: &mut [u8], is: Partitions, t: Totals, counts: &[u16]) -> Replied
     requires { ⌜ (length (now card) % 4 ≡ 0) × Judged (wordsOf (now card)) s is t × (inputsFormed (wordsOf (now card)) (inputsOf s) ≡ true)
-        × (s .taken < blocksOf s) × (s .merge .steps ≡ 0) ⌝ }
+        × (s .taken < blocksOf s) × (s .merge .steps ≡ 0) × (now counts ≡ countsOf (taking (wordsOf (now card)) s)) ⌝ }
     ensures { λ r. ⌜ Gives (storeOf s (now (card .entry))) (stepping s (wordsOf (now (card .entry))) (taking (wordsOf (now (card .entry))) s))
         (replied (r .reply)) (storeOf (r .state) (now (card .exit))) ⌝ }
 {
@@ -105,12 +121,13 @@ fn begin(s: State, card: &mut [u8], is: Partitions, t: Totals) -> Replied
     }
     let b = drafts::first_batch(card, is);
     let o = take_blocks(card, blocks, s.taken, n);
-    finish(s, card, is, t, o, b)
+    finish(s, card, is, t, counts, o, b)
 }
 
 // A step of the merge in progress.
-fn go_on(s: State, card: &mut [u8], is: Partitions, t: Totals) -> Replied
-    requires { ⌜ (length (now card) % 4 ≡ 0) × Judged (wordsOf (now card)) s is t × (inputsFormed (wordsOf (now card)) (inputsOf s) ≡ true) × (1 ≤ s .merge .steps) ⌝ }
+fn go_on(s: State, card: &mut [u8], is: Partitions, t: Totals, counts: &[u16]) -> Replied
+    requires { ⌜ (length (now card) % 4 ≡ 0) × Judged (wordsOf (now card)) s is t × (inputsFormed (wordsOf (now card)) (inputsOf s) ≡ true) × (1 ≤ s .merge .steps)
+        × (now counts ≡ countsOf (taking (wordsOf (now card)) s)) ⌝ }
     ensures { λ r. ⌜ Gives (storeOf s (now (card .entry)))
         (refuseIf (not (outputRule (wordsOf (now (card .entry))) s (taking (wordsOf (now (card .entry))) s))) 3
         (stepping s (wordsOf (now (card .entry))) (taking (wordsOf (now (card .entry))) s)))
@@ -127,7 +144,7 @@ fn go_on(s: State, card: &mut [u8], is: Partitions, t: Totals) -> Replied
         taken: s.taken,
     };
     let b = d.batch;
-    finish(s, card, is, t, o, b)
+    finish(s, card, is, t, counts, o, b)
 }
 
 // One step of the merge in progress, or of one that begins.
@@ -144,12 +161,14 @@ pub fn step(s: State, card: &mut [u8]) -> Replied
         return refuse(s, Refusal::Malformed);
     }
     let is = listing::inputs_of(s.partitions);
-    let t = inputs::judge(card, is);
+    let mut heads: [u32; 80] = [0; 80];
+    let mut counts: [u16; 1024] = [0; 1024];
+    let t = inputs::judge(card, is, &mut heads, &mut counts);
     if !t.fine {
         return refuse(s, Refusal::Malformed);
     }
     if s.merge.steps == 0 {
-        return begin(s, card, is, t);
+        return begin(s, card, is, t, &counts);
     }
-    go_on(s, card, is, t)
+    go_on(s, card, is, t, &counts)
 }

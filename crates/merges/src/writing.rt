@@ -10,25 +10,22 @@ use state::State;
 ghost use mathlib.Core.Bool.{true};
 ghost use mathlib.Core.List.{map};
 ghost use mathlib.Core.Path.{_≡_};
-ghost use Prim.Native.Nat.{suc, _+_, _*_, _%_, _≤_, _<_};
+ghost use Prim.Native.Nat.{_+_, _*_, _%_, _≤_, _<_};
 ghost use lib.Dec.{leb};
 ghost use lib.ListN.{length};
 ghost use Rattle.lists.specs.Lists.{every};
-ghost use Rattle.words.specs.Words.{words as wordsOf, bytes};
+ghost use Rattle.words.specs.Words.{words as wordsOf};
 ghost use Rattle.state.specs.Views.{finished, partitionsOf};
-ghost use Rattle.state.specs.Levels.{replaced};
+ghost use Rattle.state.specs.Levels.{dueLevels, replaced};
 ghost use Rattle.card.specs.Chains.{chain};
 ghost use Rattle.card.specs.Cursors.{Chained};
-ghost use Rattle.card.specs.Writes.{store};
-ghost use Rattle.partitions.specs.Layout.{header, wordOf};
+ghost use Rattle.partitions.specs.Layout.{wordOf};
 ghost use Rattle.partitions.specs.Formed.{inRange};
 ghost use Rattle.inputs.specs.Judging.{Small};
 ghost use Rattle.inputs.specs.Ahead.{batched};
 ghost use Rattle.outputs.specs.Contents.{written};
 ghost use Rattle.outputs.specs.Entries.{entriesBy};
-ghost use Rattle.merges.specs.Merging.{dueIn, taking, outputContent};
-ghost use Rattle.merges.specs.Step.{writtenOn};
-ghost use Rattle.merges.specs.Acting.{Judged, Acts, lengthFrom, recordFrom, nextState};
+ghost use Rattle.merges.specs.Acting.{Fits, withFront, outputWritten, lengthFrom, recordFrom, nextState};
 
 // The length of the output.
 pub fn output_length(t: Totals) -> u32
@@ -41,11 +38,11 @@ pub fn output_length(t: Totals) -> u32
     32 + 12 * t.terms as u32 + 4 * t.postings
 }
 
-// Whether no pair is left after one more step.
-fn is_last(t: Totals, steps: u32) -> bool
-    ensures { λ r. ⌜ r ≡ leb (t .pairs) (16 * suc steps) ⌝ }
+// Whether no pair is left after a step that takes so many.
+pub fn is_last(t: Totals, steps: u32, taken: u16) -> bool
+    ensures { λ r. ⌜ r ≡ leb (t .pairs) (16 * steps + taken) ⌝ }
 {
-    t.pairs as u64 <= 16 * (steps as u64 + 1)
+    t.pairs as u64 <= 16 * steps as u64 + taken as u64
 }
 
 // The sums of a step, after those that were written before.
@@ -60,69 +57,57 @@ fn add_batch(card: &mut [u8], o: Output, terms: u16, b: Batch)
 }
 
 // Header and entries, before the postings.
-fn complete(card: &mut [u8], o: Output, level: u16, t: Totals)
-    requires { ⌜ (length (now card) % 4 ≡ 0) × (0 < o .blocks) × Small t × (8 + length (entriesBy 0 0 (t .counts)) ≤ 1023 * o .blocks)
-        × Chained (wordsOf (now card)) (o .first) (o .blocks) ⌝ }
-    ensures { λ r. ⌜ wordsOf (now (card .exit)) ≡
-        written (written (wordsOf (now (card .entry))) (chain (wordsOf (now (card .entry))) (o .first) (o .blocks)) 0 (header level (t .terms) (t .postings)))
-        (chain (wordsOf (now (card .entry))) (o .first) (o .blocks)) 8 (entriesBy 0 0 (t .counts)) ⌝ }
+fn complete(card: &mut [u8], o: Output, level: u16, t: Totals, counts: &[u16])
+    requires { ⌜ (length (now card) % 4 ≡ 0) × (0 < o .blocks) × Small t × (8 + length (entriesBy 0 0 (now counts)) ≤ 1023 * o .blocks)
+        × Chained (wordsOf (now card)) (o .first) (o .blocks) × (length (now counts) ≡ 1024) ⌝ }
+    ensures { λ r. ⌜ wordsOf (now (card .exit)) ≡ withFront (wordsOf (now (card .entry))) level t (now (counts .entry)) o ⌝ }
 {
     outputs::write_header(card, o.first, o.blocks, level, t.terms, t.postings);
-    let counts = t.counts;
     outputs::write_entries(card, o.first, o.blocks, counts);
 }
 
-// The content of an output that has blocks, after the step: with header and entries after the last.
-fn put_output(s: State, card: &mut [u8], is: Partitions, t: Totals, o: Output, b: Batch)
-    requires { ⌜ (length (now card) % 4 ≡ 0) × (0 < o .blocks) × Judged (wordsOf (now card)) s is t × Acts (wordsOf (now card)) s o b ⌝ }
-    ensures { λ r. ⌜ wordsOf (now (card .exit)) ≡ store (wordsOf (now (card .entry))) (chain (wordsOf (now (card .entry))) (o .first) (o .blocks))
-        (outputContent s (taking (wordsOf (now (card .entry))) s) (suc (s .merge .steps))) ⌝ }
+// The words of an output that has blocks: with header and entries after the last step.
+pub fn put_output(
+    card: &mut [u8],
+    o: Output,
+    b: Batch,
+    last: bool,
+    level: u16,
+    t: Totals,
+    counts: &[u16],
+)
+    requires { ⌜ (length (now card) % 4 ≡ 0) × Fits (wordsOf (now card)) t (now counts) o b ⌝ }
+    ensures { λ r. ⌜ wordsOf (now (card .exit)) ≡ outputWritten (wordsOf (now (card .entry))) last level t (now (counts .entry)) o b ⌝ }
 {
     add_batch(card, o, t.terms, b);
-    if !is_last(t, s.merge.steps) {
-        return;
-    }
-    let level = listing::output_level(s.partitions);
-    complete(card, o, level, t);
-}
-
-// The output after the step, and the inputs' blocks freed after the last.
-pub fn write_step(s: State, card: &mut [u8], is: Partitions, t: Totals, o: Output, b: Batch)
-    requires { ⌜ (length (now card) % 4 ≡ 0) × Judged (wordsOf (now card)) s is t × Acts (wordsOf (now card)) s o b ⌝ }
-    ensures { λ r. ⌜ now (card .exit) ≡ bytes (writtenOn (wordsOf (now (card .entry))) s (taking (wordsOf (now (card .entry))) s) (suc (s .merge .steps))
-        (chain (wordsOf (now (card .entry))) (o .first) (o .blocks))) ⌝ }
-{
-    if 0 < o.blocks {
-        put_output(s, card, is, t, o, b);
-    }
-    if is_last(t, s.merge.steps) {
-        outputs::release_inputs(card, is);
+    if last {
+        complete(card, o, level, t, counts);
     }
 }
 
 // The finished partitions after the last step.
-fn next_list(s: State, t: Totals, o: Output) -> Partitions
-    requires { ⌜ (s .partitions .used ≤ 51) × (length (s .partitions .records) ≡ 51 → s .partitions ≡ partitionsOf (finished (s .partitions))) × Small t ⌝ }
-    ensures { λ r. ⌜ r ≡ partitionsOf (replaced (λ (p : Partition). p .level) (dueIn s) (finished (s .partitions)) (recordFrom s t o)) ⌝ }
+fn next_list(ps: Partitions, t: Totals, o: Output) -> Partitions
+    requires { ⌜ (ps .used ≤ 51) × (length (ps .records) ≡ 51 → ps ≡ partitionsOf (finished ps)) × Small t ⌝ }
+    ensures { λ r. ⌜ r ≡ partitionsOf (replaced (λ (p : Partition). p .level) (dueLevels (λ (p : Partition). p .level) (finished ps)) (finished ps) (recordFrom (finished ps) t o)) ⌝ }
 {
-    let level = listing::output_level(s.partitions);
+    let level = listing::output_level(ps);
     let q = Partition {
         first: o.first,
         level: level,
         length: output_length(t),
     };
-    listing::replaced_by(s.partitions, t.postings != 0, q)
+    listing::replaced_by(ps, t.postings != 0, q)
 }
 
 // The state after the step.
-pub fn next_state(s: State, t: Totals, o: Output) -> State
+pub fn next_state(s: State, last: bool, t: Totals, o: Output) -> State
     requires { ⌜ (s .partitions .used ≤ 51) × (length (s .partitions .records) ≡ 51 → s .partitions ≡ partitionsOf (finished (s .partitions))) × Small t × (s .merge .steps < 4294967295) ⌝ }
-    ensures { λ r. ⌜ r ≡ nextState s t o ⌝ }
+    ensures { λ r. ⌜ r ≡ nextState s last t o ⌝ }
 {
     let mut n = s;
     n.taken = o.taken;
-    if is_last(t, s.merge.steps) {
-        let list = next_list(s, t, o);
+    if last {
+        let list = next_list(s.partitions, t, o);
         n.partitions = list;
         let none = MergeJob {
             first: 0,

@@ -100,9 +100,10 @@ pub fn write_header(card: &mut [u8], first: u16, n: u32, level: u16, terms: u16,
 }
 
 // The entries, from how many postings each identifier has.
-pub fn write_entries(card: &mut [u8], first: u16, n: u32, counts: [u16; 1024])
-    requires { ⌜ (length (now card) % 4 ≡ 0) × (0 < n) × (8 + length (entriesBy 0 0 counts) ≤ 1023 * n) × Chained (wordsOf (now card)) first n ⌝ }
-    ensures { λ r. ⌜ wordsOf (now (card .exit)) ≡ written (wordsOf (now (card .entry))) (chain (wordsOf (now (card .entry))) first n) 8 (entriesBy 0 0 counts) ⌝ }
+pub fn write_entries(card: &mut [u8], first: u16, n: u32, counts: &[u16])
+    requires { ⌜ (length (now card) % 4 ≡ 0) × (0 < n) × (8 + length (entriesBy 0 0 (now counts)) ≤ 1023 * n) × Chained (wordsOf (now card)) first n
+        × (length (now counts) ≡ 1024) ⌝ }
+    ensures { λ r. ⌜ wordsOf (now (card .exit)) ≡ written (wordsOf (now (card .entry))) (chain (wordsOf (now (card .entry))) first n) 8 (entriesBy 0 0 (now (counts .entry))) ⌝ }
 {
     let mut at: u32 = 8;
     let mut sum: u32 = 0;

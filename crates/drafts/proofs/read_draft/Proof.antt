@@ -1,9 +1,8 @@
--- `drafts::read_draft` meets its contract. Assumes nothing.
+-- `drafts::read_draft` meets its contract.
 use mathlib.Core.Path.{refl, sym, ap, ap₂, _∙_}
 use mathlib.Core.Bool.{_&&_}
 use Prim.Native.Nat.{_-_, _*_, _≤_}
 use native.Mathlib.Omega.{arith}
-use borrow.Author.Needs.{needs}
 use lib.ListN.{length, take, drop}
 use Rattle.words.specs.Words.{words}
 use Rattle.postings.specs.Merge.{nonzero, pairs}
@@ -13,8 +12,12 @@ use Rattle.card.proofs.Cursors.{length-ahead}
 use Rattle.partitions.specs.Reading.{inPartitions}
 use Rattle.inputs.specs.Ahead.{outWords}
 use Rattle.drafts.proofs.Comparing.{words-room, draft-left, draft-read, draft-written}
+use borrow.Author.Needs.{needs}
 use Rattle.drafts.proofs.read_draft.Statement.{statement}
 use Rattle.drafts.proofs.read_draft.Tie as tie
+
+cast-k : tie.Need-cast-k
+cast-k c = search needs
 
 seek-requires : tie.Need-seek-requires
 seek-requires c κs = search needs
@@ -31,22 +34,31 @@ sub-room c = search needs
 seek-requires-2 : tie.Need-seek-requires-2
 seek-requires-2 c κs = search needs
 
+slice-aggregate-open-inputs : tie.Need-slice-aggregate-open-inputs
+slice-aggregate-open-inputs c = search needs
+
 open-inputs-requires : tie.Need-open-inputs-requires
 open-inputs-requires c κs = search needs
 
+slice-aggregate-pass : tie.Need-slice-aggregate-pass
+slice-aggregate-pass c = search needs
+
 pass-requires : tie.Need-pass-requires
 pass-requires c κs =
-    let s = c .before .before .before .before .before in
+    let s = c .before .before .before .before .before .before .before .before .before in
     let W = words (s .args .card .now) in
     let ps = pairs (inPartitions W (finished (s .args .ps))) in
-    let out = c .before .seek2 in
-    let e = c .open-inputs .ensures .1 in
+    let out = c .before .before .before .before .seek2 in
+    let o = c .before .before .open-inputs in
     let r : length (outWords (s .args .passed) ps) ≤ out .result .left =
     omega (arith, words-room (s .args .passed) ps, s .pre .5, length-ahead W (out .result), draft-left W (s .args .first) (s .args .n) (s .args .front) (s .args .passed) ps (s .pre .3) (s .pre .5) (ahead W (out .result)) (out .ensures .0)) in
-    (c .open-inputs .ensures .0, out .ensures .1, rw e r)
+    (o .ensures .0, out .ensures .1, rw (o .ensures .1) r)
 
 rest-free-requires-2 : tie.Need-rest-free-requires-2
 rest-free-requires-2 c κs = search needs
+
+slice-aggregate-sixteen : tie.Need-slice-aggregate-sixteen
+slice-aggregate-sixteen c = search needs
 
 sixteen-requires : tie.Need-sixteen-requires
 sixteen-requires c κs = search needs
@@ -57,36 +69,38 @@ both-requires c κs = search needs
 both-requires-2 : tie.Need-both-requires-2
 both-requires-2 c κs = search needs
 
-sub-t15 : tie.Need-sub-t15
-sub-t15 c =
-    let s = c .before .before .before .before .before .before .before .before .before .before .before in
+sub-t17 : tie.Need-sub-t17
+sub-t17 c =
+    let s = c .before .before .before .before .before .before .before .before .before .before .before .before .before .before .before .before .before .before in
     let W = words (s .args .card .now) in
     let ps = pairs (inPartitions W (finished (s .args .ps))) in
-    let out = c .before .before .before .before .before .before .before .seek2 in
-    let e = c .before .before .before .before .before .before .open-inputs .ensures .1 in
-    let p = c .before .before .before .before .before .pass in
+    let out = c .before .before .before .before .before .before .before .before .before .before .before .before .before .seek2 in
+    let e = c .before .before .before .before .before .before .before .before .before .before .before .open-inputs .ensures .1 in
+    let p = c .before .before .before .before .before .before .before .before .pass in
     let m = rw e at (p .ensures .0) in
     let w = draft-written W (s .args .first) (s .args .n) (s .args .front) (s .args .passed) ps (s .pre .3) (s .pre .5) (ahead W (out .result)) (ahead W (p .result .out)) (p .result .same) (out .ensures .0) m in
     omega (arith, w .0, length-ahead W (p .result .out))
 
 returns : tie.Need-returns
 returns c =
-    let s = c .before .before .before .before .before .before .before .before .before .before .before in
+    let s = c .before .before .before .before .before .before .before .before .before .before .before .before .before .before .before .before .before .before in
     let W = words (s .args .card .now) in
     let ps = pairs (inPartitions W (finished (s .args .ps))) in
-    let out = c .before .before .before .before .before .before .before .seek2 in
-    let e = c .before .before .before .before .before .before .open-inputs .ensures .1 in
-    let p = c .before .before .before .before .before .pass in
+    let out = c .before .before .before .before .before .before .before .before .before .before .before .before .before .seek2 in
+    let e = c .before .before .before .before .before .before .before .before .before .before .before .open-inputs .ensures .1 in
+    let p = c .before .before .before .before .before .before .before .before .pass in
     let m = rw e at (p .ensures .0) in
     let w = draft-written W (s .args .first) (s .args .n) (s .args .front) (s .args .passed) ps (s .pre .3) (s .pre .5) (ahead W (out .result)) (ahead W (p .result .out)) (p .result .same) (out .ensures .0) m in
-    let head = c .before .before .before .before .before .before .before .before .before .seek in
-    let space = c .before .before .before .before .before .before .before .before .rest-free .ensures in
-    let rest = c .before .before .before .before .rest-free2 .ensures in
-    let b = c .before .before .before .sixteen .ensures in (
+    let head = c .before .before .before .before .before .before .before .before .before .before .before .before .before .before .before .seek in
+    let space = c .before .before .before .before .before .before .before .before .before .before .before .before .before .before .rest-free .ensures in
+    let rest = c .before .before .before .before .before .before .rest-free2 .ensures in
+    let b = c .before .before .before .before .sixteen .ensures in
+    let on = p .ensures .1 ∙ ap (drop (s .args .passed)) e in (
       c .before .both2 .ensures ∙ ap₂ _&&_ (c .before .before .both .ensures ∙ ap₂ _&&_ space refl) rest
           ∙ draft-read W (s .args .first) (s .args .n) (s .args .front) (s .args .passed) ps (s .pre .3) (s .pre .5) (ahead W (head .result)) (ahead W (out .result)) (ahead W (p .result .out)) (p .result .same) (head .ensures .0) (out .ensures .0) m,
       ap (λ k. 1023 * s .args .n - s .args .front - k) (sym (length-ahead W (p .result .out))) ∙ w .1,
-      b .0 ∙ ap (λ l. nonzero (take 16 l)) (p .ensures .1 ∙ ap (drop (s .args .passed)) e),
+      b .0 ∙ ap (λ l. nonzero (take 16 l)) on,
+      b .1 ∙ ap (λ l. length (take 16 l)) on,
       b .2,
     )
 
@@ -94,16 +108,20 @@ pub read-draft-spec : {M : Type 1} → statement M
 read-draft-spec =
     tie.close
     (tie.spec
+    cast-k
     seek-requires
     rest-free-requires
     mul-room
     sub-room
     seek-requires-2
+    slice-aggregate-open-inputs
     open-inputs-requires
+    slice-aggregate-pass
     pass-requires
     rest-free-requires-2
+    slice-aggregate-sixteen
     sixteen-requires
     both-requires
     both-requires-2
-    sub-t15
+    sub-t17
     returns)

@@ -1,22 +1,30 @@
--- `inputs::open_inputs` meets its contract. Assumes nothing.
+-- `inputs::open_inputs` meets its contract.
 use native.Mathlib.Omega.{arith}
 use Rattle.words.specs.Words.{words}
 use Rattle.words.proofs.Views.{words-below}
 use Rattle.state.specs.Views.{finished}
 use Rattle.inputs.proofs.Judged.{opened-ahead, opened-formed}
+use borrow.Author.Needs.{needs}
 use Rattle.inputs.proofs.open_inputs.Statement.{statement}
 use Rattle.inputs.proofs.open_inputs.Tie as tie
 
-open-sources-requires : tie.Need-open-sources-requires
-open-sources-requires c κs = (c .before .pre .0, c .before .pre .1)
+open-heads-requires : tie.Need-open-heads-requires
+open-heads-requires c κs = search needs
+
+same-length : tie.Need-same-length
+same-length c = search needs
 
 returns : tie.Need-returns
 returns c =
-    let s = c .before .before in
+    let s = c .before .before .before .before .before .before in
     let W = words (s .args .card .now) in
-    let small = words-below (s .args .card .now) (λ k. omega (arith, c .before .shared-slice-known .given k)) in
-    let o = c .open-sources in
-    (opened-formed W small (finished (s .args .ps)) (o .result) (o .ensures .0) (o .ensures .2) (s .pre .2), opened-ahead W small (finished (s .args .ps)) (o .result) (o .ensures .0) (o .ensures .2))
+    let small = words-below (s .args .card .now) (λ k. omega (arith, c .before .before .before .before .before .shared-slice-known .given k)) in
+    let o = c .before .before .open-heads in
+    let ps = s .args .ps in
+    let H = o .last .1 .1 .0 in (
+      opened-formed W small (finished ps) (ps .used) H (o .ensures .1) (o .ensures .2) (o .result) (record { few = s .pre .0; fits = omega (arith, o .ensures .0, s .pre .2); kept = o .ensures .1; top = o .ensures .3 }) (s .pre .4),
+      opened-ahead W small (finished ps) (ps .used) H (o .ensures .1) (o .ensures .2),
+    )
 
 pub open-inputs-spec : {M : Type 1} → statement M
-open-inputs-spec = tie.close (tie.spec open-sources-requires returns)
+open-inputs-spec = tie.close (tie.spec open-heads-requires same-length returns)

@@ -1,4 +1,4 @@
--- `merges::begin` meets its contract. Assumes nothing.
+-- `merges::begin` meets its contract.
 use mathlib.Core.Bool.{not}
 use mathlib.Core.Path.{sym, ap, _∙_}
 use Prim.Native.Nat.{suc}
@@ -11,11 +11,13 @@ use Rattle.postings.specs.Merge.{nonzero}
 use Rattle.state.specs.Views.{blocks, finished}
 use Rattle.card.specs.Blocks.{freeBlocks}
 use Rattle.card.specs.Chains.{blocksFor}
-use Rattle.merges.specs.Merging.{inputs}
+use Rattle.inputs.specs.Judging.{countsOf}
+use Rattle.merges.specs.Merging.{inputs, taking, isLast}
+use Rattle.merges.specs.Acting.{nextState}
 use Rattle.merges.proofs.Choosing.{finished-of}
 use Rattle.merges.proofs.Drafting.{readable, inputs-few}
 use Rattle.merges.proofs.Refusing.{pairs-read}
-use Rattle.merges.proofs.Beginning.{next-free, judged-linked, acts-linked, written-linked}
+use Rattle.merges.proofs.Beginning.{next-free, same-pairs, judged-linked, acts-linked, written-linked}
 use Rattle.merges.proofs.Stepping.{begin-few, begin-none, begin-done, state-told}
 use Rattle.merges.proofs.begin.Statement.{statement}
 use Rattle.merges.proofs.begin.Tie as tie
@@ -38,7 +40,7 @@ same-length c = search needs
 returns : tie.Need-returns
 returns c =
     let i = c .before .before in
-    let s = i .before .before .before .before .before .before in
+    let s = i .before .before .before .before .before .before .before in
     let W = words (s .args .card .now) in
     let k = i .before .before .blocks-for .result in
     let nn = i .before .before .blocks-for .ensures ∙ ap blocksFor (i .before .before .before .output-length .ensures) in
@@ -55,7 +57,7 @@ same-length-2 c = search needs
 returns-2 : tie.Need-returns-2
 returns-2 c =
     let i = c .before .before .before .before in
-    let s = i .before .before .before .before .before .before in
+    let s = i .before .before .before .before .before .before .before in
     let W = words (s .args .card .now) in
     let k = i .before .before .blocks-for .result in
     let nn = i .before .before .blocks-for .ensures ∙ ap blocksFor (i .before .before .before .output-length .ensures) in
@@ -67,7 +69,7 @@ returns-2 c =
 first-batch-requires : tie.Need-first-batch-requires
 first-batch-requires c κs =
     let i = c .before .before .before .before in
-    let s = i .before .before .before .before .before .before in
+    let s = i .before .before .before .before .before .before .before in
     let W = words (s .args .card .now) in
     let k = i .before .before .blocks-for .result in
     let nn = i .before .before .blocks-for .ensures ∙ ap blocksFor (i .before .before .before .output-length .ensures) in
@@ -78,7 +80,7 @@ first-batch-requires c κs =
 take-blocks-requires : tie.Need-take-blocks-requires
 take-blocks-requires c κs =
     let i = c .before .before .before .before .before .before in
-    let s = i .before .before .before .before .before .before in
+    let s = i .before .before .before .before .before .before .before in
     let W = words (s .args .card .now) in
     let k = i .before .before .blocks-for .result in
     let nn = i .before .before .blocks-for .ensures ∙ ap blocksFor (i .before .before .before .output-length .ensures) in
@@ -90,7 +92,7 @@ take-blocks-requires c κs =
 finish-requires : tie.Need-finish-requires
 finish-requires c κs =
     let i = c .before .before .before .before .before .before .before .before .before .before in
-    let s = i .before .before .before .before .before .before in
+    let s = i .before .before .before .before .before .before .before in
     let W = words (s .args .card .now) in
     let k = i .before .before .blocks-for .result in
     let nn = i .before .before .blocks-for .ensures ∙ ap blocksFor (i .before .before .before .output-length .ensures) in
@@ -101,9 +103,11 @@ finish-requires c κs =
     let f = next-free W (blocks (s .args .s)) (s .args .s .taken) k l in
     let tb = c .before .before .before .take-blocks in
     let fb = c .before .before .before .before .before .first-batch in
-    let x = fb .ensures .0 ∙ ap (λ q. nonzero (take 16 q)) (pairs-read W (s .args .s) (s .args .is) (s .args .t) (s .pre .1)) in
-    let a = acts-linked W (s .args .s) (s .args .is) (s .args .t) (s .pre .1) k nn bs f (tb .result) (fb .result) (tb .ensures .1) (tb .ensures .2) (tb .ensures .3) (s .pre .4) x (fb .ensures .1) in
-    (omega (arith, tb .kept .0, s .pre .0), rw (tb .ensures .0) (judged-linked W (s .args .s) (s .args .is) (s .args .t) (s .pre .1) k nn bs f), rw (tb .ensures .0) a, omega (arith, s .pre .4))
+    let read = pairs-read W (s .args .s) (s .args .is) (s .args .t) (s .pre .1) in
+    let x = fb .ensures .0 ∙ ap (λ q. nonzero (take 16 q)) read in
+    let taken = fb .ensures .1 ∙ ap (λ q. length (take 16 q)) read in
+    let a = acts-linked W (s .args .s) (s .args .is) (s .args .t) (s .pre .1) k nn bs f (tb .result) (fb .result) (tb .ensures .1) (tb .ensures .2) (tb .ensures .3) (s .pre .4) x taken (fb .ensures .2) in
+    (omega (arith, tb .kept .0, s .pre .0), rw (tb .ensures .0) (judged-linked W (s .args .s) (s .args .is) (s .args .t) (s .pre .1) k nn bs f), rw (tb .ensures .0) (s .pre .5 ∙ ap countsOf (sym (same-pairs W (s .args .s) (s .args .is) (s .args .t) (s .pre .1) k nn bs f))), rw (tb .ensures .0) a, omega (arith, s .pre .4))
 
 same-length-3 : tie.Need-same-length-3
 same-length-3 c = search needs
@@ -111,7 +115,7 @@ same-length-3 c = search needs
 returns-3 : tie.Need-returns-3
 returns-3 c =
     let i = c .before .before .before .before .before .before .before .before .before .before .before .before .before in
-    let s = i .before .before .before .before .before .before in
+    let s = i .before .before .before .before .before .before .before in
     let W = words (s .args .card .now) in
     let k = i .before .before .blocks-for .result in
     let nn = i .before .before .blocks-for .ensures ∙ ap blocksFor (i .before .before .before .output-length .ensures) in
@@ -123,9 +127,11 @@ returns-3 c =
     let tb = c .before .before .before .before .before .before .take-blocks in
     let fin = c .before .before .finish .ensures in
     let w = rw (tb .ensures .0, tb .ensures .2) at (fin .1) in
+    let same = ap (λ U. taking U (s .args .s)) (tb .ensures .0) ∙ same-pairs W (s .args .s) (s .args .is) (s .args .t) (s .pre .1) k nn bs f in
     rw (fin .0)
     (begin-done W (s .args .s) (s .args .is) (s .args .t) (s .pre .1) (s .args .card .now) idle (rw nn at e) (c .before .before .before .before .before .before .before .before .before .before .if2 .left) k nn _
-    (state-told W (s .args .s) (s .args .is) (s .args .t) (s .pre .1) (tb .result) bs (tb .ensures .1) (rw idle (tb .ensures .4)))
+    (ap (λ l. nextState (s .args .s) (isLast l (suc (s .args .s .merge .steps))) (s .args .t) (tb .result)) same
+    ∙ state-told W (s .args .s) (s .args .is) (s .args .t) (s .pre .1) (tb .result) bs (tb .ensures .1) (rw idle (tb .ensures .4)))
     (w ∙ ap bytes (written-linked W (s .args .s) (s .args .is) (s .args .t) (s .pre .1) k nn bs f (tb .result .first) (suc (s .args .s .merge .steps)) (tb .ensures .1))))
 
 pub begin-spec : {M : Type 1} → statement M

@@ -1,4 +1,4 @@
--- `merges::go_on` meets its contract. Assumes nothing.
+-- `merges::go_on` meets its contract.
 use mathlib.Core.Bool.{not}
 use mathlib.Core.Path.{refl, sym, ap, _∙_}
 use native.Mathlib.Omega.{arith}
@@ -35,14 +35,14 @@ blocks-for-requires c κs = search needs
 finish-requires : tie.Need-finish-requires
 finish-requires c κs =
     let i = c .before .before .before .before in
-    let s = i .before .before .before .before .before in
+    let s = i .before .before .before .before .before .before in
     let W = words (s .args .card .now) in
     let d = i .before .before .output-ok in
     let nn = c .before .before .blocks-for .ensures ∙ ap blocksFor (c .before .before .before .output-length .ensures) in
     let y = not-false _ (i .if1 .left) in
     let a = d .ensures .1 y in
     let e = rule-early W (s .args .s) (s .args .is) (s .args .t) (s .pre .1) (sym (d .ensures .0) ∙ y) in
-    (s .pre .0, s .pre .1, rw nn a, omega (arith, e, s .pre .1 .small .pairs))
+    (s .pre .0, s .pre .1, s .pre .4, rw nn a, omega (arith, e, s .pre .1 .small .pairs))
 
 same-length-2 : tie.Need-same-length-2
 same-length-2 c = search needs
@@ -50,7 +50,7 @@ same-length-2 c = search needs
 returns-2 : tie.Need-returns-2
 returns-2 c =
     let i = c .before .before .before .before .before .before .before in
-    let s = i .before .before .before .before .before in
+    let s = i .before .before .before .before .before .before in
     let W = words (s .args .card .now) in
     let d = i .before .before .output-ok in
     let k = c .before .before .before .before .before .blocks-for .result in

@@ -1,4 +1,4 @@
--- `merges::step` meets its contract. Assumes nothing.
+-- `merges::step` meets its contract.
 use mathlib.Core.Bool.{true, false, not}
 use mathlib.Core.Path.{_≡_, sym, ap, _∙_}
 use native.Mathlib.Omega.{arith}
@@ -8,12 +8,13 @@ use Rattle.words.specs.Words.{words}
 use Rattle.state.specs.Views.{finished}
 use Rattle.state.proofs.Kept.{state-kept}
 use Rattle.inputs.specs.declared.Totals.{Totals}
-use Rattle.inputs.specs.Judging.{inputsFormed}
+use Rattle.inputs.specs.Judging.{inputsFormed, countsOf}
 use Rattle.inputs.proofs.Judged.{judged-fine}
 use Rattle.windows.proofs.Outcomes.{stopped, passed}
 use Rattle.merges.specs.Merging.{inputs}
 use Rattle.merges.specs.Step.{stepOf}
 use Rattle.merges.proofs.Choosing.{finished-of}
+use Rattle.merges.proofs.Refusing.{pairs-read}
 use Rattle.merges.proofs.Stepping.{card-long, card-words, judged, inputs-read, formed-first, formed-inputs, formed-idle, formed-output}
 use Rattle.merges.proofs.step.Statement.{statement}
 use Rattle.merges.proofs.step.Tie as tie
@@ -83,16 +84,23 @@ inputs-of-requires c κs =
     let k = state-kept (s .args .s) ok in
     (k .partitions .used, k .partitions .form)
 
+slice-aggregate-judge : tie.Need-slice-aggregate-judge
+slice-aggregate-judge c = search needs
+
+slice-aggregate-judge-2 : tie.Need-slice-aggregate-judge-2
+slice-aggregate-judge-2 c = search needs
+
 judge-requires : tie.Need-judge-requires
 judge-requires c κs =
-    let i2 = c .before .before .before .before .before .before in
+    let i2 = c .before .before .before .before .before .before .before .before in
     let i1 = i2 .before .before in
     let s = i1 .before .before .before in
     let W = words (s .args .card .now) in
     let ok = sym (i1 .before .state-ok .ensures) ∙ not-false _ (i1 .if1 .left) in
     let same = i2 .if2 .left in
-    let pok = sym (c .before .before .before .partitions-ok .ensures) ∙ not-false _ (c .before .before .if3 .left) in
-    inputs-read (s .args .s) (s .args .card .now) ok same pok (c .before .inputs-of .result) (c .before .inputs-of .ensures)
+    let pok = sym (c .before .before .before .before .before .partitions-ok .ensures) ∙ not-false _ (c .before .before .before .before .if3 .left) in
+    let r = inputs-read (s .args .s) (s .args .card .now) ok same pok (c .before .before .before .inputs-of .result) (c .before .before .before .inputs-of .ensures) in
+    (omega (arith, r .0), r .1, omega (arith, r .0), search needs, search needs)
 
 refuse-requires-4 : tie.Need-refuse-requires-4
 refuse-requires-4 c κs = search needs
@@ -103,35 +111,40 @@ same-length-2 c = search needs
 returns-4 : tie.Need-returns-4
 unfolding stepOf
 returns-4 c =
-    let i2 = c .before .before .before .before .before .before .before .before .before .before in
+    let i2 = c .before .before .before .before .before .before .before .before .before .before .before .before .before .before in
     let i1 = i2 .before .before in
     let s = i1 .before .before .before in
     let W = words (s .args .card .now) in
     let ok = sym (i1 .before .state-ok .ensures) ∙ not-false _ (i1 .if1 .left) in
     let same = i2 .if2 .left in
-    let pok = sym (c .before .before .before .before .before .before .before .partitions-ok .ensures) ∙ not-false _ (c .before .before .before .before .before .before .if3 .left) in
-    let io = c .before .before .before .before .before .inputs-of in
-    let ju = c .before .before .before .judge in
+    let pok = sym (c .before .before .before .before .before .before .before .before .before .before .before .partitions-ok .ensures) ∙ not-false _ (c .before .before .before .before .before .before .before .before .before .before .if3 .left) in
+    let io = c .before .before .before .before .before .before .before .before .before .inputs-of in
+    let ju = c .before .before .before .before .before .judge in
     let f = ap finished (io .ensures) ∙ finished-of (inputs (s .args .s)) in
     let fine = ap (λ (t : Totals). t .fine) (ju .ensures .0) ∙ judged-fine W (finished (io .result)) in
     let no : inputsFormed W (inputs (s .args .s)) ≡ false = rw f at (sym fine ∙ not-true _ (c .before .if4 .taken)) in
     rw (c .refuse4 .ensures) (passed _ 1 _ (ap not (sym (i1 .before .state-ok .ensures)) ∙ i1 .if1 .left) (passed _ 2 _ (ap not (eq-eqb _ _ (i2 .if2 .left))) (stopped _ 3 _ (ap not (formed-inputs W (s .args .s) pok no)))))
 
+slice-aggregate-begin : tie.Need-slice-aggregate-begin
+slice-aggregate-begin c = search needs
+
 begin-requires : tie.Need-begin-requires
 begin-requires c κs =
-    let i2 = c .before .before .before .before .before .before .before .before .before .before .before .before in
+    let i2 = c .before .before .before .before .before .before .before .before .before .before .before .before .before .before .before .before .before in
     let i1 = i2 .before .before in
     let s = i1 .before .before .before in
     let W = words (s .args .card .now) in
     let ok = sym (i1 .before .state-ok .ensures) ∙ not-false _ (i1 .if1 .left) in
     let same = i2 .if2 .left in
-    let pok = sym (c .before .before .before .before .before .before .before .before .before .partitions-ok .ensures) ∙ not-false _ (c .before .before .before .before .before .before .before .before .if3 .left) in
-    let io = c .before .before .before .before .before .before .before .inputs-of in
-    let ju = c .before .before .before .before .before .judge in
+    let pok = sym (c .before .before .before .before .before .before .before .before .before .before .before .before .before .before .partitions-ok .ensures) ∙ not-false _ (c .before .before .before .before .before .before .before .before .before .before .before .before .before .if3 .left) in
+    let io = c .before .before .before .before .before .before .before .before .before .before .before .before .inputs-of in
+    let ju = c .before .before .before .before .before .before .before .before .judge in
     let f = ap finished (io .ensures) ∙ finished-of (inputs (s .args .s)) in
     let fine = ap (λ (t : Totals). t .fine) (ju .ensures .0) ∙ judged-fine W (finished (io .result)) in
-    let formed : inputsFormed W (inputs (s .args .s)) ≡ true = rw f at (sym fine ∙ not-false _ (c .before .before .before .if4 .left)) in
-    (card-words (s .args .s) (s .args .card .now) ok same, judged (s .args .s) (s .args .card .now) ok same pok formed (io .result) (ju .result) (io .ensures) (ju .ensures .0) (ju .ensures .1), formed, state-kept (s .args .s) ok .taken, c .before .if5 .taken)
+    let formed : inputsFormed W (inputs (s .args .s)) ≡ true = rw f at (sym fine ∙ not-false _ (c .before .before .before .before .if4 .left)) in
+    let g = judged (s .args .s) (s .args .card .now) ok same pok formed (io .result) (ju .result) (io .ensures) (ju .ensures .0) (ju .ensures .2) in
+    let told = ju .ensures .1 (not-false _ (c .before .before .before .before .if4 .left)) ∙ ap countsOf (pairs-read W (s .args .s) (io .result) (ju .result) g) in
+    (card-words (s .args .s) (s .args .card .now) ok same, g, formed, state-kept (s .args .s) ok .taken, c .before .before .if5 .taken, told)
 
 same-length-3 : tie.Need-same-length-3
 same-length-3 c = search needs
@@ -139,36 +152,41 @@ same-length-3 c = search needs
 returns-5 : tie.Need-returns-5
 unfolding stepOf
 returns-5 c =
-    let i2 = c .before .before .before .before .before .before .before .before .before .before .before .before .before .before .before in
+    let i2 = c .before .before .before .before .before .before .before .before .before .before .before .before .before .before .before .before .before .before .before .before in
     let i1 = i2 .before .before in
     let s = i1 .before .before .before in
     let W = words (s .args .card .now) in
     let ok = sym (i1 .before .state-ok .ensures) ∙ not-false _ (i1 .if1 .left) in
     let same = i2 .if2 .left in
-    let pok = sym (c .before .before .before .before .before .before .before .before .before .before .before .before .partitions-ok .ensures) ∙ not-false _ (c .before .before .before .before .before .before .before .before .before .before .before .if3 .left) in
-    let io = c .before .before .before .before .before .before .before .before .before .before .inputs-of in
-    let ju = c .before .before .before .before .before .before .before .before .judge in
+    let pok = sym (c .before .before .before .before .before .before .before .before .before .before .before .before .before .before .before .before .before .partitions-ok .ensures) ∙ not-false _ (c .before .before .before .before .before .before .before .before .before .before .before .before .before .before .before .before .if3 .left) in
+    let io = c .before .before .before .before .before .before .before .before .before .before .before .before .before .before .before .inputs-of in
+    let ju = c .before .before .before .before .before .before .before .before .before .before .before .judge in
     let f = ap finished (io .ensures) ∙ finished-of (inputs (s .args .s)) in
     let fine = ap (λ (t : Totals). t .fine) (ju .ensures .0) ∙ judged-fine W (finished (io .result)) in
-    let formed : inputsFormed W (inputs (s .args .s)) ≡ true = rw f at (sym fine ∙ not-false _ (c .before .before .before .before .before .before .if4 .left)) in
-    let idle = ap not (eq-eqb (s .args .s .merge .steps) 0 (c .before .before .before .before .if5 .taken)) in
+    let formed : inputsFormed W (inputs (s .args .s)) ≡ true = rw f at (sym fine ∙ not-false _ (c .before .before .before .before .before .before .before .if4 .left)) in
+    let idle = ap not (eq-eqb (s .args .s .merge .steps) 0 (c .before .before .before .before .before .if5 .taken)) in
     passed _ 1 _ (ap not (sym (i1 .before .state-ok .ensures)) ∙ i1 .if1 .left) (passed _ 2 _ (ap not (eq-eqb _ _ (i2 .if2 .left))) (passed _ 3 _ (ap not (formed-idle W (s .args .s) pok formed idle)) (c .before .before .begin .ensures)))
+
+slice-aggregate-go-on : tie.Need-slice-aggregate-go-on
+slice-aggregate-go-on c = search needs
 
 go-on-requires : tie.Need-go-on-requires
 go-on-requires c κs =
-    let i2 = c .before .before .before .before .before .before .before .before .before .before .before .before in
+    let i2 = c .before .before .before .before .before .before .before .before .before .before .before .before .before .before .before .before .before in
     let i1 = i2 .before .before in
     let s = i1 .before .before .before in
     let W = words (s .args .card .now) in
     let ok = sym (i1 .before .state-ok .ensures) ∙ not-false _ (i1 .if1 .left) in
     let same = i2 .if2 .left in
-    let pok = sym (c .before .before .before .before .before .before .before .before .before .partitions-ok .ensures) ∙ not-false _ (c .before .before .before .before .before .before .before .before .if3 .left) in
-    let io = c .before .before .before .before .before .before .before .inputs-of in
-    let ju = c .before .before .before .before .before .judge in
+    let pok = sym (c .before .before .before .before .before .before .before .before .before .before .before .before .before .before .partitions-ok .ensures) ∙ not-false _ (c .before .before .before .before .before .before .before .before .before .before .before .before .before .if3 .left) in
+    let io = c .before .before .before .before .before .before .before .before .before .before .before .before .inputs-of in
+    let ju = c .before .before .before .before .before .before .before .before .judge in
     let f = ap finished (io .ensures) ∙ finished-of (inputs (s .args .s)) in
     let fine = ap (λ (t : Totals). t .fine) (ju .ensures .0) ∙ judged-fine W (finished (io .result)) in
-    let formed : inputsFormed W (inputs (s .args .s)) ≡ true = rw f at (sym fine ∙ not-false _ (c .before .before .before .if4 .left)) in
-    (card-words (s .args .s) (s .args .card .now) ok same, judged (s .args .s) (s .args .card .now) ok same pok formed (io .result) (ju .result) (io .ensures) (ju .ensures .0) (ju .ensures .1), formed, omega (arith, c .before .if5 .left))
+    let formed : inputsFormed W (inputs (s .args .s)) ≡ true = rw f at (sym fine ∙ not-false _ (c .before .before .before .before .if4 .left)) in
+    let g = judged (s .args .s) (s .args .card .now) ok same pok formed (io .result) (ju .result) (io .ensures) (ju .ensures .0) (ju .ensures .2) in
+    let told = ju .ensures .1 (not-false _ (c .before .before .before .before .if4 .left)) ∙ ap countsOf (pairs-read W (s .args .s) (io .result) (ju .result) g) in
+    (card-words (s .args .s) (s .args .card .now) ok same, g, formed, omega (arith, c .before .before .if5 .left), told)
 
 same-length-4 : tie.Need-same-length-4
 same-length-4 c = search needs
@@ -176,19 +194,19 @@ same-length-4 c = search needs
 returns-6 : tie.Need-returns-6
 unfolding stepOf
 returns-6 c =
-    let i2 = c .before .before .before .before .before .before .before .before .before .before .before .before .before .before .before in
+    let i2 = c .before .before .before .before .before .before .before .before .before .before .before .before .before .before .before .before .before .before .before .before in
     let i1 = i2 .before .before in
     let s = i1 .before .before .before in
     let W = words (s .args .card .now) in
     let ok = sym (i1 .before .state-ok .ensures) ∙ not-false _ (i1 .if1 .left) in
     let same = i2 .if2 .left in
-    let pok = sym (c .before .before .before .before .before .before .before .before .before .before .before .before .partitions-ok .ensures) ∙ not-false _ (c .before .before .before .before .before .before .before .before .before .before .before .if3 .left) in
-    let io = c .before .before .before .before .before .before .before .before .before .before .inputs-of in
-    let ju = c .before .before .before .before .before .before .before .before .judge in
+    let pok = sym (c .before .before .before .before .before .before .before .before .before .before .before .before .before .before .before .before .before .partitions-ok .ensures) ∙ not-false _ (c .before .before .before .before .before .before .before .before .before .before .before .before .before .before .before .before .if3 .left) in
+    let io = c .before .before .before .before .before .before .before .before .before .before .before .before .before .before .before .inputs-of in
+    let ju = c .before .before .before .before .before .before .before .before .before .before .before .judge in
     let f = ap finished (io .ensures) ∙ finished-of (inputs (s .args .s)) in
     let fine = ap (λ (t : Totals). t .fine) (ju .ensures .0) ∙ judged-fine W (finished (io .result)) in
-    let formed : inputsFormed W (inputs (s .args .s)) ≡ true = rw f at (sym fine ∙ not-false _ (c .before .before .before .before .before .before .if4 .left)) in
-    let busy = ap not (ne-eqb (s .args .s .merge .steps) 0 (c .before .before .before .before .if5 .left)) in
+    let formed : inputsFormed W (inputs (s .args .s)) ≡ true = rw f at (sym fine ∙ not-false _ (c .before .before .before .before .before .before .before .if4 .left)) in
+    let busy = ap not (ne-eqb (s .args .s .merge .steps) 0 (c .before .before .before .before .before .if5 .left)) in
     passed _ 1 _ (ap not (sym (i1 .before .state-ok .ensures)) ∙ i1 .if1 .left) (passed _ 2 _ (ap not (eq-eqb _ _ (i2 .if2 .left))) (rw (formed-output W (s .args .s) pok formed busy) (c .before .before .go-on .ensures)))
 
 pub step-spec : {M : Type 1} → statement M
@@ -206,13 +224,17 @@ step-spec =
     same-length
     returns-3
     inputs-of-requires
+    slice-aggregate-judge
+    slice-aggregate-judge-2
     judge-requires
     refuse-requires-4
     same-length-2
     returns-4
+    slice-aggregate-begin
     begin-requires
     same-length-3
     returns-5
+    slice-aggregate-go-on
     go-on-requires
     same-length-4
     returns-6)

@@ -1,12 +1,10 @@
--- `outputs::write_entries` meets its contract. The invariant: writing the entries of the identifiers from i on gives the whole. Assumes nothing.
+-- `outputs::write_entries` meets its contract. The invariant: writing the entries of the identifiers from i on gives the whole.
 use mathlib.Core.Logic.{⊎-elim}
 use mathlib.Core.Path.{_≡_, refl, _∙_}
 use Prim.Native.Nat.{_-_, _<_}
 use native.Mathlib.Omega.{arith}
 use borrow.Author.Needs.{needs}
 use lib.ListN.{length, getD}
-use mir.Syntax.{w16}
-use mir.Val.{Fits}
 use Rattle.words.specs.Words.{words}
 use Rattle.outputs.proofs.Entering.{Entering, entering-start, entering-end, entering-past, entering-room, entering-on}
 use Rattle.outputs.proofs.write_entries.Statement.{statement}
@@ -21,41 +19,38 @@ abbrev μ-loop : tie.MeasureT-loop
 
 loop-holds : tie.Need-loop-holds Inv-loop μ-loop
 loop-holds c =
-    let s = c .before in
-    (search needs, refl, entering-start (words (s .args .card .now)) (s .args .first) (s .args .n) (s .args .t4) (s .pre .3) (s .pre .2))
+    let s = c .before .before in
+    (s .pre .4, refl, entering-start (words (s .args .card .now)) (s .args .first) (s .args .n) (s .args .counts .now) (s .pre .3) (s .pre .2))
 
 mul-count : tie.Need-mul-count Inv-loop μ-loop
 mul-count c = search needs
 
-array-read-count : tie.Need-array-read-count Inv-loop μ-loop
-array-read-count c = search needs
+shared-slice-read-count : tie.Need-shared-slice-read-count Inv-loop μ-loop
+shared-slice-read-count c = search needs
 
 cast-count : tie.Need-cast-count Inv-loop μ-loop
-cast-count c = search needs
+cast-count c = omega (arith, c .before .before .before .shared-slice-known .given (c .before .before .loop .i))
 
-cast-t16 : tie.Need-cast-t16 Inv-loop μ-loop
-cast-t16 c = search needs
+cast-t14 : tie.Need-cast-t14 Inv-loop μ-loop
+cast-t14 c = search needs
 
 slice-aggregate-write-words : tie.Need-slice-aggregate-write-words Inv-loop μ-loop
 slice-aggregate-write-words c = search needs
 
 write-words-requires : tie.Need-write-words-requires Inv-loop μ-loop
 write-words-requires c κs =
-    let a = c .before .before .before .before in
-    let s = a .before .before in
-    let h = c .before .before .before .loop-test .taken in
-    let r = entering-room (words (s .args .card .now)) (s .args .first) (s .args .n) (s .args .t4) (words (a .loop .card)) (a .loop .at) (a .loop .sum) (a .loop .i) (a .loop .inv .2) (omega (arith, a .loop .inv .0, h)) _ refl (c .before .before .if1 .taken) in
+    let a = c .before .before .before .before .before in
+    let s = c .before .before .before .before .before .before .before .before in
+    let r = entering-room (words (s .args .card .now)) (s .args .first) (s .args .n) (s .args .counts .now) (words (a .loop .card)) (a .loop .at) (a .loop .sum) (a .loop .i) (a .loop .inv .2) (omega (arith, a .loop .inv .0, c .before .before .before .before .loop-test .taken)) _ refl (c .before .before .if1 .taken) in
     (omega (arith, a .loop .inv .1, s .pre .0), s .pre .1, r, a .loop .inv .2 .chained)
 
 add-at : tie.Need-add-at Inv-loop μ-loop
-add-at c = let a = c .before .before .before .before .before .before .before in omega (arith, a .loop .inv .2 .far)
+add-at c = omega (arith, c .before .before .before .before .before .before .before .before .loop .inv .2 .far)
 
 add-sum : tie.Need-add-sum Inv-loop μ-loop
 add-sum c =
-    let a = c .before .before .before .before .before .before .before in
-    let s = a .before .before in
-    let f : Fits w16 (getD (s .args .t4) (a .loop .i) 0) = search needs in
-    omega (arith, a .loop .inv .2 .sums, f)
+    let a = c .before .before .before .before .before .before .before .before in
+    omega (arith, a .loop .inv .2 .sums, c .before .before .before .before .before .before .before .before .before .shared-slice-known .given (a .loop .i))
 
 add-i : tie.Need-add-i Inv-loop μ-loop
 add-i c = search needs
@@ -65,17 +60,17 @@ loop-less c = search needs
 
 loop-again : tie.Need-loop-again Inv-loop μ-loop
 loop-again c =
-    let a = c .before .before in
-    let s = a .before .before in
-    let h : a .loop .i < length (s .args .t4) = omega (arith, a .loop .inv .0, c .before .loop-test .taken) in
-    let f : Fits w16 (getD (s .args .t4) (a .loop .i) 0) = search needs in
+    let a = c .before .before .before in
+    let s = c .before .before .before .before .before .before in
+    let h : a .loop .i < length (s .args .counts .now) = omega (arith, a .loop .inv .0, c .before .before .loop-test .taken) in
+    let f : getD (s .args .counts .now) (a .loop .i) 0 < 65536 = omega (arith, c .before .before .before .before .shared-slice-known .given (a .loop .i)) in
     ⊎-elim
     (λ w. rw (w .6, w .7, w .8) (
       a .loop .inv .0,
       w .3 .kept .0 ∙ a .loop .inv .1,
-      entering-on (words (s .args .card .now)) (s .args .first) (s .args .n) (s .args .t4) (words (a .loop .card)) (a .loop .at) (a .loop .sum) (a .loop .i) (a .loop .inv .2) h _ refl (w .0 .taken) (words (w .3 .last .0)) (omega (arith, f)) (w .3 .ensures),
+      entering-on (words (s .args .card .now)) (s .args .first) (s .args .n) (s .args .counts .now) (words (a .loop .card)) (a .loop .at) (a .loop .sum) (a .loop .i) (a .loop .inv .2) h _ refl (w .0 .taken) (words (w .3 .last .0)) (omega (arith, f)) (w .3 .ensures),
     ))
-    (λ w. rw (w .1, w .2, w .3) (a .loop .inv .0, a .loop .inv .1, entering-past (words (s .args .card .now)) (s .args .first) (s .args .n) (s .args .t4) (words (a .loop .card)) (a .loop .at) (a .loop .sum) (a .loop .i) (a .loop .inv .2) h (w .0 .left)))
+    (λ w. rw (w .1, w .2, w .3) (a .loop .inv .0, a .loop .inv .1, entering-past (words (s .args .card .now)) (s .args .first) (s .args .n) (s .args .counts .now) (words (a .loop .card)) (a .loop .at) (a .loop .sum) (a .loop .i) (a .loop .inv .2) h (w .0 .left)))
     (c .if1 .came)
 
 same-length : tie.Need-same-length Inv-loop μ-loop
@@ -84,8 +79,8 @@ same-length c = c .before .loop .inv .1
 returns : tie.Need-returns Inv-loop μ-loop
 returns c =
     let a = c .before in
-    let s = a .before .before in
-    entering-end (words (s .args .card .now)) (s .args .first) (s .args .n) (s .args .t4) (words (a .loop .card)) (a .loop .at) (a .loop .sum) (a .loop .i) (a .loop .inv .2) (omega (arith, a .loop .inv .0, c .loop-test .left))
+    let s = c .before .before .before .before in
+    entering-end (words (s .args .card .now)) (s .args .first) (s .args .n) (s .args .counts .now) (words (a .loop .card)) (a .loop .at) (a .loop .sum) (a .loop .i) (a .loop .inv .2) (omega (arith, a .loop .inv .0, c .loop-test .left))
 
 pub write-entries-spec : {M : Type 1} → statement M
 write-entries-spec =
@@ -95,9 +90,9 @@ write-entries-spec =
     μ-loop
     loop-holds
     mul-count
-    array-read-count
+    shared-slice-read-count
     cast-count
-    cast-t16
+    cast-t14
     slice-aggregate-write-words
     write-words-requires
     add-at

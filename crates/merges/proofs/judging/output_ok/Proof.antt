@@ -74,7 +74,7 @@ returns-3 c =
     let z = sym nn ∙ i3 .if3 .taken in
     let d = c .no-draft3 .ensures in (
       d .0 ∙ rule-none W (s .args .s) (s .args .is) (s .args .t) (s .pre .0) (i1 .if1 .left) (i2 .if2 .left ∙ ol) z,
-      λ y. acts-none W (s .args .s) (s .args .is) (s .args .t) (s .pre .0) _ _ refl refl z (eqb-true _ _ (sym (d .0) ∙ y)) (d .1) (d .2),
+      λ y. acts-none W (s .args .s) (s .args .is) (s .args .t) (s .pre .0) _ _ refl refl z (eqb-true _ _ (sym (d .0) ∙ y)) (d .1) (d .2) (d .3),
     )
 
 chain-ok-requires : tie.Need-chain-ok-requires
@@ -192,7 +192,7 @@ returns-6 c =
     let f = ap finished (g .are) ∙ finished-of (inputs (s .args .s)) in
     let d = rw (pairs-read W (s .args .s) (s .args .is) (s .args .t) (s .pre .0), nn) at (c .read-draft .ensures) in
     let held = rule-held W (s .args .s) (s .args .is) (s .args .t) (s .pre .0) (i1 .if1 .left) (i2 .if2 .left ∙ ol) (λ z. i3 .if3 .left (nn ∙ z)) ck sa in
-    (d .0 ∙ held, λ y. acts-held W (s .args .s) (s .args .is) (s .args .t) (s .pre .0) _ _ refl refl (λ z. i3 .if3 .left (nn ∙ z)) ck sa (sym (d .0) ∙ y) (d .1) (d .2) (d .3))
+    (d .0 ∙ held, λ y. acts-held W (s .args .s) (s .args .is) (s .args .t) (s .pre .0) _ _ refl refl (λ z. i3 .if3 .left (nn ∙ z)) ck sa (sym (d .0) ∙ y) (d .1) (d .2) (d .3) (d .4))
 
 pub output-ok-spec : {M : Type 1} → statement M
 output-ok-spec =

@@ -1,4 +1,4 @@
--- `merges::writing::complete` meets its contract. Assumes nothing.
+-- `merges::writing::complete` meets its contract.
 use mathlib.Core.Path.{_∙_}
 use native.Mathlib.Omega.{arith}
 use borrow.Author.Needs.{needs}
@@ -17,9 +17,9 @@ write-entries-requires c κs =
     let s = c .before .before .before .before .before .before .before in
     let W = words (s .args .card .now) in
     let o = s .args .o in
-    let h = c .before .before .before .before .write-header in
+    let h = c .before .before .before .write-header in
     let hs = header (s .args .level) (s .args .t .terms) (s .args .t .postings) in
-    (omega (arith, h .kept .0, s .pre .0), s .pre .1, s .pre .3, rw (h .ensures) (chained-written (chain W (o .first) (o .blocks)) W 0 hs (o .first) (o .blocks) (s .pre .4)))
+    (omega (arith, h .kept .0, s .pre .0), s .pre .1, s .pre .3, rw (h .ensures) (chained-written (chain W (o .first) (o .blocks)) W 0 hs (o .first) (o .blocks) (s .pre .4)), s .pre .5)
 
 same-length : tie.Need-same-length
 same-length c = search needs
@@ -29,7 +29,7 @@ returns c =
     let s = c .before .before .before .before .before .before .before .before .before .before in
     let W = words (s .args .card .now) in
     let o = s .args .o in
-    let h = c .before .before .before .before .before .before .before .write-header in
+    let h = c .before .before .before .before .before .before .write-header in
     let hs = header (s .args .level) (s .args .t .terms) (s .args .t .postings) in
     c .before .before .write-entries .ensures ∙ rw (h .ensures, chain-written (chain W (o .first) (o .blocks)) W 0 hs (o .first) (o .blocks))
 

@@ -1,4 +1,4 @@
--- `merges::writing::next_list` meets its contract. Assumes nothing.
+-- `merges::writing::next_list` meets its contract.
 use mathlib.Core.Path.{_∙_}
 use lib.Dec.{eqb}
 use Rattle.lists.proofs.Bools.{by-test}
