@@ -1,20 +1,17 @@
 -- One head: put, taken, and moved.
-use mathlib.Core.Bool.{Bool, true}
 use mathlib.Core.List.{List, [], _∷_}
-use mathlib.Core.Path.{_≡_, refl, sym, ap, _∙_}
+use mathlib.Core.Path.{_≡_, refl, ap, _∙_}
 use Prim.Native.Nat.{ℕ, zero, suc, _+_, _-_, _*_, _/_, _<_, _≤_}
 use native.Mathlib.Omega.{arith}
-use lib.IntN.{ℤ, pos}
 use lib.ListN.{length, getD, set}
-use Rattle.keyed.specs.Keys.{Item, reach, rest, headVal, headFine}
-use Rattle.postings.specs.Pack.{wordCount, wordWindow, isPosting}
+use Rattle.keyed.specs.Keys.{reach, rest, headVal, headFine}
+use Rattle.postings.specs.Pack.{wordCount, isPosting}
 use Rattle.card.specs.Cursors.{headOf}
 use Rattle.partitions.specs.declared.Reader.{Reader}
 use Rattle.partitions.specs.Readers.{GoodReader, postingsAhead, movedReader}
-use Rattle.scans.specs.Keys.{keyOf}
 use Rattle.scans.specs.Items.{items, headKey}
 use Rattle.scans.proofs.Heads.{items-more, items-none, items-rest, take-head}
-use Rattle.scans.specs.Heads.{readerAt, ahead, view, Small, Kept}
+use Rattle.scans.specs.Heads.{readerAt, ahead, view, Kept}
 
 -- ten numbers
 deca : (P : List ℕ → Type 0) → ((a0 a1 a2 a3 a4 a5 a6 a7 a8 a9 : ℕ) → P (a0 ∷ a1 ∷ a2 ∷ a3 ∷ a4 ∷ a5 ∷ a6 ∷ a7 ∷ a8 ∷ a9 ∷ [])) → (h : List ℕ) → length h ≡ 10 → P h

@@ -1,5 +1,5 @@
 -- `scans::open_heads` meets its contract. The invariant: the first i heads are those of the first i partitions.
-use mathlib.Core.Path.{_≡_, refl, sym, ap, _∙_}
+use mathlib.Core.Path.{_≡_, _∙_}
 use Prim.Native.Nat.{_≤_, _+_, _*_, _-_}
 use native.Mathlib.Omega.{arith}
 use borrow.Author.Needs.{needs}
@@ -7,12 +7,11 @@ use borrow.Rule.Slice.PartMut.{mid-len}
 use mathlib.Core.List.{[]}
 use lib.ListN.{length}
 use Rattle.lists.proofs.Arrays.{unmapped, of-used}
-use Rattle.keyed.specs.Keys.{reach, topFrom}
+use Rattle.keyed.specs.Keys.{topFrom}
 use Rattle.words.specs.Words.{words}
 use Rattle.state.specs.Views.{noPartition}
 use Rattle.partitions.specs.Reading.{postingsOf}
 use Rattle.partitions.specs.Terms.{Readable}
-use Rattle.kway.specs.Parts.{parts}
 use Rattle.kway.proofs.Parts.{putIn, width, Opened, opened-none, opened-more, shown-more}
 use Rattle.kway.proofs.Turns.{top-none, top-more}
 use Rattle.scans.specs.Heads.{ahead, view, Kept, views}
