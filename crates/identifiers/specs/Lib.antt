@@ -2,3 +2,4 @@ pub mod Names
 pub mod Register
 pub mod Formed
 pub mod Chains
+pub mod Order
