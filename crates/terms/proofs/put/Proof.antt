@@ -1,0 +1,69 @@
+-- `terms::put` meets its contract: a spent list, and another.
+use mathlib.Core.Path.{_≡_, sym, _∙_}
+use native.Mathlib.Omega.{arith}
+use Rattle.words.specs.Words.{words}
+use Rattle.terms.specs.Heads.{coming, view}
+use Rattle.terms.proofs.Heads.{comes-none, put-none, put-some, viewed}
+use borrow.Author.Needs.{needs}
+use Rattle.terms.proofs.put.Statement.{statement}
+use Rattle.terms.proofs.put.Tie as tie
+
+slice-write-head : tie.Need-slice-write-head
+slice-write-head c = search needs
+
+slice-write-head-2 : tie.Need-slice-write-head-2
+slice-write-head-2 c = search needs
+
+same-length : tie.Need-same-length
+same-length c = search needs
+
+returns : tie.Need-returns
+returns c =
+    let s = c .before .before .before .before in
+    let W = words (s .args .card .now) in
+    let R = s .args .run .now in
+    let p = put-none W R (s .args .head .now) (s .pre .0) in
+    (p .0, p .1 ∙ sym (comes-none W R (s .args .place) (s .args .left) (c .if1 .taken)), p .2)
+
+word-of-requires : tie.Need-word-of-requires
+word-of-requires c κs = let s = c .before .before .before .before in (omega (arith, c .if1 .left), s .pre .1)
+
+add-top : tie.Need-add-top
+add-top c = search needs
+
+slice-write-head-3 : tie.Need-slice-write-head-3
+slice-write-head-3 c = search needs
+
+slice-write-head-4 : tie.Need-slice-write-head-4
+slice-write-head-4 c = search needs
+
+slice-write-head-5 : tie.Need-slice-write-head-5
+slice-write-head-5 c = search needs
+
+slice-write-head-6 : tie.Need-slice-write-head-6
+slice-write-head-6 c = search needs
+
+same-length-2 : tie.Need-same-length-2
+same-length-2 c = search needs
+
+returns-2 : tie.Need-returns-2
+returns-2 c =
+    let s = c .before .before .before .before .before in
+    put-some (words (s .args .card .now)) (s .args .run .now) (s .args .head .now) (s .pre .0) (s .args .place) (s .args .left) (c .word-of .result) (omega (arith, c .before .if1 .left)) (c .word-of .ensures) (s .pre .1)
+
+pub put-spec : {M : Type 1} → statement M
+put-spec =
+    tie.close
+    (tie.spec
+    slice-write-head
+    slice-write-head-2
+    same-length
+    returns
+    word-of-requires
+    add-top
+    slice-write-head-3
+    slice-write-head-4
+    slice-write-head-5
+    slice-write-head-6
+    same-length-2
+    returns-2)

@@ -1,0 +1,120 @@
+-- `terms::took` meets its contract: another head, the last of its list, one with another after it.
+use mathlib.Core.Path.{_≡_, sym, ap, _∙_}
+use mathlib.Core.List.{[], map}
+use Prim.Native.Nat.{_-_}
+use lib.Seq.{lt-length-set}
+use native.Mathlib.Omega.{arith}
+use mir.Syntax.{w16}
+use mir.Val.{SFits}
+use mir.Facts.{toZ-ofZ}
+use Rattle.words.specs.Words.{words}
+use Rattle.postings.specs.declared.Posting.{Posting}
+use Rattle.terms.specs.Heads.{itemOf, comes, view}
+use Rattle.terms.proofs.Heads.{comes-last, put-none, missed, some, hit, viewed}
+use borrow.Author.Needs.{needs}
+use Rattle.terms.proofs.took.Statement.{statement}
+use Rattle.terms.proofs.took.Tie as tie
+
+slice-read-top : tie.Need-slice-read-top
+slice-read-top c = search needs
+
+add-if1 : tie.Need-add-if1
+add-if1 c = search needs
+
+returns : tie.Need-returns
+returns c =
+    let s = c .before .before .before .before .before in
+    let v = view (words (s .args .card .now)) (s .args .run .now) (s .args .head .now) in
+    let m = missed (words (s .args .card .now)) (s .args .run .now) (s .args .key) v (λ q. c .if1 .taken (s .pre .0 .top ∙ q)) in
+    (s .pre .0, m .0, m .1, m .2, s .pre .0 .top)
+
+slice-read-word : tie.Need-slice-read-word
+slice-read-word c = search needs
+
+slice-read-place : tie.Need-slice-read-place
+slice-read-place c = search needs
+
+slice-read-left : tie.Need-slice-read-left
+slice-read-left c = search needs
+
+unpack-requires : tie.Need-unpack-requires
+unpack-requires c κs = search needs
+
+is-posting-requires : tie.Need-is-posting-requires
+is-posting-requires c κs = search needs
+
+slice-write-head : tie.Need-slice-write-head
+slice-write-head c = search needs
+
+slice-write-head-2 : tie.Need-slice-write-head-2
+slice-write-head-2 c = let s = c .before .before .before .before .before .before .before .before .before .before .before in lt-length-set (s .args .head .now) 0 0 (omega (arith, s .pre .0 .four))
+
+same-length : tie.Need-same-length
+same-length c = search needs
+
+returns-2 : tie.Need-returns-2
+returns-2 c =
+    let s = c .before .before .before .before .before .before .before .before .before .before .before .before in
+    let W = words (s .args .card .now) in
+    let R = s .args .run .now in
+    let h = s .args .head .now in
+    let u = c .before .before .before .unpack in
+    let f : SFits w16 (u .result .count) = search needs in
+    let l = some (words (s .args .card .now)) (s .args .run .now) (s .args .head .now) (s .pre .0) (s .args .key) (c .before .before .before .before .before .before .before .if1 .left) in
+    let one = comes-last W R _ _ l (s .pre .0 .lies) (c .before .if2 .taken) in
+    let t = hit (words (s .args .card .now)) (s .args .run .now) (s .args .head .now) (s .pre .0) (s .args .key) (c .before .before .before .before .before .before .before .if1 .left) [] one in
+    let p = put-none W R h (s .pre .0 .four) in
+    let v = viewed W R _ [] (p .1) in
+    (p .0, v ∙ t .0, toZ-ofZ f ∙ ap (λ (p : Posting). p .count) (u .ensures) ∙ t .1, c .before .before .is-posting .ensures ∙ t .2, p .2)
+
+after-requires : tie.Need-after-requires
+after-requires c κs =
+    let s = c .before .before .before .before .before .before .before .before .before .before .before in
+    let l = some (words (s .args .card .now)) (s .args .run .now) (s .args .head .now) (s .pre .0) (s .args .key) (c .before .before .before .before .before .before .if1 .left) in
+    (omega (arith, l, c .if2 .left), s .pre .0 .lies)
+
+sub-put : tie.Need-sub-put
+sub-put c =
+    let s = c .before .before .before .before .before .before .before .before .before .before .before .before .before in
+    omega (arith, some (words (s .args .card .now)) (s .args .run .now) (s .args .head .now) (s .pre .0) (s .args .key) (c .before .before .before .before .before .before .before .before .if1 .left))
+
+put-requires : tie.Need-put-requires
+put-requires c κs = let s = c .before .before .before .before .before .before .before .before .before .before .before .before .before in (s .pre .0 .four, c .before .after .ensures .0)
+
+same-length-2 : tie.Need-same-length-2
+same-length-2 c = search needs
+
+returns-3 : tie.Need-returns-3
+returns-3 c =
+    let s = c .before .before .before .before .before .before .before .before .before .before .before .before .before .before .before .before .before in
+    let W = words (s .args .card .now) in
+    let R = s .args .run .now in
+    let u = c .before .before .before .before .before .before .before .before .unpack in
+    let f : SFits w16 (u .result .count) = search needs in
+    let a = c .before .before .before .before .before .after .ensures in
+    let t = hit (words (s .args .card .now)) (s .args .run .now) (s .args .head .now) (s .pre .0) (s .args .key) (c .before .before .before .before .before .before .before .before .before .before .before .before .if1 .left) _ (a .1) in
+    let p = c .before .before .before .put .ensures in
+    let v = viewed W R _ _ (p .1) in
+    (p .0, v ∙ t .0, toZ-ofZ f ∙ ap (λ (p : Posting). p .count) (u .ensures) ∙ t .1, c .before .before .before .before .before .before .before .is-posting .ensures ∙ t .2, p .2)
+
+pub took-spec : {M : Type 1} → statement M
+took-spec =
+    tie.close
+    (tie.spec
+    slice-read-top
+    add-if1
+    returns
+    slice-read-word
+    slice-read-place
+    slice-read-left
+    unpack-requires
+    is-posting-requires
+    slice-write-head
+    slice-write-head-2
+    same-length
+    returns-2
+    after-requires
+    sub-put
+    put-requires
+    same-length-2
+    returns-3)

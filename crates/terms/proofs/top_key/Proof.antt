@@ -1,0 +1,71 @@
+-- `terms::top_key` meets its contract. The invariant: `top` is that of the heads before i.
+use mathlib.Core.Path.{_≡_, refl, _∙_}
+use Prim.Native.Nat.{_≤_, _-_}
+use native.Mathlib.Omega.{arith}
+use Rattle.words.specs.Words.{words}
+use Rattle.keyed.specs.Keys.{topFrom}
+use Rattle.kway.specs.Parts.{parts}
+use Rattle.kway.proofs.Parts.{all-at}
+use Rattle.kway.proofs.Turns.{top-turn}
+use Rattle.terms.specs.Heads.{view, Kept, views}
+use Rattle.terms.proofs.Heads.{reach-at}
+use borrow.Author.Needs.{needs}
+use Rattle.terms.proofs.top_key.Statement.{statement}
+use Rattle.terms.proofs.top_key.Tie as tie
+
+abbrev Inv-loop : tie.InvT-loop
+Inv-loop card run heads n top₀ i₀ top i = (i ≤ n) × (top ≡ topFrom 0 (views (words card) run i heads))
+
+abbrev μ-loop : tie.MeasureT-loop
+μ-loop card run heads n top₀ i₀ top i = n - i
+
+loop-holds : tie.Need-loop-holds Inv-loop μ-loop
+unfolding parts
+loop-holds c = (omega arith, refl)
+
+mul-at : tie.Need-mul-at Inv-loop μ-loop
+mul-at c = omega (arith, c .before .before .before .before .before .pre)
+
+mul-larger : tie.Need-mul-larger Inv-loop μ-loop
+mul-larger c = omega (arith, c .before .before .before .before .before .pre)
+
+shared-slice-read-larger : tie.Need-shared-slice-read-larger Inv-loop μ-loop
+shared-slice-read-larger c = omega (arith, c .before .before .before .before .before .before .pre)
+
+larger-requires : tie.Need-larger-requires Inv-loop μ-loop
+larger-requires c κs = search needs
+
+add-i : tie.Need-add-i Inv-loop μ-loop
+add-i c = omega arith
+
+loop-less : tie.Need-loop-less Inv-loop μ-loop
+loop-less c = omega arith
+
+loop-again : tie.Need-loop-again Inv-loop μ-loop
+loop-again c =
+    let a = c .before .before .before in
+    let s = a .before .before .before .before in
+    let W = words (s .args .card .now) in
+    let R = s .args .run .now in
+    let H = s .args .heads .now in
+    let i = a .loop .i in
+    (omega arith, c .larger .ensures ∙ top-turn (view W R) 4 H i (a .loop .top) _ (reach-at W R H i (all-at (Kept W R) 4 (s .args .n) H (s .pre .2) i (c .before .before .loop-test .taken))) (a .loop .inv .1))
+
+returns : tie.Need-returns Inv-loop μ-loop
+returns c = let e : c .before .loop .i ≡ c .before .before .before .before .before .args .n = omega arith in rw e at (c .before .loop .inv .1)
+
+pub top-key-spec : {M : Type 1} → statement M
+top-key-spec =
+    tie.close
+    (tie.spec
+    Inv-loop
+    μ-loop
+    loop-holds
+    mul-at
+    mul-larger
+    shared-slice-read-larger
+    larger-requires
+    add-i
+    loop-less
+    loop-again
+    returns)

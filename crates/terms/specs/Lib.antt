@@ -1,0 +1,3 @@
+pub mod Heads
+pub mod Both
+pub mod Judged

@@ -1,0 +1,81 @@
+// Judging an identifier's lists: one k-way merge over its lists on the card and its part of the run.
+ghost use mathlib.Core.Path.{_≡_};
+ghost use mathlib.Core.List.{map};
+ghost use Prim.Native.Nat.{_+_, _*_, _≤_, _<_};
+ghost use lib.ListN.{length};
+ghost use Rattle.keyed.specs.Keys.{headVals};
+ghost use Rattle.keyed.specs.Groups.{topAll, moveAll};
+ghost use Rattle.words.specs.Words.{words as wordsOf};
+ghost use Rattle.postings.specs.Sums.{isAbove};
+ghost use Rattle.terms.specs.Judged.{totalZ, fineAt, toldOf};
+ghost use Rattle.terms.specs.Both.{Ready, both as bothOf};
+
+// What is taken under a window: whether it is well formed with sums in range, whether it counts, and one more than the greatest window to come.
+struct Judged {
+    pub fine: bool,
+    pub counts: bool,
+    pub next: u32,
+}
+
+// In how many windows the sum is above 0.
+pub enum Told {
+    Malformed,
+    Windows(u32),
+}
+
+// Takes the heads that have the key. The sum is judged without the run and with it.
+fn judge_window(card: &[u8], run: &[u32], heads: &mut [u32], n: usize, key: u32) -> Judged
+    requires { ⌜ (length (now heads) ≡ 4 * n + 4) × (n ≤ 51) × (key < 4294967295) × Ready (wordsOf (now card)) (now run) n (now heads) ⌝ }
+    ensures heads { λ r. ⌜ (length (now (heads .exit)) ≡ length (now (heads .entry)))
+        × Ready (wordsOf (now (card .entry))) (now (run .entry)) n (now (heads .exit))
+        × (bothOf (wordsOf (now (card .entry))) (now (run .entry)) n (now (heads .exit))
+            ≡ moveAll key (bothOf (wordsOf (now (card .entry))) (now (run .entry)) n (now (heads .entry)))) ⌝ }
+    ensures judged { λ r. ⌜ (r .fine ≡ fineAt key (bothOf (wordsOf (now (card .entry))) (now (run .entry)) n (now (heads .entry))))
+        × (r .counts ≡ isAbove (totalZ (map (headVals key) (bothOf (wordsOf (now (card .entry))) (now (run .entry)) n (now (heads .entry))))))
+        × (r .next ≡ topAll 0 (bothOf (wordsOf (now (card .entry))) (now (run .entry)) n (now (heads .exit)))) ⌝ }
+{
+    let at = 4 * n;
+    let end = at + 4;
+    let t = super::take(card, run, &mut heads[0..at], n, key);
+    let q = super::took(card, run, &mut heads[at..end], key);
+    let sum = t.sum;
+    let total = kway::added(sum, q.count);
+    let ranges = kway::both(kway::in_range(sum), kway::in_range(total));
+    let formed = kway::both(t.fine, q.fine);
+    let fine = kway::both(formed, ranges);
+    let counts = kway::above(total);
+    let next = kway::larger(t.next, q.reach);
+    Judged {
+        fine: fine,
+        counts: counts,
+        next: next,
+    }
+}
+
+// The whole merge, by falling window. No list may reach a window that was passed. The heads are spent by it.
+pub fn judge(card: &[u8], run: &[u32], heads: &mut [u32], n: usize) -> Told
+    requires { ⌜ (length (now heads) ≡ 4 * n + 4) × (n ≤ 51) × Ready (wordsOf (now card)) (now run) n (now heads) ⌝ }
+    ensures { λ r. ⌜ r ≡ toldOf (bothOf (wordsOf (now (card .entry))) (now (run .entry)) n (now (heads .entry))) ⌝ }
+{
+    let mut top = super::top_key(card, run, heads, n + 1);
+    let mut bound: u32 = 65536;
+    let mut count: u32 = 0;
+    while 0 < top {
+        if bound < top {
+            return Told::Malformed;
+        }
+        let w = top - 1;
+        let t = judge_window(card, run, heads, n, w);
+        let fine = t.fine;
+        if !fine {
+            return Told::Malformed;
+        }
+        let counts = t.counts;
+        if counts {
+            count += 1;
+        }
+        top = t.next;
+        bound = w;
+    }
+    Told::Windows(count)
+}
