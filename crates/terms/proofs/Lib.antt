@@ -1,3 +1,5 @@
 pub mod Heads
 pub mod Fronts
 pub mod Steps
+pub mod Runs
+pub mod Puts

@@ -1,3 +1,4 @@
 pub mod Heads
 pub mod Both
 pub mod Judged
+pub mod Opening

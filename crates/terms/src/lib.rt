@@ -14,6 +14,7 @@ ghost use Rattle.kway.specs.Parts.{parts};
 ghost use Rattle.terms.specs.Heads.{wordAt, comes, Lies, coming, view, Kept, views};
 
 pub mod judging; // judging what is read of an identifier
+pub mod opening; // finding the lists of an identifier
 
 // The word at a place.
 fn word_of(card: &[u8], run: &[u32], place: u32, left: u32) -> u32

@@ -1,0 +1,152 @@
+-- `terms::opening::open_lists` meets its contract. The invariant: the first i heads are those of the identifier's lists in the first i partitions.
+use mathlib.Core.List.{map}
+use mathlib.Core.Path.{_≡_, refl, ap, _∙_}
+use Prim.Native.Nat.{_≤_, _-_, _+_, _*_}
+use native.Mathlib.Omega.{arith}
+use lib.ListN.{length, drop, length-drop}
+use lib.Seq.{length-take-le}
+use Rattle.lists.proofs.Arrays.{unmapped, of-used}
+use Rattle.words.specs.Words.{words}
+use Rattle.postings.specs.Pack.{posted}
+use Rattle.postings.specs.Sums.{under}
+use Rattle.state.specs.Views.{noPartition}
+use Rattle.partitions.specs.Reading.{postingsOf}
+use Rattle.partitions.specs.Terms.{Readable}
+use Rattle.kway.proofs.Parts.{put-length}
+use Rattle.terms.specs.Heads.{Kept}
+use Rattle.terms.specs.Opening.{listed}
+use Rattle.terms.proofs.Puts.{place-lies, place-comes, Put, put-first, put-next}
+use borrow.Author.Needs.{needs}
+use Rattle.terms.proofs.opening.open_lists.Statement.{statement}
+use Rattle.terms.proofs.opening.open_lists.Tie as tie
+
+abbrev Inv-loop : tie.InvT-loop
+Inv-loop card run heads₀ id ps n i₀ heads i = (length (ps .records) ≡ 51) × (length heads ≡ length heads₀) × (i ≤ n) × Put (Kept (words card) run) (listed (words card) run id) (λ p. under id (postingsOf (words card) p)) i heads (ps .records)
+
+abbrev μ-loop : tie.MeasureT-loop
+μ-loop card run heads₀ id ps n i₀ heads i = n - i
+
+cast-n : tie.Need-cast-n Inv-loop μ-loop
+cast-n c = omega arith
+
+loop-holds : tie.Need-loop-holds Inv-loop μ-loop
+loop-holds c = (search (unmapped, needs), refl, omega arith, put-first _ _ _ _ _)
+
+mul-p : tie.Need-mul-p Inv-loop μ-loop
+mul-p c = omega arith
+
+element-copy-out-p : tie.Need-element-copy-out-p Inv-loop μ-loop
+element-copy-out-p c = omega arith
+
+find-list-requires : tie.Need-find-list-requires Inv-loop μ-loop
+find-list-requires c κs =
+    let a = c .before .before in
+    let s = c .before .before .before .before .before .before in
+    let len = a .loop .inv .0 in
+    of-used (Readable (words (s .args .card .now))) noPartition (s .args .t4 .records) (s .args .t4 .used) (a .loop .i) (omega arith) (omega arith) (s .pre .2)
+
+cast-place : tie.Need-cast-place Inv-loop μ-loop
+cast-place c = omega arith
+
+mul-place : tie.Need-mul-place Inv-loop μ-loop
+mul-place c = omega arith
+
+cast-place-2 : tie.Need-cast-place-2 Inv-loop μ-loop
+cast-place-2 c = omega arith
+
+add-place : tie.Need-add-place Inv-loop μ-loop
+add-place c = omega arith
+
+mul-at : tie.Need-mul-at Inv-loop μ-loop
+mul-at c = omega arith
+
+add-end : tie.Need-add-end Inv-loop μ-loop
+add-end c = omega arith
+
+mul-put : tie.Need-mul-put Inv-loop μ-loop
+mul-put c = omega arith
+
+sub-put : tie.Need-sub-put Inv-loop μ-loop
+sub-put c = omega arith
+
+part-put-start : tie.Need-part-put-start Inv-loop μ-loop
+part-put-start c = omega arith
+
+part-put-end : tie.Need-part-put-end Inv-loop μ-loop
+part-put-end c = omega (arith, c .before .before .before .before .before .loop .inv .1, c .before .before .before .before .before .before .before .before .before .pre .1)
+
+put-requires : tie.Need-put-requires Inv-loop μ-loop
+put-requires c κs =
+    let a = c .before .before .before .before .before .before in
+    let s = c .before .before .before .before .before .before .before .before .before .before in
+    let W = words (s .args .card .now) in
+    let i = a .loop .i in
+    let l = c .before .before .before .find-list in
+    let w : 4 * i + 4 - 4 * i ≡ 4 = omega arith in
+    let len = length-take-le 4 (drop (4 * i) (a .loop .heads)) (omega (arith, length-drop (4 * i) (a .loop .heads), a .loop .inv .1, s .pre .1, c .before .before .before .before .before .loop-test .taken)) in
+    (rw w len, place-lies W (s .args .run .now) (l .result) (l .ensures .1))
+
+add-i : tie.Need-add-i Inv-loop μ-loop
+add-i c = omega arith
+
+loop-less : tie.Need-loop-less Inv-loop μ-loop
+loop-less c = omega arith
+
+loop-again : tie.Need-loop-again Inv-loop μ-loop
+loop-again c =
+    let a = c .before .before .before .before .before .before .before .before .before in
+    let s = c .before .before .before .before .before .before .before .before .before .before .before .before .before in
+    let W = words (s .args .card .now) in
+    let R = s .args .run .now in
+    let v = a .loop .inv in
+    let i = a .loop .i in
+    let l = c .before .before .before .before .before .before .find-list in
+    let p = c .before .before .put in
+    let h = p .ensures in
+    let inside : 4 * i + 4 ≤ length (a .loop .heads) = omega (arith, v .1, s .pre .1, c .before .before .before .before .before .before .before .before .loop-test .taken) in
+    let same = ap (map (posted (s .args .id))) (h .1 ∙ place-comes W R (l .result) (l .ensures .1)) ∙ l .ensures .0 in
+    (
+      v .0,
+      put-length 4 (a .loop .heads) (p .last .1 .1 .0) i inside (h .0 .four) ∙ v .1,
+      omega (arith, c .before .before .before .before .before .before .before .before .loop-test .taken),
+      put-next (Kept W R) (listed W R (s .args .id)) (λ p. under (s .args .id) (postingsOf W p)) i (a .loop .heads) (p .last .1 .1 .0) (s .args .t4 .records) noPartition (v .3) inside (h .0 .four) (omega (arith, v .0, s .pre .0, c .before .before .before .before .before .before .before .before .loop-test .taken)) (h .0) same,
+    )
+
+same-length : tie.Need-same-length Inv-loop μ-loop
+same-length c = c .before .loop .inv .1
+
+returns : tie.Need-returns Inv-loop μ-loop
+returns c =
+    let a = c .before in
+    let s = c .before .before .before .before .before in
+    let e : a .loop .i ≡ s .args .t4 .used = omega arith in
+    let t = rw e at (a .loop .inv .3) in
+    (a .loop .inv .1, t .all, t .lists)
+
+pub open-lists-spec : {M : Type 1} → statement M
+open-lists-spec =
+    tie.close
+    (tie.spec
+    Inv-loop
+    μ-loop
+    cast-n
+    loop-holds
+    mul-p
+    element-copy-out-p
+    find-list-requires
+    cast-place
+    mul-place
+    cast-place-2
+    add-place
+    mul-at
+    add-end
+    mul-put
+    sub-put
+    part-put-start
+    part-put-end
+    put-requires
+    add-i
+    loop-less
+    loop-again
+    same-length
+    returns)
