@@ -3,3 +3,8 @@ pub mod Fronts
 pub mod Steps
 pub mod Runs
 pub mod Puts
+pub mod Ranges
+pub mod Stored
+pub mod Opened
+pub mod Counts
+pub mod Serving

@@ -2,3 +2,4 @@ pub mod Heads
 pub mod Both
 pub mod Judged
 pub mod Opening
+pub mod Terms

@@ -1,0 +1,63 @@
+-- `terms::counting::weigh` meets its contract: two numbers are put in front of the heads.
+use mathlib.Core.Path.{_≡_, refl, sym, ap, ap₂, _∙_}
+use Prim.Native.Nat.{ℕ, _*_, _≤_}
+use native.Mathlib.Omega.{arith}
+use lib.ListN.{length, drop, length-drop}
+use lib.Seq.{lt-length-set}
+use Rattle.keyed.specs.Groups.{Group}
+use Rattle.words.specs.Words.{words}
+use Rattle.weights.proofs.Laws.{idf-most}
+use Rattle.terms.proofs.Counts.{rest-two}
+use Rattle.terms.proofs.Serving.{weighed}
+use borrow.Author.Needs.{needs}
+use Rattle.terms.proofs.counting.weigh.Statement.{statement}
+use Rattle.terms.proofs.counting.weigh.Tie as tie
+
+sub-top-key : tie.Need-sub-top-key
+sub-top-key c = search needs
+
+part-top-key-start : tie.Need-part-top-key-start
+part-top-key-start c = search needs
+
+part-top-key-end : tie.Need-part-top-key-end
+part-top-key-end c = search needs
+
+top-key-requires : tie.Need-top-key-requires
+top-key-requires c κs =
+    let s = c .before .before .before .before .before in
+    let G = s .args .group .now in
+    let two : 2 ≤ length G = omega (arith, s .pre .0) in
+    (rw (rest-two G two) (omega (arith, length-drop 2 G, s .pre .0)), omega (arith, s .pre .1), rw (rest-two G two) (s .pre .2))
+
+slice-write-group : tie.Need-slice-write-group
+slice-write-group c = search needs
+
+idf-weight-requires : tie.Need-idf-weight-requires
+idf-weight-requires c κs = search needs
+
+slice-write-group-2 : tie.Need-slice-write-group-2
+slice-write-group-2 c = let s = c .before .before .before .before .before .before .before in lt-length-set (s .args .group .now) 0 (c .before .top-key .result) (omega (arith, s .pre .0))
+
+same-length : tie.Need-same-length
+same-length c = search needs
+
+returns : tie.Need-returns
+returns c =
+    let s = c .before .before .before .before .before .before .before in
+    let G = s .args .group .now in
+    let two : 2 ≤ length G = omega (arith, s .pre .0) in
+    weighed (words (s .args .card .now)) (s .args .run .now) (s .args .m) G (s .pre .0) (s .pre .2) _ _ (s .args .n) (s .args .f) (rw (rest-two G two) at (c .before .top-key .ensures)) (c .idf-weight .ensures)
+
+pub weigh-spec : {M : Type 1} → statement M
+weigh-spec =
+    tie.close
+    (tie.spec
+    sub-top-key
+    part-top-key-start
+    part-top-key-end
+    top-key-requires
+    slice-write-group
+    idf-weight-requires
+    slice-write-group-2
+    same-length
+    returns)
