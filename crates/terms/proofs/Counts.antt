@@ -113,3 +113,20 @@ put-behind-long (x ∷ []) P h l = absurd (omega arith)
 put-behind-long (x ∷ y ∷ G) P h l =
     let e : drop (length (x ∷ y ∷ G) - 2) G ≡ [] = drop-of-length-le G {i = length (x ∷ y ∷ G) - 2} (omega arith) in
     rw e (rw (length-append P []) (omega arith))
+
+-- and the first number
+pub record Topped (G P : List ℕ) (x : ℕ) (F : List ℕ) : Type 0 where
+  pub first : getD F 0 0 ≡ x
+  pub second : getD F 1 0 ≡ getD G 1 0
+  pub others : drop 2 F ≡ P
+  pub long : length F ≡ length G
+
+pub topped : (G P : List ℕ) (x : ℕ) → 2 ≤ length G → length P ≡ length G - 2 → Topped G P x (set (putMid 2 (length G - 2) G P) 0 x)
+topped [] P x h l = absurd (omega arith)
+topped (y ∷ []) P x h l = absurd (omega arith)
+topped (y ∷ z ∷ G) P x h l = record {
+  first = refl;
+  second = refl;
+  others = put-behind (y ∷ z ∷ G) P h l;
+  long = put-behind-long (y ∷ z ∷ G) P h l;
+}

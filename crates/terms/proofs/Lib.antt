@@ -8,3 +8,4 @@ pub mod Stored
 pub mod Opened
 pub mod Counts
 pub mod Serving
+pub mod Joined

@@ -16,6 +16,7 @@ ghost use Rattle.terms.specs.Heads.{wordAt, comes, Lies, coming, view, K
 pub mod judging; // judging what is read of an identifier
 pub mod opening; // finding the lists of an identifier
 pub mod counting; // one identifier: judged, and kept as a term
+pub mod scoring; // the second pass, over all terms together
 
 // The word at a place.
 fn word_of(card: &[u8], run: &[u32], place: u32, left: u32) -> u32

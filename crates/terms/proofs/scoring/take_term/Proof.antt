@@ -1,0 +1,125 @@
+-- `terms::scoring::take_term` meets its contract: a term that is not at the window, and one that is.
+use mathlib.Core.Path.{_≡_, refl, sym, ap, _∙_}
+use Prim.Native.Nat.{ℕ, _*_, _≤_}
+use native.Mathlib.Omega.{arith}
+use mir.Facts.{toZ-ofZ}
+use mir.Syntax.{w32}
+use mir.Val.{SFits}
+use lib.Dec.{ltb}
+use lib.ListN.{length, getD, drop, length-drop}
+use Rattle.words.specs.Words.{words}
+use Rattle.weights.specs.Weights.{tfWeight}
+use Rattle.postings.specs.Sums.{above}
+use Rattle.partitions.specs.Formed.{inRange}
+use Rattle.terms.proofs.Counts.{rest-two}
+use Rattle.terms.proofs.Joined.{passed-over, after-kept, after-term, after-top, score-most}
+use borrow.Author.Needs.{needs}
+use Rattle.terms.proofs.scoring.take_term.Statement.{statement}
+use Rattle.terms.proofs.scoring.take_term.Tie as tie
+
+slice-read-top : tie.Need-slice-read-top
+slice-read-top c = search needs
+
+add-if1 : tie.Need-add-if1
+add-if1 c = search needs
+
+returns : tie.Need-returns
+returns c =
+    let s = c .before .before .before .before .before in
+    let W = words (s .args .card .now) in
+    let R = s .args .run .now in
+    let G = s .args .group .now in
+    let two : 2 ≤ length G = omega (arith, s .pre .0 .long) in
+    let p = passed-over W R (s .args .m) (s .args .key) G (s .pre .0) (s .pre .3) (c .if1 .taken) in
+    ((s .pre .0, p .0), (p .1, omega arith, p .2, s .pre .0 .top))
+
+slice-read-weight : tie.Need-slice-read-weight
+slice-read-weight c = search needs
+
+sub-take : tie.Need-sub-take
+sub-take c = search needs
+
+part-take-start : tie.Need-part-take-start
+part-take-start c = search needs
+
+part-take-end : tie.Need-part-take-end
+part-take-end c = search needs
+
+take-requires : tie.Need-take-requires
+take-requires c κs =
+    let s = c .before .before .before .before .before .before .before in
+    let W = words (s .args .card .now) in
+    let R = s .args .run .now in
+    let G = s .args .group .now in
+    let two : 2 ≤ length G = omega (arith, s .pre .0 .long) in
+    rw (rest-two G two) (omega (arith, length-drop 2 G, s .pre .0 .long), omega (arith, s .pre .1), omega (arith, s .pre .2), s .pre .0 .heads)
+
+slice-write-group : tie.Need-slice-write-group
+slice-write-group c = search needs
+
+count-of-requires : tie.Need-count-of-requires
+count-of-requires c κs =
+    let s = c .before .before .before .before .before .before .before .before .before .before .before in
+    let W = words (s .args .card .now) in
+    let R = s .args .run .now in
+    let G = s .args .group .now in
+    let two : 2 ≤ length G = omega (arith, s .pre .0 .long) in
+    let t = c .before .before .before .take in
+    let u = rw (rest-two G two) at (t .ensures) in
+    let f : SFits w32 (t .result .sum) = search needs in
+    rw (toZ-ofZ f) (ap inRange (u .1 .0) ∙ s .pre .4)
+
+tf-weight-requires : tie.Need-tf-weight-requires
+tf-weight-requires c κs = search needs
+
+mul-score : tie.Need-mul-score
+mul-score c =
+    let s = c .before .before .before .before .before .before .before .before .before .before .before .before .before in
+    let z = score-most (c .before .count-of .result) (getD (s .args .group .now) 1 0) (c .before .count-of .ensures .1) (s .pre .0 .light) in
+    rw (c .tf-weight .ensures .0) (omega (arith, z))
+
+same-length : tie.Need-same-length
+same-length c = search needs
+
+returns-2 : tie.Need-returns-2
+returns-2 c =
+    let s = c .before .before .before .before .before .before .before .before .before .before .before .before .before in
+    let W = words (s .args .card .now) in
+    let R = s .args .run .now in
+    let G = s .args .group .now in
+    let two : 2 ≤ length G = omega (arith, s .pre .0 .long) in
+    let t = c .before .before .before .before .before .take in
+    let u = rw (rest-two G two) at (t .ensures) in
+    let f : SFits w32 (t .result .sum) = search needs in
+    let n = c .before .count-of .ensures .0 ∙ ap above (toZ-ofZ f ∙ u .1 .0) in
+    let z = score-most (c .before .count-of .result) (getD G 1 0) (c .before .count-of .ensures .1) (s .pre .0 .light) in
+    let X = t .last .1 .1 .0 in
+    let w = c .tf-weight .ensures .0 in
+    (
+      (after-kept W R (s .args .m) (s .args .key) G (s .pre .0) X (t .result .next) (u .0 .0) (u .0 .1) (u .0 .2) (u .1 .2), after-term W R (s .args .m) (s .args .key) G (s .pre .0) X (t .result .next) (u .0 .0) (u .0 .1) (u .0 .2) (u .1 .2)),
+      (
+        ap (λ (x : ℕ). x * getD G 1 0) (w ∙ ap tfWeight n),
+        rw w z,
+        ap (ltb 0) n,
+        after-top W R (s .args .m) (s .args .key) G (s .pre .0) X (t .result .next) (u .0 .0) (u .0 .1) (u .0 .2) (u .1 .2),
+      ),
+    )
+
+pub take-term-spec : {M : Type 1} → statement M
+take-term-spec =
+    tie.close
+    (tie.spec
+    slice-read-top
+    add-if1
+    returns
+    slice-read-weight
+    sub-take
+    part-take-start
+    part-take-end
+    take-requires
+    slice-write-group
+    count-of-requires
+    tf-weight-requires
+    mul-score
+    same-length
+    returns-2)

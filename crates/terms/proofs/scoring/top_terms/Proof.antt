@@ -1,0 +1,90 @@
+-- `terms::scoring::top_terms` meets its contract. The invariant: `top` is that of the terms before j.
+use mathlib.Core.Path.{_≡_, refl, _∙_}
+use Prim.Native.Nat.{_≤_, _+_, _*_, _-_}
+use native.Mathlib.Omega.{arith}
+use Rattle.words.specs.Words.{words}
+use Rattle.keyed.specs.Groups.{topAll}
+use Rattle.kway.specs.Parts.{parts}
+use Rattle.kway.proofs.Parts.{ends, all-at}
+use Rattle.terms.specs.Terms.{KeptGroup, termsOf}
+use Rattle.terms.specs.Scores.{groupsIn}
+use Rattle.terms.proofs.Joined.{terms-turn, group-reach}
+use borrow.Author.Needs.{needs}
+use Rattle.terms.proofs.scoring.top_terms.Statement.{statement}
+use Rattle.terms.proofs.scoring.top_terms.Tie as tie
+
+abbrev Inv-loop : tie.InvT-loop
+Inv-loop card run heads g m size top₀ j₀ top j = (j ≤ g) × (top ≡ topAll 0 (groupsIn (termsOf (words card) run m j heads)))
+
+abbrev μ-loop : tie.MeasureT-loop
+μ-loop card run heads g m size top₀ j₀ top j = g - j
+
+mul-size : tie.Need-mul-size Inv-loop μ-loop
+mul-size c = omega (arith, c .before .before .before .pre .2)
+
+add-size : tie.Need-add-size Inv-loop μ-loop
+add-size c = omega (arith, c .before .before .before .pre .2)
+
+loop-holds : tie.Need-loop-holds Inv-loop μ-loop
+unfolding parts
+loop-holds c = (omega arith, refl)
+
+mul-at : tie.Need-mul-at Inv-loop μ-loop
+mul-at c =
+    let s = c .before .before .before .before .before in
+    let e = ends (4 * s .args .m + 2) (c .before .loop .j) (s .args .g) (c .loop-test .taken) in
+    omega (arith, e, s .pre .0, s .pre .1, s .pre .2)
+
+mul-larger : tie.Need-mul-larger Inv-loop μ-loop
+mul-larger c =
+    let s = c .before .before .before .before .before in
+    let e = ends (4 * s .args .m + 2) (c .before .loop .j) (s .args .g) (c .loop-test .taken) in
+    omega (arith, e, s .pre .0, s .pre .1, s .pre .2)
+
+shared-slice-read-larger : tie.Need-shared-slice-read-larger Inv-loop μ-loop
+shared-slice-read-larger c =
+    let s = c .before .before .before .before .before .before in
+    let e = ends (4 * s .args .m + 2) (c .before .before .loop .j) (s .args .g) (c .before .loop-test .taken) in
+    omega (arith, e, s .pre .0, s .pre .1, s .pre .2)
+
+larger-requires : tie.Need-larger-requires Inv-loop μ-loop
+larger-requires c κs = search needs
+
+add-j : tie.Need-add-j Inv-loop μ-loop
+add-j c = omega arith
+
+loop-less : tie.Need-loop-less Inv-loop μ-loop
+loop-less c = omega arith
+
+loop-again : tie.Need-loop-again Inv-loop μ-loop
+loop-again c =
+    let a = c .before .before .before in
+    let s = c .before .before .before .before .before .before .before in
+    let W = words (s .args .card .now) in
+    let R = s .args .run .now in
+    let m = s .args .m in
+    let j = a .loop .j in
+    let H = s .args .heads .now in
+    let test = c .before .before .loop-test .taken in
+    (omega (arith, test), c .larger .ensures ∙ terms-turn W R m H j (a .loop .top) _ (group-reach W R m H j (all-at (KeptGroup W R m) (4 * m + 2) (s .args .g) H (s .pre .3) j test)) (a .loop .inv .1))
+
+returns : tie.Need-returns Inv-loop μ-loop
+returns c = let e : c .before .loop .j ≡ c .before .before .before .before .before .args .g = omega arith in rw e at (c .before .loop .inv .1)
+
+pub top-terms-spec : {M : Type 1} → statement M
+top-terms-spec =
+    tie.close
+    (tie.spec
+    Inv-loop
+    μ-loop
+    mul-size
+    add-size
+    loop-holds
+    mul-at
+    mul-larger
+    shared-slice-read-larger
+    larger-requires
+    add-j
+    loop-less
+    loop-again
+    returns)
