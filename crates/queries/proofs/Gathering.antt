@@ -6,12 +6,12 @@ use Prim.Native.Nat.{ℕ, _+_, _*_, _<_, _≤_}
 use native.Mathlib.Numerals.{add-one}
 use native.Mathlib.Omega.{arith}
 use lib.Dec.{ltb}
-use lib.ListN.{length, getD, take, drop, set, length-take, length-append, drop-of-length-le, List·getD-map}
-use lib.Seq.{drop-cons, take-suc, take-all, take-append-le, set-out}
-use borrow.Author.Tests.{ltb-true, ltb-false, lt-ltb, le-ltb}
+use lib.ListN.{length, getD, take, drop, length-take, length-append, drop-of-length-le, List·getD-map}
+use lib.Seq.{drop-cons, take-suc, take-all, take-append-le}
+use borrow.Author.Tests.{lt-ltb, le-ltb}
 use denote.Ref.{RefT, now}
 use Rattle.lists.specs.Lists.{keep, every, totalBy}
-use Rattle.lists.proofs.Bools.{by-test}
+use Rattle.lists.specs.All.{AllOf}
 use Rattle.lists.proofs.Runs.{never}
 use Rattle.lists.proofs.Tests.{keep-append}
 use Rattle.postings.specs.Sums.{under}
@@ -19,12 +19,13 @@ use Rattle.state.specs.declared.State.{State}
 use Rattle.identifiers.specs.Names.{Name, numberOf, numbersOf}
 use Rattle.partitions.specs.Reading.{stored}
 use Rattle.partitions.specs.Formed.{identifierFormed}
-use Rattle.matches.specs.declared.Term.{Term}
-use Rattle.matches.specs.declared.Opened.{Opened}
-use Rattle.matches.specs.Joint.{five, noTerms}
-use Rattle.matches.specs.Served.{Serves, Serving, OpenedFor}
+use Rattle.kway.specs.Parts.{part, parts}
+use Rattle.kway.proofs.Parts.{putIn, all-more, put-here, map-more}
+use Rattle.terms.specs.declared.counting.Counted.{Counted}
+use Rattle.terms.specs.Terms.{Term, KeptGroup, termOf, termsOf, Serves, CountedFor}
+use Rattle.terms.proofs.Fronts.{parts-front}
 use Rattle.queries.specs.declared.judging.Known.{Known}
-use Rattle.queries.specs.Gathered.{KeptOf, storedUnder, Gathered}
+use Rattle.queries.specs.Gathered.{storedUnder, Serving, none, more, Keeps, KeptOf, Gathered}
 
 -- what `getD` gives past the end of identifiers that are lent
 abbrev pub nothing : RefT (List ℕ)
@@ -40,72 +41,61 @@ total-more : (f : ℕ → ℕ) (is : List ℕ) (i : ℕ) → totalBy f (is ++ (i
 total-more f [] i = omega arith
 total-more f (j ∷ is) i = let r = total-more f is i in omega arith
 
-module _ (W : List ℕ) (s : State) where
-  served-more : (is : List ℕ) (ts : List Term) (i : ℕ) (t : Term) → length is < length ts → Serving W s is ts → Serves W s i t → Serving W s (is ++ (i ∷ [])) (set ts (length is) t)
-  unfolding Serving
-  served-more is [] i t h v w = absurd (omega arith)
-  served-more [] (u ∷ ts) i t h v w = (w, v .1)
-  served-more (j ∷ is) (u ∷ ts) i t h v w = (v .0, served-more is ts i t (omega arith) (v .1) w)
+parts-put : (w n : ℕ) (H P : List ℕ) → w * n + w ≤ length H → length P ≡ w → parts w (n + 1) (putIn w H P n) ≡ parts w n H ++ (P ∷ [])
+unfolding parts
+parts-put w n H P h l = rw (add-one n, parts-front w n H _ (omega arith), put-here w H P n h l)
 
-  -- k has the terms of the first five of the identifiers
-  pub record Keeps (is : List ℕ) (k : Known) : Type 0 where
-    pub used : k .used ≡ length (take 5 is)
-    pub served : Serving W s (take 5 is) (five (k .terms))
-    pub taken : k .taken ≡ storedUnder W s (take 5 is)
-    pub few : k .taken ≤ 3342464 * k .used
+module _ (W R : List ℕ) (s : State) where
+  -- the numbers of a term
+  abbrev size : ℕ
+  size = 4 * (s .partitions .used + 1) + 2
+
+  served-more : (is : List ℕ) (ts : List Term) (i : ℕ) (t : Term) → Serving W s is ts → Serves W s i t → Serving W s (is ++ (i ∷ [])) (ts ++ (t ∷ []))
+  served-more [] [] i t none w = more w none
+  served-more (j ∷ is) (u ∷ ts) i t (more v r) w = more v (served-more is ts i t r w)
 
   -- at first none
-  pub keeps-none : (k : Known) → k .used ≡ 0 → k .taken ≡ 0 → k .terms ≡ noTerms → Keeps [] k
-  unfolding Serving
-  keeps-none k u t e = record { used = u; served = rw e (refl, (refl, (refl, (refl, (refl, tt))))); taken = t; few = omega arith }
+  pub keeps-none : (k : Known) (H : List ℕ) → k .used ≡ 0 → k .taken ≡ 0 → Keeps W R s [] k H
+  unfolding parts AllOf
+  keeps-none k H u t = record { used = u; kept = rw u tt; served = rw u none; taken = t }
 
-  pub used-few : (is : List ℕ) (k : Known) → Keeps is k → k .used ≤ 5
-  used-few is k v = omega (arith, v .used, length-take 5 is)
+  pub used-few : (is : List ℕ) (k : Known) (H : List ℕ) → Keeps W R s is k H → k .used ≤ 5
+  used-few is k H v = omega (arith, v .used, length-take 5 is)
 
-  -- and one more
-  pub keeps-more : (is : List ℕ) (k r : Known) (i : ℕ) (o : Opened) → Keeps is k → OpenedFor W s i o → o .fine ≡ true → KeptOf k o r → Keeps (is ++ (i ∷ [])) r
-  keeps-more is k r i o v q f z =
-      by-test (ltb (k .used) 5)
-      (λ y. room (ltb-true _ _ y))
-      (λ n. full (ltb-false _ _ n))
-    where
-      len : k .used ≡ length (take 5 is)
-      len = v .used
+  -- one more where there is room
+  pub keeps-room : (k r : Known) (H P : List ℕ) (i : ℕ) (o : Counted) → k .used < 5 → size * k .used + size ≤ length H → CountedFor W R s i (s .partitions .used + 1) P o
+      → o .fine ≡ true → r .used ≡ k .used + 1 → r .taken ≡ k .taken + o .taken → (is : List ℕ) → Keeps W R s is k H → Keeps W R s (is ++ (i ∷ [])) r (putIn size H P (k .used))
+  keeps-room k r H P i o h fits q f nu nt is v =
+      let len = v .used in
+      let a : length is < 5 = omega (arith, length-take 5 is) in
+      let b : take 5 is ≡ is = take-all 5 is (omega arith) in
+      let d : take 5 (is ++ (i ∷ [])) ≡ is ++ (i ∷ []) = take-all 5 (is ++ (i ∷ [])) (omega (arith, length-append is (i ∷ []))) in
+      let u : k .used ≡ length is = rw b at len in
+      let g = q .kept f in
+      let p : parts size (r .used) (putIn size H P (k .used)) ≡ parts size (k .used) H ++ (P ∷ []) = ap (λ (n : ℕ). parts size n (putIn size H P (k .used))) nu ∙ parts-put size (k .used) H P fits (g .long) in
+      let ts : termsOf W R (s .partitions .used + 1) (r .used) (putIn size H P (k .used)) ≡ termsOf W R (s .partitions .used + 1) (k .used) H ++ (termOf W R (s .partitions .used + 1) P ∷ []) =
+      ap (map (termOf W R (s .partitions .used + 1))) p ∙ map-more (termOf W R (s .partitions .used + 1)) (parts size (k .used) H) P in
+      let served : Serving W s is (termsOf W R (s .partitions .used + 1) (k .used) H) = subst (λ (l : List ℕ). Serving W s l (termsOf W R (s .partitions .used + 1) (k .used) H)) b (v .served) in
+      let kt : k .taken ≡ storedUnder W s is = v .taken ∙ ap (storedUnder W s) b in
+      record {
+        used = rw d (omega (arith, length-append is (i ∷ [])));
+        kept = subst (AllOf (KeptGroup W R (s .partitions .used + 1))) (sym p) (all-more (KeptGroup W R (s .partitions .used + 1)) (parts size (k .used) H) P (v .kept) g);
+        served = subst (λ (l : List ℕ). Serving W s l (termsOf W R (s .partitions .used + 1) (r .used) (putIn size H P (k .used)))) (sym d)
+            (subst (Serving W s (is ++ (i ∷ []))) (sym ts) (served-more is (termsOf W R (s .partitions .used + 1) (k .used) H) i (termOf W R (s .partitions .used + 1) P) served (q .term f)));
+        taken = rw d (omega (arith, q .taken f, total-more (λ j. length (under j (stored W s))) is i));
+      }
 
-      room : k .used < 5 → Keeps (is ++ (i ∷ [])) r
-      room h =
-          let a : length is < 5 = omega (arith, length-take 5 is) in
-          let b : take 5 is ≡ is = take-all 5 is (omega arith) in
-          let d : take 5 (is ++ (i ∷ [])) ≡ is ++ (i ∷ []) = take-all 5 (is ++ (i ∷ [])) (omega (arith, length-append is (i ∷ []))) in
-          let u : k .used ≡ length is = rw b at len in
-          let y = lt-ltb (k .used) 5 h in
-          let nu : r .used ≡ k .used + 1 = rw y at (z .used) in
-          let nt : r .taken ≡ k .taken + o .taken = rw y at (z .taken) in
-          let served : Serving W s is (five (k .terms)) = subst (λ (l : List ℕ). Serving W s l (five (k .terms))) b (v .served) in
-          let more = served-more is (five (k .terms)) i (o .term) a served (q .term f) in
-          let terms : five (r .terms) ≡ set (five (k .terms)) (length is) (o .term) = z .terms ∙ ap (λ (n : ℕ). set (five (k .terms)) n (o .term)) u in
-          let kt : k .taken ≡ storedUnder W s is = v .taken ∙ ap (storedUnder W s) b in
-          record {
-            used = rw d (omega (arith, length-append is (i ∷ [])));
-            served = subst (λ (ts : List Term). Serving W s (take 5 (is ++ (i ∷ []))) ts) (sym terms) (subst (λ (l : List ℕ). Serving W s l (set (five (k .terms)) (length is) (o .term))) (sym d) more);
-            taken = rw d (omega (arith, q .taken f, total-more (λ j. length (under j (stored W s))) is i));
-            few = omega (arith, q .few, v .few);
-          }
-
-      full : 5 ≤ k .used → Keeps (is ++ (i ∷ [])) r
-      full h =
-          let a : 5 ≤ length is = omega (arith, length-take 5 is) in
-          let d : take 5 (is ++ (i ∷ [])) ≡ take 5 is = take-append-le 5 is (i ∷ []) a in
-          let y = le-ltb (k .used) 5 h in
-          let nu : r .used ≡ k .used = rw y at (z .used) in
-          let nt : r .taken ≡ k .taken = rw y at (z .taken) in
-          let terms : five (r .terms) ≡ five (k .terms) = z .terms ∙ set-out (five (k .terms)) (k .used) (o .term) h in
-          record {
-            used = rw d (omega arith);
-            served = subst (λ (ts : List Term). Serving W s (take 5 (is ++ (i ∷ []))) ts) (sym terms) (subst (λ (l : List ℕ). Serving W s l (five (k .terms))) (sym d) (v .served));
-            taken = rw d (nt ∙ v .taken);
-            few = omega (arith, v .few);
-          }
+  -- and where there is none
+  pub keeps-full : (k r : Known) (H : List ℕ) (i : ℕ) → 5 ≤ k .used → r .used ≡ k .used → r .taken ≡ k .taken → (is : List ℕ) → Keeps W R s is k H → Keeps W R s (is ++ (i ∷ [])) r H
+  keeps-full k r H i h nu nt is v =
+      let a : 5 ≤ length is = omega (arith, length-take 5 is, v .used) in
+      let d : take 5 (is ++ (i ∷ [])) ≡ take 5 is = take-append-le 5 is (i ∷ []) a in
+      record {
+        used = rw d (nu ∙ v .used);
+        kept = rw nu (v .kept);
+        served = rw (d, nu) (v .served);
+        taken = rw d (nt ∙ v .taken);
+      }
 
 -- ---- one identifier more
 
@@ -131,30 +121,31 @@ module _ (ms : List Name) where
   unfolding numbersOf
   numbers-append ns os = ap (keep (λ i. ltb i (length ms))) (map-append (numberOf ms) ns os) ∙ keep-append (λ i. ltb i (length ms)) (map (numberOf ms) ns) (map (numberOf ms) os)
 
--- i identifiers are gathered in k
-pub record Gathering (W : List ℕ) (s : State) (ms ns : List Name) (i : ℕ) (k : Known) : Type 0 where
+-- i identifiers are gathered in k and H
+pub record Gathering (W R : List ℕ) (s : State) (ms ns : List Name) (i : ℕ) (k : Known) (H : List ℕ) : Type 0 where
   pub within : i ≤ length ns
   pub fine : k .fine ≡ true
   pub left : every (identifierFormed W s) (numbersOf ms ns) ≡ every (identifierFormed W s) (numbersOf ms (drop i ns))
-  pub keeps : Keeps W s (numbersOf ms (take i ns)) k
+  pub keeps : Keeps W R s (numbersOf ms (take i ns)) k H
+  pub used : k .used ≤ 5
+  pub few : k .taken ≤ 3407872 * k .used
 
-module _ (W : List ℕ) (s : State) (ms ns : List Name) where
+module _ (W R : List ℕ) (s : State) (ms ns : List Name) where
   -- at first none
-  pub gathering-none : (k : Known) → k .fine ≡ true → k .used ≡ 0 → k .taken ≡ 0 → k .terms ≡ noTerms → Gathering W s ms ns 0 k
+  pub gathering-none : (k : Known) (H : List ℕ) → k .fine ≡ true → k .used ≡ 0 → k .taken ≡ 0 → Gathering W R s ms ns 0 k H
   unfolding numbersOf
-  gathering-none k f u t e = record { within = omega arith; fine = f; left = refl; keeps = keeps-none W s k u t e }
+  gathering-none k H f u t = record { within = omega arith; fine = f; left = refl; keeps = keeps-none W R s k H u t; used = omega arith; few = omega arith }
 
   -- at the end all
-  pub gathered-all : (i : ℕ) (k : Known) → length ns ≤ i → Gathering W s ms ns i k → Gathered W s (numbersOf ms ns) k
+  pub gathered-all : (i : ℕ) (k : Known) (H : List ℕ) → length ns ≤ i → Gathering W R s ms ns i k H → Gathered W R s (numbersOf ms ns) k H
   unfolding numbersOf
-  gathered-all i k h v =
+  gathered-all i k H h v =
       let d : drop i ns ≡ [] = drop-of-length-le ns h in
       let t : take i ns ≡ ns = take-all i ns h in
       let e : every (identifierFormed W s) (numbersOf ms ns) ≡ true = v .left ∙ ap (λ (l : List Name). every (identifierFormed W s) (numbersOf ms l)) d in
-      let keeps : Keeps W s (numbersOf ms ns) k = subst (λ (l : List Name). Keeps W s (numbersOf ms l) k) t (v .keeps) in
-      record { fine = v .fine ∙ sym e; served = λ y. keeps .served; taken = λ y. keeps .taken }
+      record { fine = v .fine ∙ sym e; keeps = λ y. subst (λ (l : List Name). Keeps W R s (numbersOf ms l) k H) t (v .keeps) }
 
-  module _ (i : ℕ) (k : Known) (h : i < length ns) (v : Gathering W s ms ns i k) where
+  module _ (i : ℕ) (k : Known) (H : List ℕ) (h : i < length ns) (v : Gathering W R s ms ns i k H) where
     abbrev n : Name
     n = getD ns i []
 
@@ -165,38 +156,38 @@ module _ (W : List ℕ) (s : State) (ms ns : List Name) where
     front = ap (λ (j : ℕ). numbersOf ms (take j ns)) (add-one i) ∙ ap (numbersOf ms) (take-suc ns i [] h) ∙ numbers-append ms (take i ns) (n ∷ [])
 
     -- an identifier that the register has not
-    pub gathering-unknown : length ms ≤ numberOf ms n → Gathering W s ms ns (i + 1) k
+    pub gathering-unknown : length ms ≤ numberOf ms n → Gathering W R s ms ns (i + 1) k H
     gathering-unknown g =
         let e : numbersOf ms (take (i + 1) ns) ≡ numbersOf ms (take i ns) = front ∙ ap (λ (l : List ℕ). numbersOf ms (take i ns) ++ l) (number-out ms n [] g) ∙ numbers-nil ms (numbersOf ms (take i ns)) in
         record {
           within = omega arith;
           fine = v .fine;
           left = v .left ∙ ap (λ (l : List Name). every (identifierFormed W s) (numbersOf ms l)) rest ∙ ap (every (identifierFormed W s)) (number-out ms n (drop (i + 1) ns) g);
-          keeps = subst (λ (l : List ℕ). Keeps W s l k) (sym e) (v .keeps);
+          keeps = subst (λ (l : List ℕ). Keeps W R s l k H) (sym e) (v .keeps);
+          used = v .used;
+          few = v .few;
         }
 
-    module _ (g : numberOf ms n < length ms) (o : Opened) (q : OpenedFor W s (numberOf ms n) o) where
+    module _ (g : numberOf ms n < length ms) (r : Known) (H′ : List ℕ) (q : KeptOf W R s k H (numberOf ms n) r H′) where
       formed-on : every (identifierFormed W s) (numbersOf ms ns) ≡ (identifierFormed W s (numberOf ms n) && every (identifierFormed W s) (numbersOf ms (drop (i + 1) ns)))
       formed-on = v .left ∙ ap (λ (l : List Name). every (identifierFormed W s) (numbersOf ms l)) rest ∙ ap (every (identifierFormed W s)) (number-in ms n (drop (i + 1) ns) g)
 
       -- one whose lists are malformed
-      pub gathered-fault : o .fine ≡ false → (r : Known) → r .fine ≡ false → Gathered W s (numbersOf ms ns) r
-      gathered-fault f r e =
+      pub gathered-fault : r .fine ≡ false → Gathered W R s (numbersOf ms ns) r H′
+      gathered-fault f =
           let z : identifierFormed W s (numberOf ms n) ≡ false = sym (q .fine) ∙ f in
-          record {
-            fine = e ∙ sym (formed-on ∙ rw z);
-            served = λ y. never (sym e ∙ y);
-            taken = λ y. never (sym e ∙ y);
-          }
+          record { fine = f ∙ sym (formed-on ∙ rw z); keeps = λ y. never (sym f ∙ y) }
 
       -- one whose lists are well formed
-      pub gathering-more : o .fine ≡ true → (r : Known) → KeptOf k o r → Gathering W s ms ns (i + 1) r
-      gathering-more f r z =
+      pub gathering-more : r .fine ≡ true → Gathering W R s ms ns (i + 1) r H′
+      gathering-more f =
           let e : numbersOf ms (take (i + 1) ns) ≡ numbersOf ms (take i ns) ++ (numberOf ms n ∷ []) = front ∙ ap (λ (l : List ℕ). numbersOf ms (take i ns) ++ l) (number-alone ms n g) in
           let y : identifierFormed W s (numberOf ms n) ≡ true = sym (q .fine) ∙ f in
           record {
             within = omega arith;
-            fine = z .fine ∙ v .fine;
+            fine = f;
             left = formed-on ∙ rw y;
-            keeps = subst (λ (l : List ℕ). Keeps W s l r) (sym e) (keeps-more W s (numbersOf ms (take i ns)) k r (numberOf ms n) o (v .keeps) q f z);
+            keeps = subst (λ (l : List ℕ). Keeps W R s l r H′) (sym e) (q .keeps f (numbersOf ms (take i ns)) (v .keeps));
+            used = q .used;
+            few = q .few;
           }

@@ -2,7 +2,8 @@
 use mathlib.Core.Bool.{Bool, true, false, _&&_, not}
 use mathlib.Core.List.{List, [], foldr, map}
 use mathlib.Core.Path.{_≡_, refl, sym, ap, ap₂, _∙_, subst}
-use Prim.Native.Nat.{ℕ, _≤_}
+use Prim.Native.Nat.{ℕ, _+_, _*_, _≤_}
+use native.Mathlib.Nat.{mul-le-mul-left}
 use native.Mathlib.Omega.{arith}
 use lib.Dec.{eqb, ltb}
 use lib.ListN.{length, take, replicate, length-take, length-replicate}
@@ -22,22 +23,22 @@ use Rattle.state.specs.declared.State.{State}
 use Rattle.state.specs.Views.{blocks, finished}
 use Rattle.state.specs.Rules.{stateRule}
 use Rattle.state.specs.Probe.{Probe, sameLength}
+use Rattle.state.proofs.Kept.{state-kept}
 use Rattle.identifiers.specs.Names.{Name, badLength, distinct}
 use Rattle.identifiers.specs.Register.{names, registerRule}
 use Rattle.partitions.specs.Formed.{partitionsFormed}
-use Rattle.matches.specs.Joint.{five, groupsOf, frequenciesOf}
-use Rattle.matches.specs.Served.{Serving}
+use Rattle.terms.specs.Terms.{Term, termsOf}
 use Rattle.queries.specs.declared.Top.{Top}
 use Rattle.queries.specs.declared.Answered.{Answered}
 use Rattle.queries.specs.declared.judging.Known.{Known}
 use Rattle.queries.specs.Hits.{place, score, matching, ranked}
 use Rattle.queries.specs.Query.{countIn, takenUp, numbers, queryFormed, badQuery, hitsOf, fill, querying, queryOf}
 use Rattle.queries.specs.Top.{noHit, listedHits, topOf}
-use Rattle.queries.specs.Walks.{foundIn, Walkable}
-use Rattle.queries.specs.Gathered.{Sound, storedUnder, Gathered}
+use Rattle.queries.specs.Walks.{foundBy, foundIn, Walkable}
+use Rattle.queries.specs.Gathered.{Sound, Readied, storedUnder, Serving, Gathered}
 use Rattle.queries.specs.Finds.{probeOf, hitsIn, Finds}
 use Rattle.queries.proofs.Tops.{listed-of}
-use Rattle.queries.proofs.Matching.{served-walkable, found-hits}
+use Rattle.queries.proofs.Matching.{served-falls, served-ranges, found-hits}
 use Rattle.queries.proofs.Numbers.{numbers-few, numbers-different, taken-each}
 
 -- ---- the refusals in order
@@ -130,7 +131,7 @@ proper k ns e =
 -- ---- a query on sound buffers
 
 module _ (s : State) (card register : List ℕ) (sound : Sound s card register) (ns : List Name) (k : ℕ)
-    (known : Known) (gathered : Gathered (words card) s (numbers register ns) known) where
+    (R H : List ℕ) (known : Known) (gathered : Gathered (words card) R s (numbers register ns) known H) where
   abbrev p : Probe
   p = probeOf s card register
 
@@ -162,16 +163,35 @@ module _ (s : State) (card register : List ℕ) (sound : Sound s card register) 
         all-five : take 5 (numbers register ns) ≡ numbers register ns
         all-five = take-all 5 (numbers register ns) few-numbers
 
-        all-served : Serving (words card) s (numbers register ns) (five (known .terms))
-        all-served = subst (λ (l : List ℕ). Serving (words card) s l (five (known .terms))) all-five (gathered .served f)
+        -- the lists of a term, and the terms
+        abbrev lists : ℕ
+        lists = s .partitions .used + 1
 
-        -- the terms can be walked
-        pub terms-walkable : Walkable (words card) (s .buffer) (known .terms)
-        terms-walkable = served-walkable (words card) s (numbers register ns) (known .terms) all-served
+        abbrev terms : List Term
+        terms = termsOf (words card) R lists (known .used) H
+
+        all-served : Serving (words card) s (numbers register ns) terms
+        all-served = subst (λ (l : List ℕ). Serving (words card) s l terms) all-five (gathered .keeps f .served)
+
+        -- the terms can be merged
+        pub terms-walkable : (spare : ℕ) → Readied s card R (length H) spare → Walkable (words card) R lists (known .used) H
+        terms-walkable spare ready =
+            let five : known .used ≤ 5 = omega (arith, gathered .keeps f .used, ap length all-five, few-numbers) in
+            let kept = state-kept s (sound .rule) .partitions .used in
+            let less = mul-le-mul-left {m = known .used} {n = 5} (4 * lists + 2) five in
+            record {
+              fits = omega (arith, ready .room);
+              short = ready .most;
+              lists = omega arith;
+              terms = five;
+              kept = gathered .keeps f .kept;
+              falls = served-falls (words card) s (numbers register ns) terms all-served;
+              ranges = λ w. served-ranges (words card) s w (numbers register ns) terms all-served;
+            }
 
         all-taken : known .taken ≡ takenUp (words card) s (numbers register ns)
         all-taken =
-            gathered .taken f ∙ ap (storedUnder (words card) s) all-five
+            gathered .keeps f .taken ∙ ap (storedUnder (words card) s) all-five
             ∙ sym (taken-each (words card) s (numbers register ns) (numbers-different (names register) ns (proper k ns e .once)))
 
         hits-few : (n : ℕ) → n ≡ k → length (hitsOf (words card) s n (numbers register ns)) ≤ k
@@ -179,11 +199,11 @@ module _ (s : State) (card register : List ℕ) (sound : Sound s card register) 
         hits-few n q = rw q (omega (arith, length-take k (foldr place [] (map (λ w. record { window = w; score = score (s .windows .live) (countIn (words card) s) (down 65535) (numbers register ns) w }) (matching (s .windows .live) (countIn (words card) s) (down 65535) (numbers register ns))))))
 
         -- the best hits of the walk are the answer's
-        pub finds-walked : (t : Top) → t ≡ topOf (take k (foldr place [] (foundIn (s .windows .live) (frequenciesOf (known .terms)) (groupsOf (words card) (s .buffer) (known .terms)))))
+        pub finds-walked : (t : Top) → t ≡ topOf (take k (foldr place [] (foundIn terms)))
             → Finds p ns k (found.Hits (t .used) (known .taken)) t
         finds-walked t q =
             let n : length (replicate k noHit) ≡ k = length-replicate k noHit in
-            let h = found-hits (words card) s k (numbers register ns) (known .terms) few-numbers all-served in
+            let h = found-hits (words card) s k (numbers register ns) terms all-served in
             let o = query-hits p ns (replicate k noHit) (sound .rule) lengths-same (formed-by ∙ f) d (ap (λ (j : ℕ). badQuery j ns) n ∙ e) in
             let l = hits-few (length (replicate k noHit)) n in
             finds-hits p ns k (hitsOf (words card) s (length (replicate k noHit)) (numbers register ns)) (takenUp (words card) s (numbers register ns)) _ t o

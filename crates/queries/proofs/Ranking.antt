@@ -21,10 +21,10 @@ use Rattle.queries.specs.Hits.{outranks, place, score, matching, ranked}
 pub outranks-score : (g h : Hit) → h .score < g .score → outranks g h ≡ true
 outranks-score g h l = rw (lt-ltb (h .score) (g .score) l)
 
-outranks-window : (g h : Hit) → h .score ≡ g .score → h .window < g .window → outranks g h ≡ true
+pub outranks-window : (g h : Hit) → h .score ≡ g .score → h .window < g .window → outranks g h ≡ true
 outranks-window g h e l = or-right (ltb (h .score) (g .score)) _ (rw (eq-eqb (h .score) (g .score) e, lt-ltb (h .window) (g .window) l))
 
-outranks-cases : (g h : Hit) → outranks g h ≡ true → (h .score < g .score) ⊎ ((h .score ≡ g .score) × (h .window < g .window))
+pub outranks-cases : (g h : Hit) → outranks g h ≡ true → (h .score < g .score) ⊎ ((h .score ≡ g .score) × (h .window < g .window))
 outranks-cases g h e =
     by-test (ltb (h .score) (g .score)) (λ y. inl (ltb-true _ _ y))
     (λ n. let f : (eqb (h .score) (g .score) && ltb (h .window) (g .window)) ≡ true = rw n at e in

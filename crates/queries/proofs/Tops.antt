@@ -6,7 +6,7 @@ use Prim.Native.Nat.{ℕ, suc, _+_, _-_, _≤_, _<_, min}
 use native.Mathlib.Numerals.{add-one}
 use native.Mathlib.Omega.{arith}
 use lib.Dec.{ltb}
-use lib.ListN.{length, getD, take, drop, set, length-take, drop-of-length-le}
+use lib.ListN.{length, getD, take, drop, set, replicate, length-take, drop-of-length-le, length-append, length-replicate}
 use lib.Seq.{take-all, take-append-seam, take-length, drop-cons, getD-take, length-take-le}
 use borrow.Author.Tests.{ltb-true, ltb-false}
 use Rattle.lists.proofs.Bools.{by-test}
@@ -112,3 +112,10 @@ inserted l t e g k last a b c f =
 pub insert-made : (t : Top) → t ≡ topOf (listedHits t) → (g : Hit) (k last : ℕ) → k ≤ last → last ≤ t .used → t .used ≤ last + 1 → last < 32
     → made (last + 1) (set (raised last k (t .hits)) k g) ≡ topOf (take (last + 1) (take k (listedHits t) ++ g ∷ drop k (listedHits t)))
 insert-made t e g k last a b c f = let u = clean-used t e in inserted (listedHits t) t e g k last a (omega arith) (omega arith) f
+
+-- the array has 32 places
+pub held-length : (places : ℕ) (t : Top) → Held places t → length (t .hits) ≡ 32
+held-length places t h =
+    let u = clean-used t (h .clean) in
+    let l = listedHits t in
+    ap (λ (x : Top). length (x .hits)) (h .clean) ∙ length-append l (replicate (32 - length l) noHit) ∙ omega (arith, length-replicate (32 - length l) noHit, h .within, h .most)

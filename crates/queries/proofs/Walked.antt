@@ -1,11 +1,12 @@
--- The walk of a query: what is found from a window down, step by step.
-use mathlib.Core.Bool.{Bool, true, false, cond, _&&_}
+-- The second pass of a query: what is found from a window down, step by step.
+use mathlib.Core.Bool.{Bool, true, false, cond, _&&_, _||_}
 use mathlib.Core.List.{List, [], _∷_, foldr, map}
 use mathlib.Core.Path.{_≡_, refl, sym, ap, _∙_, subst}
-use Prim.Native.Nat.{ℕ, zero, suc, _<_, _≤_, zero-le}
+use Prim.Native.Nat.{ℕ, zero, suc, _+_, _-_, _*_, _<_, _≤_, zero-le}
 use native.Mathlib.Omega.{arith}
 use lib.IntN.{ℤ}
-use lib.ListN.{take}
+use lib.Dec.{ltb}
+use lib.ListN.{length, getD, take}
 use borrow.Author.Tests.{ne-eqb}
 use Rattle.lists.specs.Lists.{any, every, elem, different}
 use Rattle.lists.specs.All.{AllOf}
@@ -18,22 +19,23 @@ use Rattle.keyed.proofs.Groups.{Zero, under-all, step-all, spent-zero, top-all-
 use Rattle.postings.specs.Sums.{isAbove}
 use Rattle.answers.specs.declared.Hit.{Hit}
 use Rattle.partitions.specs.Formed.{inRange}
-use Rattle.state.specs.declared.Buffer.{Buffer}
-use Rattle.matches.specs.declared.Terms.{Terms}
-use Rattle.matches.specs.declared.Match.{Match}
-use Rattle.matches.specs.Joint.{five, groupsOf, frequenciesOf, ReadyTerm, weighAll, MatchOf}
+use Rattle.kway.specs.Parts.{parts}
+use Rattle.terms.specs.Terms.{KeptGroup, termsOf}
+use Rattle.terms.specs.Scores.{groupsIn, weightsIn, moved, weighAll, scoreAt}
+use Rattle.terms.proofs.Joined.{moved-groups, moved-weights}
 use Rattle.queries.specs.declared.Top.{Top}
-use Rattle.queries.specs.Hits.{place}
-use Rattle.queries.specs.Top.{topOf, listedHits, Held}
-use Rattle.queries.specs.Walks.{hitAt, foundAt, foundIn, Walkable}
+use Rattle.queries.specs.Hits.{outranks, place}
+use Rattle.queries.specs.Top.{noHit, topOf, listedHits, Held}
+use Rattle.queries.specs.Walks.{hitAt, foundAt, foundBy, foundIn, Walkable}
 use Rattle.queries.proofs.Ranking.{walked-hits}
+use Rattle.queries.proofs.Sorting.{Sorted, sorted-place, sorted-take, left-out}
 use Rattle.queries.proofs.Tops.{listed-of, held-of, held-take}
 
 -- ---- each window is found once
 
-module _ (n : ℕ) (fs : List ℕ) (S : ℕ → List ℤ) where
+module _ (ws : List ℕ) (S : ℕ → List ℤ) where
   abbrev windows : ℕ → List ℕ
-  windows m = map (λ (h : Hit). h .window) (overKeys (foundAt n fs) [] m S)
+  windows m = map (λ (h : Hit). h .window) (overKeys (foundAt ws) [] m S)
 
   -- no window from m on is found below m
   found-high : (m k : ℕ) → m ≤ k → elem k (windows m) ≡ false
@@ -53,9 +55,9 @@ module _ (n : ℕ) (fs : List ℕ) (S : ℕ → List ℤ) where
       (λ y. rw y (found-once m))
 
 -- placed as they come, they end as the best of all
-pub walked-best : (n places : ℕ) (fs : List ℕ) (gs : List Group) → topAfter place places [] (foundIn n fs gs) ≡ take places (foldr place [] (foundIn n fs gs))
-unfolding foundIn
-walked-best n places fs gs = walked-hits places (overKeys (foundAt n fs) [] 65536 (λ w. map (sums w) gs)) (found-once n fs (λ w. map (sums w) gs) 65536)
+pub walked-best : (places : ℕ) (ws : List ℕ) (gs : List Group) → topAfter place places [] (foundBy ws gs) ≡ take places (foldr place [] (foundBy ws gs))
+unfolding foundBy
+walked-best places ws gs = walked-hits places (overKeys (foundAt ws) [] 65536 (λ w. map (sums w) gs)) (found-once ws (λ w. map (sums w) gs) 65536)
 
 -- ---- windows without a sum
 
@@ -78,8 +80,8 @@ unfolding overKeys
 ranges-over S h zero = refl
 ranges-over S h (suc m) = and-both (every inRange (S m)) _ (h m) (ranges-over S h m)
 
-module _ (n places : ℕ) (fs : List ℕ) where
-  still : (w : ℕ) (v : List ℤ) (r : List Hit) → AllOf Zero v → foundAt n fs w v r ≡ r
+module _ (places : ℕ) (ws : List ℕ) where
+  still : (w : ℕ) (v : List ℤ) (r : List Hit) → AllOf Zero v → foundAt ws w v r ≡ r
   still w v r z = rw (none-above v z)
 
   quiet : (w : ℕ) (v : List ℤ) (r : Bool) → AllOf Zero v → rangesAt w v r ≡ r
@@ -90,20 +92,20 @@ module _ (n places : ℕ) (fs : List ℕ) where
     pub low : bound ≤ 65536
     pub falls : allFallAll bound gs ≡ true
     pub ranges : overKeys rangesAt true bound (λ w. map (sums w) gs) ≡ true
-    pub rest : whole ≡ topAfter place places l (overKeys (foundAt n fs) [] bound (λ w. map (sums w) gs))
+    pub rest : whole ≡ topAfter place places l (overKeys (foundAt ws) [] bound (λ w. map (sums w) gs))
 
   -- at the start all is left
   pub started : (gs : List Group) → allFallAll 65536 gs ≡ true → ((w : ℕ) → every inRange (map (sums w) gs) ≡ true)
-      → Left 65536 gs [] (take places (foldr place [] (foundIn n fs gs)))
-  unfolding foundIn
-  started gs f r = record { low = omega arith; falls = f; ranges = ranges-over (λ w. map (sums w) gs) r 65536; rest = sym (walked-best n places fs gs) }
+      → Left 65536 gs [] (take places (foldr place [] (foundBy ws gs)))
+  unfolding foundBy
+  started gs f r = record { low = omega arith; falls = f; ranges = ranges-over (λ w. map (sums w) gs) r 65536; rest = sym (walked-best places ws gs) }
 
   module _ {bound : ℕ} (gs : List Group) {l whole : List Hit} (left : Left bound gs l whole) where
     -- where nothing is left, the best so far is the best of all
     pub ended : topAll 0 gs ≡ 0 → whole ≡ l
     ended e =
         let u = rw e at (under-all 0 gs) in
-        left .rest ∙ ap (topAfter place places l) (over-none (foundAt n fs) [] bound (λ w. map (sums w) gs) (λ j r. still j (map (sums j) gs) r (spent-zero j gs u)))
+        left .rest ∙ ap (topAfter place places l) (over-none (foundAt ws) [] bound (λ w. map (sums w) gs) (λ j r. still j (map (sums j) gs) r (spent-zero j gs u)))
 
     module _ (k : ℕ) (top : topAll 0 gs ≡ suc k) where
       -- the sums of the highest window, and the best with its hit
@@ -111,7 +113,7 @@ module _ (n places : ℕ) (fs : List ℕ) where
       now = map (headVals k) gs
 
       abbrev better : List Hit
-      better = cond (any isAbove now) (take places (place (hitAt n fs k now) l)) l
+      better = cond (any isAbove now) (take places (place (hitAt ws k now) l)) l
 
       pub within : suc k ≤ bound
       within = let h = top-all-falls bound 0 gs zero-le (left .falls) in omega arith
@@ -129,13 +131,13 @@ module _ (n places : ℕ) (fs : List ℕ) where
         low = omega (arith, within, left .low);
         falls = and-right (headsFineAll k gs) _ (sym (step-falls-all bound k gs (rw top at (under-all 0 gs)) within) ∙ left .falls);
         ranges = and-right (every inRange now) _ ranged;
-        rest = left .rest ∙ ap (topAfter place places l) (step-all (foundAt n fs) [] still bound k gs within top (left .falls)) ∙ put (any isAbove now);
+        rest = left .rest ∙ ap (topAfter place places l) (step-all (foundAt ws) [] still bound k gs within top (left .falls)) ∙ put (any isAbove now);
       }
         where
           after : List Hit
-          after = overKeys (foundAt n fs) [] k (λ w. map (sums w) (moveAll k gs))
+          after = overKeys (foundAt ws) [] k (λ w. map (sums w) (moveAll k gs))
 
-          put : (t : Bool) → topAfter place places l (cond t (hitAt n fs k now ∷ after) after) ≡ topAfter place places (cond t (take places (place (hitAt n fs k now) l)) l) after
+          put : (t : Bool) → topAfter place places l (cond t (hitAt ws k now ∷ after) after) ≡ topAfter place places (cond t (take places (place (hitAt ws k now) l)) l) after
           put true = refl
           put false = refl
 
@@ -143,68 +145,105 @@ module _ (n places : ℕ) (fs : List ℕ) where
       pub lower : topAll 0 (moveAll k gs) ≤ k
       lower = top-all-falls k 0 (moveAll k gs) zero-le (stepped .falls)
 
--- ---- the walk over terms
+-- ---- the merge of terms
 
-module _ (W : List ℕ) (b : Buffer) (n places : ℕ) (ts₀ : Terms) where
-  -- the best of all windows
+module _ (W R : List ℕ) (m g places : ℕ) (H₀ : List ℕ) where
+  -- the weights, and the best of all windows
+  abbrev weights : List ℕ
+  weights = weightsIn (termsOf W R m g H₀)
+
   abbrev best-of : List Hit
-  best-of = take places (foldr place [] (foundIn n (frequenciesOf ts₀) (groupsOf W b ts₀)))
+  best-of = take places (foldr place [] (foundIn (termsOf W R m g H₀)))
 
-  -- the walk began with ts₀, and has come to ts with these best hits
-  pub record Walking (ts : Terms) (best : Top) : Type 0 where
+  -- it began with H₀, and has come to H with these best hits; `top` is the reach of what is left
+  pub record Walking (H : List ℕ) (best : Top) (top : ℕ) : Type 0 where
     pub bound : ℕ
-    pub ready : AllOf (ReadyTerm W) (five ts)
-    pub same : frequenciesOf ts ≡ frequenciesOf ts₀
+    pub long : length H ≡ length H₀
+    pub kept : AllOf (KeptGroup W R m) (parts (4 * m + 2) g H)
+    pub same : weightsIn (termsOf W R m g H) ≡ weights
+    pub reach : top ≡ topAll 0 (groupsIn (termsOf W R m g H))
     pub held : Held places best
-    pub left : Left n places (frequenciesOf ts₀) bound (groupsOf W b ts) (listedHits best) best-of
+    pub sorted : Sorted (listedHits best)
+    pub left : Left places weights bound (groupsIn (termsOf W R m g H)) (listedHits best) best-of
 
   -- at the start
-  pub walk-begun : Walkable W b ts₀ → 1 ≤ places → places ≤ 32 → (best : Top) → best ≡ topOf [] → Walking ts₀ best
-  walk-begun w p q best e = record {
+  pub walk-begun : Walkable W R m g H₀ → 1 ≤ places → places ≤ 32 → (best : Top) → best ≡ topOf [] → (top : ℕ) → top ≡ topAll 0 (groupsIn (termsOf W R m g H₀)) → Walking H₀ best top
+  walk-begun w p q best e top r = record {
     bound = 65536;
-    ready = w .ready;
+    long = refl;
+    kept = w .kept;
     same = refl;
+    reach = r;
     held = rw e (held-of places [] p q (omega arith));
-    left = rw e (started n places (frequenciesOf ts₀) (groupsOf W b ts₀) (w .falls) (w .ranges));
+    sorted = rw e tt;
+    left = rw e (started places weights (groupsIn (termsOf W R m g H₀)) (w .falls) (w .ranges));
   }
 
-  module _ (ts : Terms) (best : Top) (walking : Walking ts best) where
-    -- at the end
-    pub walk-ended : topAll 0 (groupsOf W b ts) ≡ 0 → best ≡ topOf best-of
-    walk-ended e = walking .held .clean ∙ ap topOf (sym (ended n places (frequenciesOf ts₀) (groupsOf W b ts) (walking .left) e))
+  module _ (H : List ℕ) (best : Top) (top : ℕ) (walking : Walking H best top) where
+    abbrev gs : List Group
+    gs = groupsIn (termsOf W R m g H)
 
-    module _ (k : ℕ) (top : topAll 0 (groupsOf W b ts) ≡ suc k) where
+    -- at the end
+    pub walk-ended : top ≡ 0 → best ≡ topOf best-of
+    walk-ended e = walking .held .clean ∙ ap topOf (sym (ended places weights gs (walking .left) (sym (walking .reach) ∙ e)))
+
+    module _ (k : ℕ) (high : top ≡ suc k) where
+      at-top : topAll 0 gs ≡ suc k
+      at-top = sym (walking .reach) ∙ high
+
       -- the highest window is one
       pub walk-window : k < 65536
-      walk-window = omega (arith, within n places (frequenciesOf ts₀) (groupsOf W b ts) (walking .left) k top, walking .left .low)
+      walk-window = omega (arith, within places weights gs (walking .left) k at-top, walking .left .low)
+
+      -- no head is above it
+      pub walk-top : topAll 0 gs ≤ k + 1
+      walk-top = omega (arith, at-top)
 
       -- its sums are in range
-      pub walk-ranges : every inRange (map (headVals k) (groupsOf W b ts)) ≡ true
-      walk-ranges = in-range n places (frequenciesOf ts₀) (groupsOf W b ts) (walking .left) k top
+      pub walk-ranges : every inRange (map (headVals k) gs) ≡ true
+      walk-ranges = in-range places weights gs (walking .left) k at-top
 
-      module _ (m : Match) (taken : MatchOf W b ts k n m) where
+      module _ (H′ : List ℕ) (next : ℕ) (long : length H′ ≡ length H) (kept : AllOf (KeptGroup W R m) (parts (4 * m + 2) g H′))
+          (rests : termsOf W R m g H′ ≡ map (moved k) (termsOf W R m g H)) (up : next ≡ topAll 0 (groupsIn (termsOf W R m g H′))) where
+        groups-moved : groupsIn (termsOf W R m g H′) ≡ moveAll k gs
+        groups-moved = ap groupsIn rests ∙ moved-groups k (termsOf W R m g H)
+
         -- what is left has a lower highest window
-        pub walk-lower : topAll 0 (groupsOf W b (m .terms)) ≤ k
-        walk-lower = subst (λ (gs : List Group). topAll 0 gs ≤ k) (sym (taken .moved)) (lower n places (frequenciesOf ts₀) (groupsOf W b ts) (walking .left) k top)
+        pub walk-lower : next ≤ k
+        walk-lower = rw up (rw groups-moved (lower places weights gs (walking .left) k at-top))
 
-        next : (l : List Hit) (then : Top) → listedHits then ≡ l → Held places then → better n places (frequenciesOf ts₀) (groupsOf W b ts) (walking .left) k top ≡ l → Walking (m .terms) then
-        next l then e h f = record {
+        on : (l : List Hit) (then : Top) → listedHits then ≡ l → Held places then → Sorted l → better places weights gs (walking .left) k at-top ≡ l → Walking H′ then next
+        on l then e h o f = record {
           bound = k;
-          ready = taken .ready;
-          same = taken .same ∙ walking .same;
+          long = long ∙ walking .long;
+          kept = kept;
+          same = ap weightsIn rests ∙ moved-weights k (termsOf W R m g H) ∙ walking .same;
+          reach = up;
           held = h;
-          left = rw (taken .moved, e, ← f) (stepped n places (frequenciesOf ts₀) (groupsOf W b ts) (walking .left) k top);
+          sorted = rw e o;
+          left = rw (groups-moved, e, ← f) (stepped places weights gs (walking .left) k at-top);
         }
 
-        -- past a window that counts
-        pub walk-placed : m .counts ≡ true → (then : Top) → then ≡ topOf (take places (place (record { window = k; score = m .score }) (listedHits best))) → Walking (m .terms) then
-        walk-placed c then e =
-            let s : m .score ≡ weighAll n (frequenciesOf ts₀) (map (headVals k) (groupsOf W b ts)) = taken .score ∙ ap (λ (fs : List ℕ). weighAll n fs (map (headVals k) (groupsOf W b ts))) (walking .same) in
-            let a : any isAbove (map (headVals k) (groupsOf W b ts)) ≡ true = sym (taken .counts) ∙ c in
-            next (take places (place (record { window = k; score = m .score }) (listedHits best))) then (ap listedHits e ∙ listed-of _) (rw e (held-take places _ (walking .held .some) (walking .held .most))) (rw (a, s))
+        -- the hit of the window
+        abbrev found : ℕ → Hit
+        found score = record { window = k; score = score }
 
-        -- past one that does not
-        pub walk-passed : m .counts ≡ false → (then : Top) → then ≡ best → Walking (m .terms) then
-        walk-passed c then e =
-            let a : any isAbove (map (headVals k) (groupsOf W b ts)) ≡ false = sym (taken .counts) ∙ c in
-            next (listedHits best) then (ap listedHits e) (rw e (walking .held)) (rw a)
+        module _ (score : ℕ) (weight : score ≡ scoreAt k (termsOf W R m g H)) (counts : any isAbove (map (headVals k) gs) ≡ true) where
+          by-weights : score ≡ weighAll weights (map (headVals k) gs)
+          by-weights = weight ∙ ap (λ (ws : List ℕ). weighAll ws (map (headVals k) gs)) (walking .same)
+
+          -- past a window that counts
+          pub walk-placed : (then : Top) → then ≡ topOf (take places (place (found score) (listedHits best))) → Walking H′ then next
+          walk-placed then e =
+              on (take places (place (found score) (listedHits best))) then (ap listedHits e ∙ listed-of _) (rw e (held-take places _ (walking .held .some) (walking .held .most)))
+              (sorted-take places _ (sorted-place (found score) (listedHits best) (walking .sorted))) (rw (counts, by-weights))
+
+          -- past one that counts too little for a place
+          pub walk-out : (ltb (best .used) places || outranks (found score) (getD (best .hits) (places - 1) noHit)) ≡ false → (then : Top) → then ≡ best → Walking H′ then next
+          walk-out o then e =
+              on (listedHits best) then (ap listedHits e) (rw e (walking .held)) (walking .sorted)
+              (rw counts (ap (λ (x : ℕ). take places (place (found x) (listedHits best))) (sym by-weights) ∙ left-out places best (found score) (walking .held) (walking .sorted) o))
+
+        -- past one that does not count
+        pub walk-passed : any isAbove (map (headVals k) gs) ≡ false → (then : Top) → then ≡ best → Walking H′ then next
+        walk-passed a then e = on (listedHits best) then (ap listedHits e) (rw e (walking .held)) (walking .sorted) (rw a)

@@ -1,34 +1,42 @@
--- The hits of a walk over several groups of lists, one group to an identifier: by falling window, each window once.
+-- The hits of the second pass over several terms, one to an identifier: by falling window, each window once.
 use mathlib.Core.Bool.{true, cond}
 use mathlib.Core.List.{List, [], _∷_, map}
 use mathlib.Core.Path.{_≡_}
-use Prim.Native.Nat.{ℕ}
+use Prim.Native.Nat.{ℕ, _+_, _*_, _≤_}
 use lib.IntN.{ℤ}
+use lib.ListN.{length}
 use Rattle.lists.specs.Lists.{any, every}
 use Rattle.lists.specs.All.{AllOf}
 use Rattle.keyed.specs.Keys.{sums, overKeys}
 use Rattle.keyed.specs.Groups.{Group, allFallAll}
 use Rattle.postings.specs.Sums.{isAbove}
 use Rattle.answers.specs.declared.Hit.{Hit}
-use Rattle.state.specs.declared.Buffer.{Buffer}
 use Rattle.partitions.specs.Formed.{inRange}
-use Rattle.matches.specs.declared.Terms.{Terms}
-use Rattle.matches.specs.Joint.{five, groupsOf, ReadyTerm, weighAll}
+use Rattle.kway.specs.Parts.{parts}
+use Rattle.terms.specs.Terms.{Term, KeptGroup, termsOf}
+use Rattle.terms.specs.Scores.{groupsIn, weightsIn, weighAll}
 
--- the hit of the window w, where its sums are v: n windows exist, of which so many have each identifier
-abbrev pub hitAt : ℕ → List ℕ → ℕ → List ℤ → Hit
-hitAt n fs w v = record { window = w; score = weighAll n fs v }
+-- the hit of the window w, where its sums are v and the identifiers' weights ws
+abbrev pub hitAt : List ℕ → ℕ → List ℤ → Hit
+hitAt ws w v = record { window = w; score = weighAll ws v }
 
 -- it comes before those of lower windows, where one of its sums is above 0
-abbrev pub foundAt : ℕ → List ℕ → ℕ → List ℤ → List Hit → List Hit
-foundAt n fs w v r = cond (any isAbove v) (hitAt n fs w v ∷ r) r
+abbrev pub foundAt : List ℕ → ℕ → List ℤ → List Hit → List Hit
+foundAt ws w v r = cond (any isAbove v) (hitAt ws w v ∷ r) r
 
--- the hits of all windows
-unfoldable pub foundIn : ℕ → List ℕ → List Group → List Hit
-foundIn n fs gs = overKeys (foundAt n fs) [] 65536 (λ w. map (sums w) gs)
+-- the hits of all windows, of lists with these weights
+unfoldable pub foundBy : List ℕ → List Group → List Hit
+foundBy ws gs = overKeys (foundAt ws) [] 65536 (λ w. map (sums w) gs)
 
--- terms that can be walked: their lists may be read and fall, and every sum is within ±32,767
-pub record Walkable (W : List ℕ) (b : Buffer) (ts : Terms) : Type 0 where
-  pub ready : AllOf (ReadyTerm W) (five ts)
-  pub falls : allFallAll 65536 (groupsOf W b ts) ≡ true
-  pub ranges : (w : ℕ) → every inRange (map (sums w) (groupsOf W b ts)) ≡ true
+abbrev pub foundIn : List Term → List Hit
+foundIn ts = foundBy (weightsIn ts) (groupsIn ts)
+
+-- g terms of m lists each that can be merged: they may be read, their lists fall, and every sum is within ±32,767
+pub record Walkable (W R : List ℕ) (m g : ℕ) (H : List ℕ) : Type 0 where
+  pub fits : (4 * m + 2) * g ≤ length H
+  pub short : length H ≤ 65536
+  pub lists : m ≤ 52
+  pub terms : g ≤ 5
+  pub kept : AllOf (KeptGroup W R m) (parts (4 * m + 2) g H)
+  pub falls : allFallAll 65536 (groupsIn (termsOf W R m g H)) ≡ true
+  pub ranges : (w : ℕ) → every inRange (map (sums w) (groupsIn (termsOf W R m g H))) ≡ true

@@ -1,6 +1,4 @@
 // A query's identifiers: what is read of them is judged and counted, and they are tested.
-use matches::Opened;
-use matches::Terms;
 use state::State;
 ghost use mathlib.Core.List.{[], map};
 ghost use mathlib.Core.Path.{_≡_};
@@ -10,58 +8,77 @@ ghost use Rattle.lists.specs.Lists.{any};
 ghost use Rattle.words.specs.Words.{words as wordsOf};
 ghost use Rattle.identifiers.specs.Names.{badLength, among, distinct};
 ghost use Rattle.queries.specs.Query.{numbers, badQuery};
-ghost use Rattle.queries.specs.Gathered.{Sound, KeptOf, Gathered};
+ghost use Rattle.queries.specs.Gathered.{Sound, Readied, KeptOf, Gathered};
 
-// Whether what is read of the identifiers is well formed, the terms of the first five, and how many postings these have.
+// Whether what is read of the identifiers is well formed, how many of the first five have a term, and how many postings these have.
 pub struct Known {
     pub fine: bool,
     pub used: u16,
     pub taken: u32,
-    pub terms: Terms,
 }
 
-// One identifier more. A query of more than five is refused, so that no further one is kept.
-fn keep_term(k: Known, o: Opened) -> Known
-    requires { ⌜ (k .used ≤ 5) × (k .taken ≤ 3342464 * k .used) × (o .taken ≤ 3342464) ⌝ }
-    ensures { λ r. ⌜ KeptOf k o r ⌝ }
+// One identifier more. A query of more than five is refused, so that no further one is kept: it is judged in the spare heads alone.
+fn keep_one(
+    s: State,
+    card: &[u8],
+    run: &[u32],
+    heads: &mut [u32],
+    spare: &mut [u32],
+    k: Known,
+    id: u16,
+) -> Known
+    requires { ⌜ Readied s (now card) (now run) (length (now heads)) (length (now spare)) × (k .used ≤ 5) × (k .taken ≤ 3407872 * k .used) ⌝ }
+    ensures { λ r. ⌜ KeptOf (wordsOf (now (card .entry))) (now (run .entry)) s k (now (heads .entry)) id r (now (heads .exit)) ⌝ }
 {
     if k.used >= 5 {
-        return k;
+        let fine = terms::counting::judge_term(card, run, spare, s, id);
+        return Known {
+            fine: fine,
+            used: k.used,
+            taken: k.taken,
+        };
     }
-    let terms = matches::put_term(k.terms, k.used, o.term);
+    let m = s.partitions.used as usize + 1;
+    let size = 4 * m + 2;
+    let at = size * k.used as usize;
+    let end = at + size;
+    let o = terms::counting::keep_term(card, run, &mut heads[at..end], spare, s, id);
     Known {
-        fine: k.fine,
+        fine: o.fine,
         used: k.used + 1,
         taken: k.taken + o.taken,
-        terms: terms,
     }
 }
 
-// Looks up every identifier and judges what is read of it.
-pub fn gather(s: State, card: &[u8], register: &[u8], ids: &[&[u8]]) -> Known
-    requires { ⌜ Sound s (now card) (now register) ⌝ }
-    ensures { λ r. ⌜ Gathered (wordsOf (now (card .entry))) s (numbers (now (register .entry)) (map now (now (ids .entry)))) r ⌝ }
+// Looks up every identifier, judges what is read of it, and keeps the terms of the first five.
+pub fn gather(
+    s: State,
+    card: &[u8],
+    register: &[u8],
+    ids: &[&[u8]],
+    run: &[u32],
+    heads: &mut [u32],
+    spare: &mut [u32],
+) -> Known
+    requires { ⌜ Sound s (now card) (now register) × Readied s (now card) (now run) (length (now heads)) (length (now spare)) ⌝ }
+    ensures { λ r. ⌜ Gathered (wordsOf (now (card .entry))) (now (run .entry)) s (numbers (now (register .entry)) (map now (now (ids .entry)))) r (now (heads .exit)) ⌝ }
 {
     let used = identifiers::used_entries(register);
-    let terms = matches::no_terms();
     let mut known = Known {
         fine: true,
         used: 0,
         taken: 0,
-        terms: terms,
     };
     let mut i: usize = 0;
     while i < ids.len() {
         let id = ids[i];
         let number = identifiers::find(register, id);
         if number < used {
-            let o = matches::open_term(card, s, number as u16);
-            let fine = o.fine;
+            known = keep_one(s, card, run, heads, spare, known, number as u16);
+            let fine = known.fine;
             if !fine {
-                known.fine = false;
                 return known;
             }
-            known = keep_term(known, o);
         }
         i += 1;
     }

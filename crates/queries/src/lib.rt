@@ -3,17 +3,19 @@ use answers::Found;
 use answers::Hit;
 use answers::Refusal;
 use state::State;
+ghost use mathlib.Core.Bool.{_||_};
 ghost use mathlib.Core.List.{[], _∷_, _++_, map};
 ghost use mathlib.Core.Path.{_≡_};
 ghost use Prim.Native.Nat.{_+_, _-_, _≤_, _<_, min};
-ghost use lib.ListN.{take, drop};
+ghost use lib.Dec.{ltb};
+ghost use lib.ListN.{length, take, drop};
 ghost use Rattle.queries.specs.Hits.{outranks, place};
 ghost use Rattle.queries.specs.Top.{topOf, listedHits, Held, rank};
-ghost use Rattle.queries.specs.Gathered.{Sound};
+ghost use Rattle.queries.specs.Gathered.{Sound, Readied};
 ghost use Rattle.queries.specs.Finds.{probeOf, Finds};
 
 pub mod judging; // judging a query and gathering what it reads
-pub mod walking; // the walk over the lists of a query's identifiers
+pub mod walking; // the second pass, over the terms of a query's identifiers
 
 // The best hits so far, best first, and zeros after them.
 pub struct Top {
@@ -111,6 +113,16 @@ pub fn place_hit(t: Top, g: Hit, places: u16) -> Top
     insert_hit(t, g, k, last)
 }
 
+// Whether `g` gets a place: a list that is not full has one, and of a full one the last hit may have to go.
+fn enters(used: u16, places: u16, g: Hit, last: Hit) -> bool
+    ensures { λ r. ⌜ r ≡ (ltb used places || outranks g last) ⌝ }
+{
+    if used < places {
+        return true;
+    }
+    outranks(g, last)
+}
+
 // A refusal: no hits.
 fn refuse(why: Refusal) -> Answered
     ensures { λ r. ⌜ r ≡ record { answer = Found.Refused why; top = topOf [] } ⌝ }
@@ -122,12 +134,21 @@ fn refuse(why: Refusal) -> Answered
     }
 }
 
-// A query on sound buffers: 3 for what is read of its identifiers, 4 and 14, and then the walk.
-fn search_sound(s: State, card: &[u8], register: &[u8], ids: &[&[u8]], places: usize) -> Answered
-    requires { ⌜ Sound s (now card) (now register) ⌝ }
+// A query on sound buffers: 3 for what is read of its identifiers, 4 and 14, and then the second pass.
+fn search_with(
+    s: State,
+    card: &[u8],
+    register: &[u8],
+    ids: &[&[u8]],
+    places: usize,
+    run: &[u32],
+    heads: &mut [u32],
+    spare: &mut [u32],
+) -> Answered
+    requires { ⌜ Sound s (now card) (now register) × Readied s (now card) (now run) (length (now heads)) (length (now spare)) ⌝ }
     ensures { λ r. ⌜ Finds (probeOf s (now (card .entry)) (now (register .entry))) (map now (now (ids .entry))) places (r .answer) (r .top) ⌝ }
 {
-    let k = judging::gather(s, card, register, ids);
+    let k = judging::gather(s, card, register, ids, run, heads, spare);
     let fine = k.fine;
     if !fine {
         return refuse(Refusal::Malformed);
@@ -138,11 +159,34 @@ fn search_sound(s: State, card: &[u8], register: &[u8], ids: &[&[u8]], places: u
     if judging::bad_query(ids, places) {
         return refuse(Refusal::BadQuery);
     }
-    let top = walking::walk(card, s.buffer, k.terms, s.windows.live, places as u16);
+    let m = s.partitions.used as usize + 1;
+    let top = walking::walk(card, run, heads, k.used as usize, m, places as u16);
     Answered {
         answer: Found::Hits(top.used, k.taken),
         top: top,
     }
+}
+
+// Makes room for the heads of five terms of 52 lists each, for one more to be judged, and for the buffer's postings as words.
+fn search_sound(s: State, card: &[u8], register: &[u8], ids: &[&[u8]], places: usize) -> Answered
+    requires { ⌜ Sound s (now card) (now register) ⌝ }
+    ensures { λ r. ⌜ Finds (probeOf s (now (card .entry)) (now (register .entry))) (map now (now (ids .entry))) places (r .answer) (r .top) ⌝ }
+{
+    let mut run: [u32; 128] = [0; 128];
+    let mut heads: [u32; 1050] = [0; 1050];
+    let mut spare: [u32; 208] = [0; 208];
+    terms::opening::pack_run(s.buffer, &mut run);
+    let end = 4 * s.partitions.used as usize + 4;
+    search_with(
+        s,
+        card,
+        register,
+        ids,
+        places,
+        &run,
+        &mut heads,
+        &mut spare[..end],
+    )
 }
 
 // The query, with a list of so many places.

@@ -1,40 +1,39 @@
-// The walk of a query: window after window, from the highest at any head down.
+// The second pass of a query: window after window, from the highest at any head down.
 use super::Top;
 use answers::Hit;
-use matches::Terms;
-use state::Buffer;
 ghost use mathlib.Core.List.{[], foldr};
 ghost use mathlib.Core.Path.{_≡_};
 ghost use Prim.Native.Nat.{_≤_};
 ghost use lib.ListN.{take as first};
 ghost use Rattle.words.specs.Words.{words as wordsOf};
-ghost use Rattle.matches.specs.Joint.{groupsOf, frequenciesOf};
+ghost use Rattle.terms.specs.Terms.{termsOf};
 ghost use Rattle.queries.specs.Hits.{place};
 ghost use Rattle.queries.specs.Top.{topOf};
 ghost use Rattle.queries.specs.Walks.{foundIn, Walkable};
 
-// The best hits of the terms' windows; `n` windows exist.
-pub fn walk(card: &[u8], b: Buffer, ts: Terms, n: u16, places: u16) -> Top
-    requires { ⌜ Walkable (wordsOf (now card)) b ts × (1 ≤ places) × (places ≤ 32) ⌝ }
-    ensures { λ r. ⌜ r ≡ topOf (first places (foldr place [] (foundIn n (frequenciesOf ts) (groupsOf (wordsOf (now (card .entry))) b ts)))) ⌝ }
+// The best hits of the windows of g terms of m lists each.
+pub fn walk(card: &[u8], run: &[u32], heads: &mut [u32], g: usize, m: usize, places: u16) -> Top
+    requires { ⌜ Walkable (wordsOf (now card)) (now run) m g (now heads) × (1 ≤ places) × (places ≤ 32) ⌝ }
+    ensures { λ r. ⌜ r ≡ topOf (first places (foldr place [] (foundIn (termsOf (wordsOf (now (card .entry))) (now (run .entry)) m g (now (heads .entry)))))) ⌝ }
 {
-    let mut left = ts;
     let mut best = super::no_hits();
-    loop {
-        let top = matches::reach(card, b, left);
-        if top == 0 {
-            return best;
-        }
+    let mut top = terms::scoring::top_terms(card, run, heads, g, m);
+    while 0 < top {
         let w = top - 1;
-        let m = matches::take(card, b, left, w, n);
-        let counts = m.counts;
+        let t = terms::scoring::take_terms(card, run, heads, g, m, w);
+        let counts = t.counts;
         if counts {
             let hit = Hit {
                 window: w as u16,
-                score: m.score,
+                score: t.score,
             };
-            best = super::place_hit(best, hit, places);
+            let at = (places - 1) as usize;
+            let last = best.hits[at];
+            if super::enters(best.used, places, hit, last) {
+                best = super::place_hit(best, hit, places);
+            }
         }
-        left = m.terms;
+        top = t.next;
     }
+    best
 }

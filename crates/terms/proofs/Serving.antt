@@ -147,8 +147,7 @@ module _ (W R : List ℕ) (s : State) (i : ℕ) (H : List ℕ) (opens : Opens W 
 pub weighed : (W R : List ℕ) (m : ℕ) (G : List ℕ) → length G ≡ 4 * m + 2 → AllOf (Kept W R) (parts 4 m (drop 2 G)) → (a b n f : ℕ) → a ≡ topFrom 0 (views W R m (drop 2 G)) → b ≡ idfWeight n f
     → KeptGroup W R m (set (set G 0 a) 1 b) × (termOf W R m (set (set G 0 a) 1 b) ≡ record { lists = views W R m (drop 2 G); weight = idfWeight n f })
 weighed W R m G l k a b n f p q =
-    let h = headed G a b (omega arith) in
-    (
+    let h = headed G a b (omega arith) in (
       record {
         long = h .long ∙ l;
         top = h .first ∙ p ∙ ap (λ (P : List ℕ). topFrom 0 (views W R m P)) (sym (h .others));

@@ -57,7 +57,7 @@ fn weigh(card: &[u8], run: &[u32], group: &mut [u32], m: usize, n: u16, f: u16)
     requires { ⌜ (length (now group) ≡ 4 * m + 2) × (m ≤ 52) × AllOf (Kept (wordsOf (now card)) (now run)) (parts 4 m (drop 2 (now group))) ⌝ }
     ensures { λ r. ⌜ KeptGroup (wordsOf (now (card .entry))) (now (run .entry)) m (now (group .exit))
         × (termOf (wordsOf (now (card .entry))) (now (run .entry)) m (now (group .exit))
-            ≡ record { lists = views (wordsOf (now (card .entry))) (now (run .entry)) m (drop 2 (now (group .entry))); weight = idfWeight n f }) ⌝ }
+        ≡ record { lists = views (wordsOf (now (card .entry))) (now (run .entry)) m (drop 2 (now (group .entry))); weight = idfWeight n f }) ⌝ }
 {
     let top = super::top_key(card, run, &group[2..], m);
     group[0] = top;
@@ -81,7 +81,14 @@ pub fn judge_term(card: &[u8], run: &[u32], heads: &mut [u32], s: State, id: u16
 }
 
 // The same for one of the first five, whose opened heads are kept as its term; the judging spends a copy.
-pub fn keep_term(card: &[u8], run: &[u32], group: &mut [u32], heads: &mut [u32], s: State, id: u16) -> Counted
+pub fn keep_term(
+    card: &[u8],
+    run: &[u32],
+    group: &mut [u32],
+    heads: &mut [u32],
+    s: State,
+    id: u16,
+) -> Counted
     requires { ⌜ (stateRule s ≡ true) × (length (wordsOf (now card)) ≡ 1024 * blocks s)
         × (partitionsFormed (wordsOf (now card)) (blocks s) (finished (s .partitions)) ≡ true)
         × Packed (s .buffer) (now run) × (length (now heads) ≡ 4 * s .partitions .used + 4) × (length (now group) ≡ 4 * s .partitions .used + 6) ⌝ }

@@ -29,7 +29,7 @@ fn judge_window(card: &[u8], run: &[u32], heads: &mut [u32], n: usize, key: u32)
     ensures heads { λ r. ⌜ (length (now (heads .exit)) ≡ length (now (heads .entry)))
         × Ready (wordsOf (now (card .entry))) (now (run .entry)) n (now (heads .exit))
         × (bothOf (wordsOf (now (card .entry))) (now (run .entry)) n (now (heads .exit))
-            ≡ moveAll key (bothOf (wordsOf (now (card .entry))) (now (run .entry)) n (now (heads .entry)))) ⌝ }
+        ≡ moveAll key (bothOf (wordsOf (now (card .entry))) (now (run .entry)) n (now (heads .entry)))) ⌝ }
     ensures judged { λ r. ⌜ (r .fine ≡ fineAt key (bothOf (wordsOf (now (card .entry))) (now (run .entry)) n (now (heads .entry))))
         × (r .counts ≡ isAbove (totalZ (map (headVals key) (bothOf (wordsOf (now (card .entry))) (now (run .entry)) n (now (heads .entry))))))
         × (r .next ≡ topAll 0 (bothOf (wordsOf (now (card .entry))) (now (run .entry)) n (now (heads .exit)))) ⌝ }

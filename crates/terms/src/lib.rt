@@ -36,7 +36,7 @@ fn after(card: &[u8], run: &[u32], place: u32, left: u32) -> u32
     requires { ⌜ (1 < left) × Lies (wordsOf (now card)) (now run) place left ⌝ }
     ensures { λ r. ⌜ Lies (wordsOf (now (card .entry))) (now (run .entry)) r (left - 1)
         × (comes (wordsOf (now (card .entry))) (now (run .entry)) place left
-            ≡ wordAt (wordsOf (now (card .entry))) (now (run .entry)) place ∷ comes (wordsOf (now (card .entry))) (now (run .entry)) r (left - 1)) ⌝ }
+        ≡ wordAt (wordsOf (now (card .entry))) (now (run .entry)) place ∷ comes (wordsOf (now (card .entry))) (now (run .entry)) r (left - 1)) ⌝ }
 {
     if 4194304 <= place {
         return place + 1;
@@ -115,7 +115,7 @@ pub fn take(card: &[u8], run: &[u32], heads: &mut [u32], n: usize, key: u32) -> 
     ensures heads { λ r. ⌜ (length (now (heads .exit)) ≡ length (now (heads .entry)))
         × AllOf (Kept (wordsOf (now (card .entry))) (now (run .entry))) (parts 4 n (now (heads .exit)))
         × (views (wordsOf (now (card .entry))) (now (run .entry)) n (now (heads .exit))
-            ≡ map (rest key) (views (wordsOf (now (card .entry))) (now (run .entry)) n (now (heads .entry)))) ⌝ }
+        ≡ map (rest key) (views (wordsOf (now (card .entry))) (now (run .entry)) n (now (heads .entry)))) ⌝ }
     ensures taken { λ r. ⌜ (r .sum ≡ headVals key (views (wordsOf (now (card .entry))) (now (run .entry)) n (now (heads .entry))))
         × (r .fine ≡ headsFine key (views (wordsOf (now (card .entry))) (now (run .entry)) n (now (heads .entry))))
         × (r .next ≡ topFrom 0 (views (wordsOf (now (card .entry))) (now (run .entry)) n (now (heads .exit))))
@@ -147,11 +147,11 @@ pub fn top_key(card: &[u8], run: &[u32], heads: &[u32], n: usize) -> u32
     ensures { λ r. ⌜ r ≡ topFrom 0 (views (wordsOf (now (card .entry))) (now (run .entry)) n (now (heads .entry))) ⌝ }
 {
     let mut top: u32 = 0;
-    let mut i: usize = 0;
-    while i < n {
-        let at = 4 * i;
+    let mut j: usize = 0;
+    while j < n {
+        let at = 4 * j;
         top = kway::larger(top, heads[at]);
-        i += 1;
+        j += 1;
     }
     top
 }

@@ -69,7 +69,7 @@ fn open_lists(card: &[u8], run: &[u32], heads: &mut [u32], ps: Partitions, id: u
     ensures { λ r. ⌜ (length (now (heads .exit)) ≡ length (now (heads .entry)))
         × AllOf (Kept (wordsOf (now (card .entry))) (now (run .entry))) (parts 4 (ps .used) (now (heads .exit)))
         × (map (listed (wordsOf (now (card .entry))) (now (run .entry)) id) (parts 4 (ps .used) (now (heads .exit)))
-            ≡ map (λ p. under id (postingsOf (wordsOf (now (card .entry))) p)) (finished ps)) ⌝ }
+        ≡ map (λ p. under id (postingsOf (wordsOf (now (card .entry))) p)) (finished ps)) ⌝ }
 {
     let n = ps.used as usize;
     let mut i: usize = 0;

@@ -45,7 +45,7 @@ fn take_term(card: &[u8], run: &[u32], group: &mut [u32], m: usize, key: u32) ->
         × (inRange (headVals key (views (wordsOf (now card)) (now run) m (drop 2 (now group)))) ≡ true) ⌝ }
     ensures group { λ r. ⌜ KeptGroup (wordsOf (now (card .entry))) (now (run .entry)) m (now (group .exit))
         × (termOf (wordsOf (now (card .entry))) (now (run .entry)) m (now (group .exit))
-            ≡ moved key (termOf (wordsOf (now (card .entry))) (now (run .entry)) m (now (group .entry)))) ⌝ }
+        ≡ moved key (termOf (wordsOf (now (card .entry))) (now (run .entry)) m (now (group .entry)))) ⌝ }
     ensures scored { λ r. ⌜ (r .score ≡ weigh key (termOf (wordsOf (now (card .entry))) (now (run .entry)) m (now (group .entry)))) × (r .score ≤ 3780)
         × (r .counts ≡ isAbove (headVals key (views (wordsOf (now (card .entry))) (now (run .entry)) m (drop 2 (now (group .entry))))))
         × (r .next ≡ topFrom 0 (views (wordsOf (now (card .entry))) (now (run .entry)) m (drop 2 (now (group .exit))))) ⌝ }
@@ -72,7 +72,14 @@ fn take_term(card: &[u8], run: &[u32], group: &mut [u32], m: usize, key: u32) ->
 }
 
 // Takes the heads of g terms that have the key, the greatest at any head.
-pub fn take_terms(card: &[u8], run: &[u32], heads: &mut [u32], g: usize, m: usize, key: u32) -> Scored
+pub fn take_terms(
+    card: &[u8],
+    run: &[u32],
+    heads: &mut [u32],
+    g: usize,
+    m: usize,
+    key: u32,
+) -> Scored
     requires { ⌜ ((4 * m + 2) * g ≤ length (now heads)) × (length (now heads) ≤ 65536) × (m ≤ 52) × (g ≤ 5) × (key < 65536)
         × AllOf (KeptGroup (wordsOf (now card)) (now run) m) (parts (4 * m + 2) g (now heads))
         × (topAll 0 (groupsIn (termsOf (wordsOf (now card)) (now run) m g (now heads))) ≤ key + 1)
@@ -80,7 +87,7 @@ pub fn take_terms(card: &[u8], run: &[u32], heads: &mut [u32], g: usize, m: usiz
     ensures heads { λ r. ⌜ (length (now (heads .exit)) ≡ length (now (heads .entry)))
         × AllOf (KeptGroup (wordsOf (now (card .entry))) (now (run .entry)) m) (parts (4 * m + 2) g (now (heads .exit)))
         × (termsOf (wordsOf (now (card .entry))) (now (run .entry)) m g (now (heads .exit))
-            ≡ map (moved key) (termsOf (wordsOf (now (card .entry))) (now (run .entry)) m g (now (heads .entry)))) ⌝ }
+        ≡ map (moved key) (termsOf (wordsOf (now (card .entry))) (now (run .entry)) m g (now (heads .entry)))) ⌝ }
     ensures scored { λ r. ⌜ (r .score ≡ scoreAt key (termsOf (wordsOf (now (card .entry))) (now (run .entry)) m g (now (heads .entry))))
         × (r .counts ≡ any isAbove (map (headVals key) (groupsIn (termsOf (wordsOf (now (card .entry))) (now (run .entry)) m g (now (heads .entry))))))
         × (r .next ≡ topAll 0 (groupsIn (termsOf (wordsOf (now (card .entry))) (now (run .entry)) m g (now (heads .exit))))) ⌝ }

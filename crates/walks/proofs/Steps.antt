@@ -1,23 +1,20 @@
--- The walk as a whole computes the definition.
-use mathlib.Core.Bool.{Bool, true, false, cond, _&&_, and-true}
-use mathlib.Core.List.{List, [], _∷_, map}
-use mathlib.Core.Path.{_≡_, refl, ap, _∙_}
-use Prim.Native.Nat.{ℕ, suc, _+_, _<_, _≤_}
+-- Sums of 0, and the greatest key of a group of lists beside a group of one.
+use mathlib.Core.Bool.{true}
+use mathlib.Core.List.{List, [], _∷_}
+use mathlib.Core.Path.{_≡_, refl}
+use Prim.Native.Nat.{ℕ}
 use native.Mathlib.Omega.{arith}
 use lib.Dec.{ltb}
-use lib.IntN.{ℤ, pos, negsuc, _+ℤ_, +ℤ-idr}
+use lib.IntN.{ℤ, pos, negsuc}
 use lib.Signed.{ltZ}
 use borrow.Author.Tests.{ltb-false}
 use Rattle.lists.specs.All.{AllOf}
-use Rattle.lists.proofs.Bools.{by-test, and-left, and-right}
-use Rattle.keyed.specs.Keys.{Item, reach, larger, topFrom, headVal, headVals, headFine, headsFine}
-use Rattle.keyed.specs.Groups.{Group, topAll, moveAll, headsFineAll}
+use Rattle.lists.proofs.Bools.{by-test}
+use Rattle.keyed.specs.Keys.{Item, reach, larger, topFrom}
+use Rattle.keyed.specs.Groups.{Group, topAll}
 use Rattle.keyed.proofs.Groups as G
 use Rattle.postings.specs.Sums.{isAbove}
-use Rattle.partitions.specs.Formed.{inRange}
-use Rattle.walks.specs.declared.Walked.{Walked}
-use Rattle.walks.specs.declared.Walked.the-variants.{Malformed, Windows}
-use Rattle.walks.specs.Judged.{totalZ, inRanges, counts, formed, risen, walkedOf}
+use Rattle.walks.specs.Judged.{totalZ, inRanges}
 
 -- a test by sign
 pub above-test : (z : ℤ) → ltZ (pos 0) z ≡ isAbove z
@@ -36,70 +33,10 @@ unfolding AllOf
 quiet [] z = refl
 quiet (x ∷ v) z = rw (z .0, total-none v (z .1))
 
--- they count nothing
-pub still : (w : ℕ) (v : List ℤ) (n : ℕ) → AllOf G.Zero v → counts w v n ≡ n
-still w v n z = rw (total-none v z) (omega arith)
-
--- the answer, where n windows are counted and groups with windows below m are left
-abbrev pub resume : ℕ → ℕ → List Group → Walked
-resume m n gs = G.resumeAll inRanges quiet counts 0 still Malformed (λ (x : ℕ). Windows (n + x)) m gs
-
--- at the start all is left
-pub start : (gs : List Group) → walkedOf gs ≡ resume 65536 0 gs
-unfolding walkedOf formed risen G.resumeAll
-start gs = ap (λ (x : ℕ). cond (formed gs) (Windows x) Malformed) (omega arith)
-
--- where nothing is left, what is counted is the answer
-pub ended : (m n : ℕ) (gs : List Group) → topAll 0 gs ≡ 0 → resume m n gs ≡ Windows n
-ended m n gs e = G.ended-all inRanges quiet counts 0 still Malformed (λ (x : ℕ). Windows (n + x)) m gs e ∙ ap Windows (omega arith)
-
--- a head that reaches a window that was passed
-pub too-high : (m n : ℕ) (gs : List Group) → m < topAll 0 gs → resume m n gs ≡ Malformed
-too-high m n gs h = G.too-high-all inRanges quiet counts 0 still Malformed (λ (x : ℕ). Windows (n + x)) m gs h
-
--- whether what is taken under a window is well formed, with sums in range
-abbrev pub fineAt : ℕ → List Group → Bool
-fineAt k gs = headsFineAll k gs && inRanges (map (headVals k) gs)
-
-module _ (m n k : ℕ) (gs : List Group) (top : topAll 0 gs ≡ suc k) (low : suc k ≤ m) where
-  -- what is taken is not well formed, or a sum not in range
-  pub faulty : fineAt k gs ≡ false → resume m n gs ≡ Malformed
-  faulty e =
-      by-test (headsFineAll k gs)
-      (λ y. G.out-of-range-all inRanges quiet counts 0 still Malformed (λ (x : ℕ). Windows (n + x)) m gs k top low (rw y at e))
-      (λ y. G.not-formed-all inRanges quiet counts 0 still Malformed (λ (x : ℕ). Windows (n + x)) m gs k top low y)
-
-  module _ (f : fineAt k gs ≡ true) where
-    on : (j : ℕ) → ((x : ℕ) → n + counts k (map (headVals k) gs) x ≡ j + x) → resume m n gs ≡ resume k j (moveAll k gs)
-    on j e =
-        G.went-on-all inRanges quiet counts 0 still Malformed (λ (x : ℕ). Windows (n + x)) m gs k top low (and-left _ _ f) (and-right (headsFineAll k gs) _ f)
-        ∙ G.resume-all-same inRanges quiet counts 0 still Malformed (λ (x : ℕ). Windows (n + counts k (map (headVals k) gs) x)) (λ (x : ℕ). Windows (j + x)) (λ x. ap Windows (e x)) k (moveAll k gs)
-
-    -- a window that counts
-    pub counted : isAbove (totalZ (map (headVals k) gs)) ≡ true → resume m n gs ≡ resume k (n + 1) (moveAll k gs)
-    counted e = on (n + 1) (λ x. rw e (omega arith))
-
-    -- and one that does not
-    pub passed : isAbove (totalZ (map (headVals k) gs)) ≡ false → resume m n gs ≡ resume k n (moveAll k gs)
-    passed e = on n (λ x. rw e (omega arith))
-
--- ---- a group of lists beside a group of one
-
 -- the larger of 0 and another is the other
-pub larger-none : (n : ℕ) → larger 0 n ≡ n
+larger-none : (n : ℕ) → larger 0 n ≡ n
 larger-none n = by-test (ltb 0 n) (λ y. rw y) (λ y. let h = ltb-false 0 n y in rw y (omega arith))
 
-module _ (g : Group) (l : List Item) where
-  -- the highest window of both
-  pub top-step : (x y t : ℕ) → x ≡ topFrom 0 g → y ≡ reach l → t ≡ larger x y → topAll 0 (g ∷ (l ∷ []) ∷ []) ≡ t
-  top-step x y t p q e = rw (larger-none (topFrom 0 g), larger-none (reach l), ← p, ← q, e)
-
-  module _ (k : ℕ) where
-    module _ (fine : headFine k l ≡ true) (sum total : ℤ) (s : sum ≡ headVals k g) (t : total ≡ sum +ℤ headVal k l) where
-      -- the run's postings are well formed, so that the lists' and the sums decide
-      pub fine-step : (headsFine k g && (inRange sum && inRange total)) ≡ fineAt k (g ∷ (l ∷ []) ∷ [])
-      fine-step = rw (t, s, fine, +ℤ-idr (headVal k l), +ℤ-idr (headVal k l), and-true (headsFine k g))
-
-      -- what counts is the sum of both
-      pub counts-step : isAbove total ≡ isAbove (totalZ (map (headVals k) (g ∷ (l ∷ []) ∷ [])))
-      counts-step = rw (t, s, +ℤ-idr (headVal k l), +ℤ-idr (headVal k l))
+-- the greatest key of both groups
+pub top-step : (g : Group) (l : List Item) (x y t : ℕ) → x ≡ topFrom 0 g → y ≡ reach l → t ≡ larger x y → topAll 0 (g ∷ (l ∷ []) ∷ []) ≡ t
+top-step g l x y t p q e = rw (larger-none (topFrom 0 g), larger-none (reach l), ← p, ← q, e)

@@ -1,19 +1,8 @@
--- What a walk over groups of lists tells: whether they are well formed, with the sums of every window in range, and in how many windows the sum over
--- all groups is above 0.
-use mathlib.Core.Bool.{Bool, true, cond, _&&_}
-use mathlib.Core.List.{List, [], _∷_, map}
-use Prim.Native.Nat.{ℕ, _+_}
+-- Sums of several groups of lists under one key, and their range.
+use mathlib.Core.Bool.{Bool, true, _&&_}
+use mathlib.Core.List.{List, [], _∷_}
 use lib.IntN.{ℤ, pos, _+ℤ_}
-use lib.ListN.{length}
-use Rattle.lists.specs.Lists.{totalBy}
-use Rattle.keyed.specs.Keys.{sums, overKeys}
-use Rattle.keyed.specs.Groups.{Group, allFallAll}
-use Rattle.postings.specs.Sums.{isAbove}
 use Rattle.partitions.specs.Formed.{inRange}
-use Rattle.walks.specs.declared.Walked.{Walked}
-use Rattle.walks.specs.declared.Walked.the-variants.{Malformed as Faulty, Windows}
-use Rattle.walks.specs.declared.Counted.{Counted}
-use Rattle.walks.specs.declared.Counted.the-variants.{Malformed, Counts}
 
 -- the groups' sums added up
 abbrev pub totalZ : List ℤ → ℤ
@@ -24,30 +13,3 @@ totalZ (z ∷ zs) = z +ℤ totalZ zs
 abbrev pub inRanges : List ℤ → Bool
 inRanges [] = true
 inRanges (z ∷ zs) = inRange z && inRange (z +ℤ totalZ zs)
-
--- the test of every window, and the count of those above 0
-abbrev pub ranges : ℕ → List ℤ → Bool → Bool
-ranges w v b = inRanges v && b
-
-abbrev pub counts : ℕ → List ℤ → ℕ → ℕ
-counts w v n = cond (isAbove (totalZ v)) 1 0 + n
-
--- every list falls from window to window, no posting is malformed, and every window's sums are in range
-unfoldable pub formed : List Group → Bool
-formed gs = allFallAll 65536 gs && overKeys ranges true 65536 (λ w. map (sums w) gs)
-
--- how many windows have a sum above 0
-unfoldable pub risen : List Group → ℕ
-risen gs = overKeys counts 0 65536 (λ w. map (sums w) gs)
-
--- how many postings there are
-abbrev pub size : List Group → ℕ
-size gs = totalBy (totalBy length) gs
-
--- what the walk tells
-unfoldable pub walkedOf : List Group → Walked
-walkedOf gs = cond (formed gs) (Windows (risen gs)) Faulty
-
--- what is told of the lists
-unfoldable pub countsOf : List Group → Counted
-countsOf gs = cond (formed gs) (Counts (risen gs) (size gs)) Malformed

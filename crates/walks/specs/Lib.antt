@@ -1,3 +1,1 @@
-pub mod Items
 pub mod Judged
-pub mod Counts

@@ -1,101 +1,81 @@
--- `queries::search_sound` meets its contract: the refusals in order, and then the best hits of the walk. Assumes nothing.
-use borrow.Author.Needs.{needs}
-use borrow.Author.Tests.{not-true, not-false}
-use mathlib.Core.Bool.{false}
-use mathlib.Core.List.{map}
-use mathlib.Core.Path.{_≡_, sym, _∙_}
+-- `queries::search_sound` meets its contract: what is lent is packed and large enough.
+use mathlib.Core.Path.{_≡_, sym}
+use Prim.Native.Nat.{_+_, _*_, _≤_}
 use native.Mathlib.Omega.{arith}
-use denote.Ref.{now}
-use Rattle.answers.specs.declared.Refusal.the-variants.{Malformed, BadIdentifier, BadQuery}
-use Rattle.queries.specs.Query.{badQuery}
-use Rattle.queries.specs.Finds.{probeOf}
-use Rattle.queries.proofs.Outcomes.{proper, refused-as, finds-malformed, finds-identifier, finds-bad, terms-walkable, finds-walked}
+use lib.ListN.{length, replicate}
+use lib.Seq.{length-take-le}
+use Rattle.state.specs.Views.{buffered}
+use Rattle.state.proofs.Kept.{state-kept}
+use Rattle.terms.proofs.Opened.{rule-sizes}
+use Rattle.queries.proofs.Tested.{sound-words}
+use borrow.Author.Needs.{needs}
 use Rattle.queries.proofs.search_sound.Statement.{statement}
 use Rattle.queries.proofs.search_sound.Tie as tie
 
-gather-requires : tie.Need-gather-requires
-gather-requires c κs = search needs
+slice-aggregate-pack-run : tie.Need-slice-aggregate-pack-run
+slice-aggregate-pack-run c = search needs
 
-refuse-requires : tie.Need-refuse-requires
-refuse-requires c κs = search needs
+pack-run-requires : tie.Need-pack-run-requires
+pack-run-requires c κs =
+    let s = c .before .before .before in
+    let k = state-kept (s .args .s) (s .pre .rule) .buffer in
+    (k .used, omega arith, rule-sizes (s .args .s .windows) (buffered (s .args .s .buffer)) (k .rules))
+
+cast-end : tie.Need-cast-end
+cast-end c = search needs
+
+mul-end : tie.Need-mul-end
+mul-end c = search needs
+
+add-end : tie.Need-add-end
+add-end c = search needs
+
+slice-aggregate-search-with : tie.Need-slice-aggregate-search-with
+slice-aggregate-search-with c = search needs
+
+slice-aggregate-search-with-2 : tie.Need-slice-aggregate-search-with-2
+slice-aggregate-search-with-2 c = search needs
+
+array-borrow-prefix-spare : tie.Need-array-borrow-prefix-spare
+array-borrow-prefix-spare c = let s = c .before .before .before .before .before .before .before .before in omega (arith, state-kept (s .args .s) (s .pre .rule) .partitions .used)
+
+slice-aggregate-search-with-3 : tie.Need-slice-aggregate-search-with-3
+slice-aggregate-search-with-3 c =
+    let s = c .before .before .before .before .before .before .before .before .before in
+    let k = state-kept (s .args .s) (s .pre .rule) .partitions .used in
+    sym (length-take-le (4 * s .args .s .partitions .used + 4) (replicate 208 0) (omega arith))
+
+search-with-requires : tie.Need-search-with-requires
+search-with-requires c κs =
+    let s = c .before .before .before .before .before .before .before .before .before in
+    let k = state-kept (s .args .s) (s .pre .rule) .partitions .used in (
+      s .pre,
+      record {
+        rule = s .pre .rule;
+        long = sound-words (s .args .s) (s .args .card .now) (s .args .register .now) (s .pre);
+        partitions = s .pre .partitions;
+        packed = c .before .before .before .before .before .pack-run .ensures;
+        room = omega arith;
+        most = omega arith;
+        one = length-take-le (4 * s .args .s .partitions .used + 4) (replicate 208 0) (omega arith);
+      },
+    )
 
 returns : tie.Need-returns
-returns c =
-    let g = c .before .before in
-    let s = g .before .before .before in
-    let a = s .args in
-    let ns = map now (a .ids .now) in
-    refused-as (probeOf (a .s) (a .card .now) (a .register .now)) ns (a .places) Malformed _ (c .refuse .ensures) (finds-malformed (a .s) (a .card .now) (a .register .now) (s .pre) ns (a .places) (g .gather .result) (g .gather .ensures) (not-true _ (c .before .if1 .taken)))
-
-any-bad-requires : tie.Need-any-bad-requires
-any-bad-requires c κs = search needs
-
-refuse-requires-2 : tie.Need-refuse-requires-2
-refuse-requires-2 c κs = search needs
-
-returns-2 : tie.Need-returns-2
-returns-2 c =
-    let g = c .before .before .before .before in
-    let s = g .before .before .before in
-    let a = s .args in
-    let ns = map now (a .ids .now) in
-    refused-as (probeOf (a .s) (a .card .now) (a .register .now)) ns (a .places) BadIdentifier _ (c .refuse2 .ensures) (finds-identifier (a .s) (a .card .now) (a .register .now) (s .pre) ns (a .places) (g .gather .result) (g .gather .ensures) (not-false _ (c .before .before .before .if1 .left)) (sym (c .before .before .any-bad .ensures) ∙ c .before .if2 .taken))
-
-bad-query-requires : tie.Need-bad-query-requires
-bad-query-requires c κs = search needs
-
-refuse-requires-3 : tie.Need-refuse-requires-3
-refuse-requires-3 c κs = search needs
-
-returns-3 : tie.Need-returns-3
-returns-3 c =
-    let g = c .before .before .before .before .before .before in
-    let s = g .before .before .before in
-    let a = s .args in
-    let ns = map now (a .ids .now) in
-    refused-as (probeOf (a .s) (a .card .now) (a .register .now)) ns (a .places) BadQuery _ (c .refuse3 .ensures) (finds-bad (a .s) (a .card .now) (a .register .now) (s .pre) ns (a .places) (g .gather .result) (g .gather .ensures) (not-false _ (c .before .before .before .before .before .if1 .left)) (sym (c .before .before .before .before .any-bad .ensures) ∙ c .before .before .before .if2 .left) (sym (c .before .before .bad-query .ensures) ∙ c .before .if3 .taken))
-
-cast-walk : tie.Need-cast-walk
-cast-walk c =
-    let g = c .before .before .before .before .before in
-    let s = g .before .before .before in
-    let a = s .args in
-    let ns = map now (a .ids .now) in
-    let e : badQuery (a .places) ns ≡ false = sym (c .before .bad-query .ensures) ∙ c .if3 .left in
-    omega (arith, proper (a .places) ns e .most)
-
-walk-requires : tie.Need-walk-requires
-walk-requires c κs =
-    let g = c .before .before .before .before .before in
-    let s = g .before .before .before in
-    let a = s .args in
-    let ns = map now (a .ids .now) in
-    let e : badQuery (a .places) ns ≡ false = sym (c .before .bad-query .ensures) ∙ c .if3 .left in
-    let q = proper (a .places) ns e in
-    (terms-walkable (a .s) (a .card .now) (a .register .now) (s .pre) ns (a .places) (g .gather .result) (g .gather .ensures) (not-false _ (c .before .before .before .before .if1 .left)) (sym (c .before .before .before .any-bad .ensures) ∙ c .before .before .if2 .left) e, q .some, q .most)
-
-returns-4 : tie.Need-returns-4
-returns-4 c =
-    let g = c .before .before .before .before .before .before in
-    let s = g .before .before .before in
-    let a = s .args in
-    let ns = map now (a .ids .now) in
-    let e : badQuery (a .places) ns ≡ false = sym (c .before .before .bad-query .ensures) ∙ c .before .if3 .left in
-    finds-walked (a .s) (a .card .now) (a .register .now) (s .pre) ns (a .places) (g .gather .result) (g .gather .ensures) (not-false _ (c .before .before .before .before .before .if1 .left)) (sym (c .before .before .before .before .any-bad .ensures) ∙ c .before .before .before .if2 .left) e (c .walk .result) (c .walk .ensures)
+returns c = search needs
 
 pub search-sound-spec : {M : Type 1} → statement M
 search-sound-spec =
     tie.close
     (tie.spec
-    gather-requires
-    refuse-requires
-    returns
-    any-bad-requires
-    refuse-requires-2
-    returns-2
-    bad-query-requires
-    refuse-requires-3
-    returns-3
-    cast-walk
-    walk-requires
-    returns-4)
+    slice-aggregate-pack-run
+    pack-run-requires
+    cast-end
+    mul-end
+    add-end
+    slice-aggregate-search-with
+    slice-aggregate-search-with-2
+    array-borrow-prefix-spare
+    slice-aggregate-search-with-3
+    search-with-requires
+    returns)

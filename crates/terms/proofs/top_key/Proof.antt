@@ -1,4 +1,4 @@
--- `terms::top_key` meets its contract. The invariant: `top` is that of the heads before i.
+-- `terms::top_key` meets its contract. The invariant: `top` is that of the heads before j.
 use mathlib.Core.Path.{_≡_, refl, _∙_}
 use Prim.Native.Nat.{_≤_, _-_}
 use native.Mathlib.Omega.{arith}
@@ -14,10 +14,10 @@ use Rattle.terms.proofs.top_key.Statement.{statement}
 use Rattle.terms.proofs.top_key.Tie as tie
 
 abbrev Inv-loop : tie.InvT-loop
-Inv-loop card run heads n top₀ i₀ top i = (i ≤ n) × (top ≡ topFrom 0 (views (words card) run i heads))
+Inv-loop card run heads n top₀ j₀ top j = (j ≤ n) × (top ≡ topFrom 0 (views (words card) run j heads))
 
 abbrev μ-loop : tie.MeasureT-loop
-μ-loop card run heads n top₀ i₀ top i = n - i
+μ-loop card run heads n top₀ j₀ top j = n - j
 
 loop-holds : tie.Need-loop-holds Inv-loop μ-loop
 unfolding parts
@@ -35,8 +35,8 @@ shared-slice-read-larger c = omega (arith, c .before .before .before .before .be
 larger-requires : tie.Need-larger-requires Inv-loop μ-loop
 larger-requires c κs = search needs
 
-add-i : tie.Need-add-i Inv-loop μ-loop
-add-i c = omega arith
+add-j : tie.Need-add-j Inv-loop μ-loop
+add-j c = omega arith
 
 loop-less : tie.Need-loop-less Inv-loop μ-loop
 loop-less c = omega arith
@@ -48,11 +48,11 @@ loop-again c =
     let W = words (s .args .card .now) in
     let R = s .args .run .now in
     let H = s .args .heads .now in
-    let i = a .loop .i in
-    (omega arith, c .larger .ensures ∙ top-turn (view W R) 4 H i (a .loop .top) _ (reach-at W R H i (all-at (Kept W R) 4 (s .args .n) H (s .pre .2) i (c .before .before .loop-test .taken))) (a .loop .inv .1))
+    let j = a .loop .j in
+    (omega arith, c .larger .ensures ∙ top-turn (view W R) 4 H j (a .loop .top) _ (reach-at W R H j (all-at (Kept W R) 4 (s .args .n) H (s .pre .2) j (c .before .before .loop-test .taken))) (a .loop .inv .1))
 
 returns : tie.Need-returns Inv-loop μ-loop
-returns c = let e : c .before .loop .i ≡ c .before .before .before .before .before .args .n = omega arith in rw e at (c .before .loop .inv .1)
+returns c = let e : c .before .loop .j ≡ c .before .before .before .before .before .args .n = omega arith in rw e at (c .before .loop .inv .1)
 
 pub top-key-spec : {M : Type 1} → statement M
 top-key-spec =
@@ -65,7 +65,7 @@ top-key-spec =
     mul-larger
     shared-slice-read-larger
     larger-requires
-    add-i
+    add-j
     loop-less
     loop-again
     returns)

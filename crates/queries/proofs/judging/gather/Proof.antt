@@ -1,8 +1,7 @@
--- `queries::judging::gather` meets its contract. The invariant: the first i identifiers are gathered, and the rest decide. Assumes nothing.
-use borrow.Author.Needs.{needs}
+-- `queries::judging::gather` meets its contract. The invariant: the first i identifiers are gathered, and the rest decide.
 use borrow.Author.Tests.{not-true, not-false}
 use mathlib.Core.Path.{_≡_, refl, sym, ap, _∙_, subst}
-use mathlib.Core.List.{[], map}
+use mathlib.Core.List.{List, [], map}
 use mathlib.Core.Logic.{⊎-elim}
 use Prim.Native.Nat.{ℕ, _≤_, _<_, _-_}
 use native.Mathlib.Omega.{arith}
@@ -11,28 +10,26 @@ use denote.Ref.{now}
 use Rattle.words.specs.Words.{words}
 use Rattle.identifiers.specs.Names.{numberOf}
 use Rattle.identifiers.specs.Register.{names}
-use Rattle.matches.specs.Served.{OpenedFor}
-use Rattle.queries.proofs.Gathering.{lent-at, used-few, Gathering, gathering-none, gathered-all, gathering-unknown, gathered-fault, gathering-more}
-use Rattle.queries.proofs.Tested.{sound-words, sound-names}
+use Rattle.queries.specs.Gathered.{KeptOf}
+use Rattle.queries.proofs.Gathering.{lent-at, Gathering, gathering-none, gathered-all, gathering-unknown, gathered-fault, gathering-more}
+use Rattle.queries.proofs.Tested.{sound-names}
+use borrow.Author.Needs.{needs}
 use Rattle.queries.proofs.judging.gather.Statement.{statement}
 use Rattle.queries.proofs.judging.gather.Tie as tie
 
 abbrev Inv-loop : tie.InvT-loop
-Inv-loop s card register ids used known₀ i₀ known i = Gathering (words card) s (names register) (map now ids) i known
+Inv-loop s card register ids run heads₀ spare₀ used known₀ i₀ heads spare known i = (length heads ≡ length heads₀) × (length spare ≡ length spare₀) × Gathering (words card) run s (names register) (map now ids) i known heads
 
 abbrev μ-loop : tie.MeasureT-loop
-μ-loop s card register ids used known₀ i₀ known i = length ids - i
+μ-loop s card register ids run heads₀ spare₀ used known₀ i₀ heads spare known i = length ids - i
 
 used-entries-requires : tie.Need-used-entries-requires Inv-loop μ-loop
 used-entries-requires c κs = search needs
 
-no-terms-requires : tie.Need-no-terms-requires Inv-loop μ-loop
-no-terms-requires c κs = search needs
-
 loop-holds : tie.Need-loop-holds Inv-loop μ-loop
 loop-holds c =
-    let a = c .before .before .before .before .args in
-    gathering-none (words (a .card .now)) (a .s) (names (a .register .now)) (map now (a .ids .now)) _ refl refl refl (c .no-terms .ensures)
+    let a = c .before .before .before .before .before .before .args in
+    (refl, refl, gathering-none (words (a .card .now)) (a .run .now) (a .s) (names (a .register .now)) (map now (a .ids .now)) _ (a .heads .now) refl refl refl)
 
 mul-id : tie.Need-mul-id Inv-loop μ-loop
 mul-id c = omega arith
@@ -41,68 +38,78 @@ shared-slice-copy-out-id : tie.Need-shared-slice-copy-out-id Inv-loop μ-loop
 shared-slice-copy-out-id c = omega arith
 
 find-requires : tie.Need-find-requires Inv-loop μ-loop
-find-requires c κs = c .before .before .before .before .before .before .before .pre .names
+find-requires c κs = c .before .before .before .before .before .before .before .before .before .pre .0 .names
 
-cast-open-term : tie.Need-cast-open-term Inv-loop μ-loop
-cast-open-term c =
-    let s = c .before .before .before .before .before .before .before .before .before in
-    omega (arith, c .if1 .taken, c .before .before .before .before .before .before .used-entries .ensures, sound-names (s .args .s) (s .args .card .now) (s .args .register .now) (s .pre))
+cast-keep-one : tie.Need-cast-keep-one Inv-loop μ-loop
+cast-keep-one c =
+    let s = c .before .before .before .before .before .before .before .before .before .before .before .before .before in
+    omega (arith, c .before .before .if1 .taken, c .before .before .before .before .before .before .before .used-entries .ensures, sound-names (s .args .s) (s .args .card .now) (s .args .register .now) (s .pre .0))
 
-open-term-requires : tie.Need-open-term-requires Inv-loop μ-loop
-open-term-requires c κs =
-    let s = c .before .before .before .before .before .before .before .before .before in
-    (s .pre .rule, sound-words (s .args .s) (s .args .card .now) (s .args .register .now) (s .pre), s .pre .partitions)
+keep-one-requires : tie.Need-keep-one-requires Inv-loop μ-loop
+keep-one-requires c κs =
+    let s = c .before .before .before .before .before .before .before .before .before .before .before .before .before in
+    let v = c .before .before .before .before .before .before .loop .inv in
+    (rw (v .0, v .1) (s .pre .1), v .2 .used, v .2 .few)
+
+same-length : tie.Need-same-length Inv-loop μ-loop
+same-length c = c .before .before .before .before .heads .given ∙ c .before .before .before .before .before .before .before .before .before .before .before .before .loop .inv .0
+
+same-length-2 : tie.Need-same-length-2 Inv-loop μ-loop
+same-length-2 c = c .before .before .spare .given ∙ c .before .before .before .before .before .before .before .before .before .before .before .before .loop .inv .1
 
 returns : tie.Need-returns Inv-loop μ-loop
 returns c =
-    let l = c .before .before .before .before .before .before in
-    let s = l .before .before .before .before .before in
+    let s = c .before .before .before .before .before .before .before .before .before .before .before .before .before .before .before .before .before .before .before in
     let a = s .args in
+    let l = c .before .before .before .before .before .before .before .before .before .before .before .before in
     let W = words (a .card .now) in
     let ms = names (a .register .now) in
     let ns = map now (a .ids .now) in
-    let e : c .before .before .before .find .result ≡ numberOf ms (getD ns (l .loop .i) []) = c .before .before .before .find .ensures ∙ ap (numberOf ms) (sym (lent-at (a .ids .now) (l .loop .i))) in
-    let u : l .before .before .used-entries .result ≡ length ms = l .before .before .used-entries .ensures in
-    let h : l .loop .i < length ns = omega (arith, c .before .before .before .before .before .loop-test .taken, length-map (a .ids .now) now) in
-    let g : numberOf ms (getD ns (l .loop .i) []) < length ms = omega (arith, c .before .before .if1 .taken) in
-    let o = c .before .open-term in
-    gathered-fault W (a .s) ms ns (l .loop .i) (l .loop .known) h (l .loop .inv) g (o .result) (subst (λ (j : ℕ). OpenedFor W (a .s) j (o .result)) e (o .ensures)) (not-true _ (c .if2 .taken)) _ refl
-
-keep-term-requires : tie.Need-keep-term-requires Inv-loop μ-loop
-keep-term-requires c κs =
-    let l = c .before .before .before .before .before .before in
-    let k = l .loop .inv .keeps in
-    (used-few _ _ _ _ k, k .few, c .before .open-term .ensures .few)
+    let e : c .before .before .before .before .before .before .before .before .before .find .result ≡ numberOf ms (getD ns (l .loop .i) []) = c .before .before .before .before .before .before .before .before .before .find .ensures ∙ ap (numberOf ms) (sym (lent-at (a .ids .now) (l .loop .i))) in
+    let u : c .before .before .before .before .before .before .before .before .before .before .before .before .before .used-entries .result ≡ length ms = c .before .before .before .before .before .before .before .before .before .before .before .before .before .used-entries .ensures in
+    let h : l .loop .i < length ns = omega (arith, c .before .before .before .before .before .before .before .before .before .before .before .loop-test .taken, length-map (a .ids .now) now) in
+    let g : numberOf ms (getD ns (l .loop .i) []) < length ms = omega (arith, c .before .before .before .before .before .before .before .before .if1 .taken) in
+    let o = c .before .before .before .before .before .keep-one in
+    gathered-fault W (a .run .now) (a .s) ms ns (l .loop .i) (l .loop .known) (l .loop .heads) h (l .loop .inv .2) g (o .result) (o .last .1 .1 .1 .0) (subst (λ (j : ℕ). KeptOf W (a .run .now) (a .s) (l .loop .known) (l .loop .heads) j (o .result) (o .last .1 .1 .1 .0)) e (o .ensures)) (not-true _ (c .if2 .taken))
 
 add-i : tie.Need-add-i Inv-loop μ-loop
-add-i c = omega (arith, c .before .before .before .loop-test .taken, c .before .before .before .before .before .before .before .before .before .good .1 .1 .1 .0)
+add-i c = omega (arith, c .before .before .before .loop-test .taken, c .before .before .before .before .before .before .before .before .before .before .before .good .1 .1 .1 .0)
 
 loop-less : tie.Need-loop-less Inv-loop μ-loop
 loop-less c = omega (arith, c .before .before .before .loop-test .taken)
 
 loop-again : tie.Need-loop-again Inv-loop μ-loop
 loop-again c =
-    let l = c .before .before .before .before in
-    let s = l .before .before .before .before .before in
+    let s = c .before .before .before .before .before .before .before .before .before .before .before in
     let a = s .args in
+    let l = c .before .before .before .before in
     let W = words (a .card .now) in
     let ms = names (a .register .now) in
     let ns = map now (a .ids .now) in
     let e : c .before .find .result ≡ numberOf ms (getD ns (l .loop .i) []) = c .before .find .ensures ∙ ap (numberOf ms) (sym (lent-at (a .ids .now) (l .loop .i))) in
-    let u : l .before .before .used-entries .result ≡ length ms = l .before .before .used-entries .ensures in
+    let u : c .before .before .before .before .before .used-entries .result ≡ length ms = c .before .before .before .before .before .used-entries .ensures in
     let h : l .loop .i < length ns = omega (arith, c .before .before .before .loop-test .taken, length-map (a .ids .now) now) in
+    let v = l .loop .inv in
     ⊎-elim
     (λ q. let g : numberOf ms (getD ns (l .loop .i) []) < length ms = omega (arith, q .0 .taken) in
-    rw (q .4) (gathering-more W (a .s) ms ns (l .loop .i) (l .loop .known) h (l .loop .inv) g (q .1 .result) (subst (λ (j : ℕ). OpenedFor W (a .s) j (q .1 .result)) e (q .1 .ensures)) (not-false _ (q .2 .left)) (q .3 .result) (q .3 .ensures)))
+    let o = q .3 in
+    rw (q .9, q .10, q .11)
+    (q .4 .given ∙ v .0, q .6 .given ∙ v .1, gathering-more W (a .run .now) (a .s) ms ns (l .loop .i) (l .loop .known) (l .loop .heads) h (v .2) g (o .result) (o .last .1 .1 .1 .0) (subst (λ (j : ℕ). KeptOf W (a .run .now) (a .s) (l .loop .known) (l .loop .heads) j (o .result) (o .last .1 .1 .1 .0)) e (o .ensures)) (not-false _ (q .8 .left))))
     (λ q. let g : length ms ≤ numberOf ms (getD ns (l .loop .i) []) = omega (arith, q .0 .left) in
-    rw (q .1) (gathering-unknown W (a .s) ms ns (l .loop .i) (l .loop .known) h (l .loop .inv) g))
+    rw (q .1, q .2, q .3) (v .0, v .1, gathering-unknown W (a .run .now) (a .s) ms ns (l .loop .i) (l .loop .known) (l .loop .heads) h (v .2) g))
     (c .if1 .came)
+
+same-length-3 : tie.Need-same-length-3 Inv-loop μ-loop
+same-length-3 c = c .before .loop .inv .0
+
+same-length-4 : tie.Need-same-length-4 Inv-loop μ-loop
+same-length-4 c = c .before .loop .inv .1
 
 returns-2 : tie.Need-returns-2 Inv-loop μ-loop
 returns-2 c =
     let l = c .before in
-    let a = l .before .before .before .before .before .args in
-    gathered-all (words (a .card .now)) (a .s) (names (a .register .now)) (map now (a .ids .now)) (l .loop .i) (l .loop .known) (omega (arith, length-map (a .ids .now) now)) (l .loop .inv)
+    let a = c .before .before .before .before .before .before .before .before .args in
+    gathered-all (words (a .card .now)) (a .run .now) (a .s) (names (a .register .now)) (map now (a .ids .now)) (l .loop .i) (l .loop .known) (l .loop .heads) (omega (arith, length-map (a .ids .now) now)) (l .loop .inv .2)
 
 pub gather-spec : {M : Type 1} → statement M
 gather-spec =
@@ -111,16 +118,18 @@ gather-spec =
     Inv-loop
     μ-loop
     used-entries-requires
-    no-terms-requires
     loop-holds
     mul-id
     shared-slice-copy-out-id
     find-requires
-    cast-open-term
-    open-term-requires
+    cast-keep-one
+    keep-one-requires
+    same-length
+    same-length-2
     returns
-    keep-term-requires
     add-i
     loop-less
     loop-again
+    same-length-3
+    same-length-4
     returns-2)

@@ -1,83 +1,157 @@
--- `queries::walking::walk` meets its contract. The invariant: the best so far and what is left give the best of all. The measure is the highest window
--- at any head. Assumes nothing.
-use borrow.Author.Needs.{needs}
-use mathlib.Core.Path.{_≡_, sym, _∙_}
-use mathlib.Core.Logic.{⊎-elim}
+-- `queries::walking::walk` meets its contract. The invariant: the best so far and what is left give the best of all. The measure is the reach of what is left.
+use mathlib.Core.Path.{_≡_, refl, sym, _∙_}
 use Prim.Native.Nat.{suc, _-_}
 use native.Mathlib.Omega.{arith}
 use Rattle.words.specs.Words.{words}
-use Rattle.keyed.specs.Groups.{topAll}
-use Rattle.matches.specs.Joint.{groupsOf}
-use Rattle.queries.proofs.Walked.{Walking, walk-begun, walk-ended, walk-window, walk-ranges, walk-lower, walk-placed, walk-passed}
+use Rattle.queries.proofs.Tops.{held-length}
+use Rattle.queries.proofs.Walked.{Walking, walk-begun, walk-ended, walk-window, walk-top, walk-ranges, walk-lower, walk-placed, walk-out, walk-passed}
+use borrow.Author.Needs.{needs}
 use Rattle.queries.proofs.walking.walk.Statement.{statement}
 use Rattle.queries.proofs.walking.walk.Tie as tie
 
 abbrev Inv-loop : tie.InvT-loop
-Inv-loop card b n places left₀ best₀ left best = Walking (words card) b n places left₀ left best
+Inv-loop card run heads₀ g m places best₀ top₀ heads best top = Walking (words card) run m g places heads₀ heads best top
 
 abbrev μ-loop : tie.MeasureT-loop
-μ-loop card b n places left₀ best₀ left best = topAll 0 (groupsOf (words card) b left)
+μ-loop card run heads₀ g m places best₀ top₀ heads best top = top
 
 no-hits-requires : tie.Need-no-hits-requires Inv-loop μ-loop
 no-hits-requires c κs = search needs
 
+top-terms-requires : tie.Need-top-terms-requires Inv-loop μ-loop
+top-terms-requires c κs = let w = c .before .before .before .before .before .pre .0 in (w .fits, w .short, w .lists, w .kept)
+
 loop-holds : tie.Need-loop-holds Inv-loop μ-loop
 loop-holds c =
-    let s = c .before .before in
+    let s = c .before .before .before .before .before .before in
     let a = s .args in
-    walk-begun (words (a .card .now)) (a .b) (a .n) (a .places) (a .ts) (s .pre .0) (s .pre .1) (s .pre .2) _ (c .no-hits .ensures)
-
-reach-requires : tie.Need-reach-requires Inv-loop μ-loop
-reach-requires c κs = c .loop .inv .ready
-
-returns : tie.Need-returns Inv-loop μ-loop
-returns c =
-    let l = c .before .before in
-    let a = l .before .before .before .args in
-    walk-ended (words (a .card .now)) (a .b) (a .n) (a .places) (a .ts) (l .loop .left) (l .loop .best) (l .loop .inv) (sym (c .before .reach .ensures) ∙ c .if1 .taken)
+    walk-begun (words (a .card .now)) (a .run .now) (a .m) (a .g) (a .places) (a .heads .now) (s .pre .0) (s .pre .1) (s .pre .2) _ (c .before .before .no-hits .ensures) _ (c .top-terms .ensures)
 
 sub-w : tie.Need-sub-w Inv-loop μ-loop
-sub-w c = search needs
+sub-w c = omega arith
 
-take-requires : tie.Need-take-requires Inv-loop μ-loop
-take-requires c κs =
+take-terms-requires : tie.Need-take-terms-requires Inv-loop μ-loop
+take-terms-requires c κs =
     let l = c .before .before in
-    let a = l .before .before .before .args in
-    let r = c .before .reach in
-    let top : topAll 0 (groupsOf (words (a .card .now)) (a .b) (l .loop .left)) ≡ suc (r .result - 1) = sym (r .ensures) ∙ omega arith in
-    (l .loop .inv .ready, walk-ranges (words (a .card .now)) (a .b) (a .n) (a .places) (a .ts) (l .loop .left) (l .loop .best) (l .loop .inv) (r .result - 1) top)
+    let s = c .before .before .before .before .before .before .before .before .before in
+    let W = words (s .args .card .now) in
+    let R = s .args .run .now in
+    let H = s .args .heads .now in
+    let k = l .loop .top - 1 in
+    let high : l .loop .top ≡ suc k = omega (arith, c .before .loop-test .taken) in
+    let w = s .pre .0 in
+    let v = l .loop .inv in
+    (omega (arith, w .fits, v .long), omega (arith, w .short, v .long), w .lists, w .terms, walk-window W R (s .args .m) (s .args .g) (s .args .places) H (l .loop .heads) (l .loop .best) (l .loop .top) (l .loop .inv) k high, v .kept, walk-top W R (s .args .m) (s .args .g) (s .args .places) H (l .loop .heads) (l .loop .best) (l .loop .top) (l .loop .inv) k high, walk-ranges W R (s .args .m) (s .args .g) (s .args .places) H (l .loop .heads) (l .loop .best) (l .loop .top) (l .loop .inv) k high)
 
-cast-t14 : tie.Need-cast-t14 Inv-loop μ-loop
-cast-t14 c =
-    let l = c .before .before .before .before in
-    let a = l .before .before .before .args in
-    let r = c .before .before .before .reach in
-    let top : topAll 0 (groupsOf (words (a .card .now)) (a .b) (l .loop .left)) ≡ suc (r .result - 1) = sym (r .ensures) ∙ omega arith in
-    omega (arith, walk-window (words (a .card .now)) (a .b) (a .n) (a .places) (a .ts) (l .loop .left) (l .loop .best) (l .loop .inv) (r .result - 1) top)
+cast-at : tie.Need-cast-at Inv-loop μ-loop
+cast-at c =
+    let l = c .before .before .before .before .before .before in
+    let s = c .before .before .before .before .before .before .before .before .before .before .before .before .before in
+    let W = words (s .args .card .now) in
+    let R = s .args .run .now in
+    let H = s .args .heads .now in
+    let k = l .loop .top - 1 in
+    let high : l .loop .top ≡ suc k = omega (arith, c .before .before .before .before .before .loop-test .taken) in
+    omega (arith, walk-window W R (s .args .m) (s .args .g) (s .args .places) H (l .loop .heads) (l .loop .best) (l .loop .top) (l .loop .inv) k high)
+
+sub-at : tie.Need-sub-at Inv-loop μ-loop
+sub-at c = omega (arith, c .before .before .before .before .before .before .before .before .before .before .before .before .before .pre .1)
+
+cast-at-2 : tie.Need-cast-at-2 Inv-loop μ-loop
+cast-at-2 c = omega (arith, c .before .before .before .before .before .before .before .before .before .before .before .before .before .pre .1)
+
+mul-last : tie.Need-mul-last Inv-loop μ-loop
+mul-last c = omega (arith, c .before .before .before .before .before .before .before .before .before .before .before .before .before .pre .1, c .before .before .before .before .before .before .before .before .before .before .before .before .before .pre .2)
+
+element-copy-out-last : tie.Need-element-copy-out-last Inv-loop μ-loop
+element-copy-out-last c = let s = c .before .before .before .before .before .before .before .before .before .before .before .before .before in omega (arith, held-length (s .args .places) (c .before .before .before .before .before .before .loop .best) (c .before .before .before .before .before .before .loop .inv .held), s .pre .1, s .pre .2)
+
+enters-requires : tie.Need-enters-requires Inv-loop μ-loop
+enters-requires c κs = search needs
 
 place-hit-requires : tie.Need-place-hit-requires Inv-loop μ-loop
-place-hit-requires c κs = c .before .before .before .before .loop .inv .held
+place-hit-requires c κs = c .before .before .before .before .before .before .before .before .before .loop .inv .held
 
 loop-less : tie.Need-loop-less Inv-loop μ-loop
 loop-less c =
-    let l = c .before .before .before .before .before in
-    let a = l .before .before .before .args in
-    let r = c .before .before .before .before .reach in
-    let m = c .before .before .take in
-    let top : topAll 0 (groupsOf (words (a .card .now)) (a .b) (l .loop .left)) ≡ suc (r .result - 1) = sym (r .ensures) ∙ omega arith in
-    omega (arith, top, walk-lower (words (a .card .now)) (a .b) (a .n) (a .places) (a .ts) (l .loop .left) (l .loop .best) (l .loop .inv) (r .result - 1) top (m .result) (m .ensures))
+    let l = c .before .before .before .before .before .before .before .before .before .before in
+    let s = c .before .before .before .before .before .before .before .before .before .before .before .before .before .before .before .before .before in
+    let W = words (s .args .card .now) in
+    let R = s .args .run .now in
+    let H = s .args .heads .now in
+    let k = l .loop .top - 1 in
+    let high : l .loop .top ≡ suc k = omega (arith, c .before .before .before .before .before .before .before .before .before .loop-test .taken) in
+    let t = c .before .before .before .before .before .before .before .take-terms in
+    omega (arith, walk-lower W R (s .args .m) (s .args .g) (s .args .places) H (l .loop .heads) (l .loop .best) (l .loop .top) (l .loop .inv) k high (t .last .1 .1 .0) (t .result .next) (t .ensures .0 .0) (t .ensures .0 .1) (t .ensures .0 .2) (t .ensures .1 .2), high)
 
 loop-again : tie.Need-loop-again Inv-loop μ-loop
 loop-again c =
-    let l = c .before .before .before .before .before in
-    let a = l .before .before .before .args in
-    let r = c .before .before .before .before .reach in
-    let m = c .before .before .take in
-    let top : topAll 0 (groupsOf (words (a .card .now)) (a .b) (l .loop .left)) ≡ suc (r .result - 1) = sym (r .ensures) ∙ omega arith in
-    ⊎-elim
-    (λ q. walk-placed (words (a .card .now)) (a .b) (a .n) (a .places) (a .ts) (l .loop .left) (l .loop .best) (l .loop .inv) (r .result - 1) top (m .result) (m .ensures) (q .0 .taken) _ (q .2 ∙ q .1 .ensures))
-    (λ q. walk-passed (words (a .card .now)) (a .b) (a .n) (a .places) (a .ts) (l .loop .left) (l .loop .best) (l .loop .inv) (r .result - 1) top (m .result) (m .ensures) (q .0 .left) _ (q .1))
-    (c .before .if2 .came)
+    let l = c .before .before .before .before .before .before .before .before .before .before in
+    let s = c .before .before .before .before .before .before .before .before .before .before .before .before .before .before .before .before .before in
+    let W = words (s .args .card .now) in
+    let R = s .args .run .now in
+    let H = s .args .heads .now in
+    let k = l .loop .top - 1 in
+    let high : l .loop .top ≡ suc k = omega (arith, c .before .before .before .before .before .before .before .before .before .loop-test .taken) in
+    let t = c .before .before .before .before .before .before .before .take-terms in
+    walk-placed W R (s .args .m) (s .args .g) (s .args .places) H (l .loop .heads) (l .loop .best) (l .loop .top) (l .loop .inv) k high (t .last .1 .1 .0) (t .result .next) (t .ensures .0 .0) (t .ensures .0 .1) (t .ensures .0 .2) (t .ensures .1 .2) (t .result .score) (t .ensures .1 .0) (sym (t .ensures .1 .1) ∙ c .before .before .before .before .if1 .taken) _ (c .place-hit .ensures)
+
+loop-less-2 : tie.Need-loop-less-2 Inv-loop μ-loop
+loop-less-2 c =
+    let l = c .before .before .before .before .before .before .before .before .before in
+    let s = c .before .before .before .before .before .before .before .before .before .before .before .before .before .before .before .before in
+    let W = words (s .args .card .now) in
+    let R = s .args .run .now in
+    let H = s .args .heads .now in
+    let k = l .loop .top - 1 in
+    let high : l .loop .top ≡ suc k = omega (arith, c .before .before .before .before .before .before .before .before .loop-test .taken) in
+    let t = c .before .before .before .before .before .before .take-terms in
+    omega (arith, walk-lower W R (s .args .m) (s .args .g) (s .args .places) H (l .loop .heads) (l .loop .best) (l .loop .top) (l .loop .inv) k high (t .last .1 .1 .0) (t .result .next) (t .ensures .0 .0) (t .ensures .0 .1) (t .ensures .0 .2) (t .ensures .1 .2), high)
+
+loop-again-2 : tie.Need-loop-again-2 Inv-loop μ-loop
+loop-again-2 c =
+    let l = c .before .before .before .before .before .before .before .before .before in
+    let s = c .before .before .before .before .before .before .before .before .before .before .before .before .before .before .before .before in
+    let W = words (s .args .card .now) in
+    let R = s .args .run .now in
+    let H = s .args .heads .now in
+    let k = l .loop .top - 1 in
+    let high : l .loop .top ≡ suc k = omega (arith, c .before .before .before .before .before .before .before .before .loop-test .taken) in
+    let t = c .before .before .before .before .before .before .take-terms in
+    walk-out W R (s .args .m) (s .args .g) (s .args .places) H (l .loop .heads) (l .loop .best) (l .loop .top) (l .loop .inv) k high (t .last .1 .1 .0) (t .result .next) (t .ensures .0 .0) (t .ensures .0 .1) (t .ensures .0 .2) (t .ensures .1 .2) (t .result .score) (t .ensures .1 .0) (sym (t .ensures .1 .1) ∙ c .before .before .before .if1 .taken) (sym (c .before .enters .ensures) ∙ c .if2 .left) _ refl
+
+loop-less-3 : tie.Need-loop-less-3 Inv-loop μ-loop
+loop-less-3 c =
+    let l = c .before .before .before .before .before .before in
+    let s = c .before .before .before .before .before .before .before .before .before .before .before .before .before in
+    let W = words (s .args .card .now) in
+    let R = s .args .run .now in
+    let H = s .args .heads .now in
+    let k = l .loop .top - 1 in
+    let high : l .loop .top ≡ suc k = omega (arith, c .before .before .before .before .before .loop-test .taken) in
+    let t = c .before .before .before .take-terms in
+    omega (arith, walk-lower W R (s .args .m) (s .args .g) (s .args .places) H (l .loop .heads) (l .loop .best) (l .loop .top) (l .loop .inv) k high (t .last .1 .1 .0) (t .result .next) (t .ensures .0 .0) (t .ensures .0 .1) (t .ensures .0 .2) (t .ensures .1 .2), high)
+
+loop-again-3 : tie.Need-loop-again-3 Inv-loop μ-loop
+loop-again-3 c =
+    let l = c .before .before .before .before .before .before in
+    let s = c .before .before .before .before .before .before .before .before .before .before .before .before .before in
+    let W = words (s .args .card .now) in
+    let R = s .args .run .now in
+    let H = s .args .heads .now in
+    let k = l .loop .top - 1 in
+    let high : l .loop .top ≡ suc k = omega (arith, c .before .before .before .before .before .loop-test .taken) in
+    let t = c .before .before .before .take-terms in
+    walk-passed W R (s .args .m) (s .args .g) (s .args .places) H (l .loop .heads) (l .loop .best) (l .loop .top) (l .loop .inv) k high (t .last .1 .1 .0) (t .result .next) (t .ensures .0 .0) (t .ensures .0 .1) (t .ensures .0 .2) (t .ensures .1 .2) (sym (t .ensures .1 .1) ∙ c .if1 .left) _ refl
+
+same-length : tie.Need-same-length Inv-loop μ-loop
+same-length c = c .before .loop .inv .long
+
+returns : tie.Need-returns Inv-loop μ-loop
+returns c =
+    let l = c .before in
+    let a = c .before .before .before .before .before .before .before .before .args in
+    walk-ended (words (a .card .now)) (a .run .now) (a .m) (a .g) (a .places) (a .heads .now) (l .loop .heads) (l .loop .best) (l .loop .top) (l .loop .inv) (omega arith)
 
 pub walk-spec : {M : Type 1} → statement M
 walk-spec =
@@ -86,12 +160,22 @@ walk-spec =
     Inv-loop
     μ-loop
     no-hits-requires
+    top-terms-requires
     loop-holds
-    reach-requires
-    returns
     sub-w
-    take-requires
-    cast-t14
+    take-terms-requires
+    cast-at
+    sub-at
+    cast-at-2
+    mul-last
+    element-copy-out-last
+    enters-requires
     place-hit-requires
     loop-less
-    loop-again)
+    loop-again
+    loop-less-2
+    loop-again-2
+    loop-less-3
+    loop-again-3
+    same-length
+    returns)

@@ -125,13 +125,12 @@ returns c =
     let zt = toZ-ofZ ft in
     let total = c .before .before .before .before .before .before .before .added .ensures ∙ ap₂ _+ℤ_ (toZ-ofZ fs) (toZ-ofZ fq ∙ qq .2) in
     let g = views W R n H in
-    let v = view W R (part 4 n H) in
-    (
+    let v = view W R (part 4 n H) in (
       (after-long n H X Y (s .pre .0) front four, after-ready n H X Y (s .pre .0) front four W R k (tt .0 .1) (qq .0), after-both n H X Y (s .pre .0) front four W R k (tt .0 .2) (qq .1)),
       (
         c .before .before .both3 .ensures
-        ∙ ap₂ _&&_ (c .before .before .before .both2 .ensures ∙ ap₂ _&&_ (tt .1 .1) (qq .3)) (c .before .before .before .before .both .ensures ∙ ap₂ _&&_ (c .before .before .before .before .before .before .in-range .ensures ∙ ap inRange (toZ-ofZ fs)) (c .before .before .before .before .before .in-range2 .ensures ∙ ap inRange zt))
-        ∙ fine-step g v k (t .result .sum) (c .before .before .before .before .before .before .before .added .result) (tt .1 .0) total,
+            ∙ ap₂ _&&_ (c .before .before .before .both2 .ensures ∙ ap₂ _&&_ (tt .1 .1) (qq .3)) (c .before .before .before .before .both .ensures ∙ ap₂ _&&_ (c .before .before .before .before .before .before .in-range .ensures ∙ ap inRange (toZ-ofZ fs)) (c .before .before .before .before .before .in-range2 .ensures ∙ ap inRange zt))
+            ∙ fine-step g v k (t .result .sum) (c .before .before .before .before .before .before .before .added .result) (tt .1 .0) total,
         c .before .above .ensures ∙ ap isAbove zt ∙ counts-step g v k (t .result .sum) (c .before .before .before .before .before .before .before .added .result) (tt .1 .0) total,
         rw (after-parts n H X Y (s .pre .0) front four, after-part n H X Y (s .pre .0) front four) (sym (top-step (views W R n X) (view W R Y) (t .result .next) (q .result .reach) _ (tt .1 .2) (qq .4) (c .larger .ensures))),
       ),

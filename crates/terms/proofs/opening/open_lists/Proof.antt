@@ -104,8 +104,7 @@ loop-again c =
     let p = c .before .before .put in
     let h = p .ensures in
     let inside : 4 * i + 4 ≤ length (a .loop .heads) = omega (arith, v .1, s .pre .1, c .before .before .before .before .before .before .before .before .loop-test .taken) in
-    let same = ap (map (posted (s .args .id))) (h .1 ∙ place-comes W R (l .result) (l .ensures .1)) ∙ l .ensures .0 in
-    (
+    let same = ap (map (posted (s .args .id))) (h .1 ∙ place-comes W R (l .result) (l .ensures .1)) ∙ l .ensures .0 in (
       v .0,
       put-length 4 (a .loop .heads) (p .last .1 .1 .0) i inside (h .0 .four) ∙ v .1,
       omega (arith, c .before .before .before .before .before .before .before .before .loop-test .taken),

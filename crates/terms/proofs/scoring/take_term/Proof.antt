@@ -94,8 +94,7 @@ returns-2 c =
     let n = c .before .count-of .ensures .0 ∙ ap above (toZ-ofZ f ∙ u .1 .0) in
     let z = score-most (c .before .count-of .result) (getD G 1 0) (c .before .count-of .ensures .1) (s .pre .0 .light) in
     let X = t .last .1 .1 .0 in
-    let w = c .tf-weight .ensures .0 in
-    (
+    let w = c .tf-weight .ensures .0 in (
       (after-kept W R (s .args .m) (s .args .key) G (s .pre .0) X (t .result .next) (u .0 .0) (u .0 .1) (u .0 .2) (u .1 .2), after-term W R (s .args .m) (s .args .key) G (s .pre .0) X (t .result .next) (u .0 .0) (u .0 .1) (u .0 .2) (u .1 .2)),
       (
         ap (λ (x : ℕ). x * getD G 1 0) (w ∙ ap tfWeight n),

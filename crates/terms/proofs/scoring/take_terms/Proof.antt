@@ -97,12 +97,11 @@ loop-again c =
     let test = c .before .before .before .before .before .before .before .loop-test .taken in
     let e = ends (4 * m + 2) j (s .args .g) test in
     let t = c .before .before .before .before .before .take-term in
-    let u = rw (width (4 * m + 2) j) at (t .ensures) in
-    (
+    let u = rw (width (4 * m + 2) j) at (t .ensures) in (
       omega (arith, test),
       rw (c .before .either .ensures, c .larger .ensures)
-      (joined-more W R m (s .args .key) (s .args .heads .now) j (a .loop .heads) _ _ _ (a .loop .inv .1) (omega (arith, e, s .pre .0))
-      (t .last .1 .1 .0) (t .result .score) (t .result .counts) (t .result .next) (u .0 .0) (u .0 .1) (u .1 .0) (u .1 .1) (u .1 .2) (u .1 .3)),
+          (joined-more W R m (s .args .key) (s .args .heads .now) j (a .loop .heads) _ _ _ (a .loop .inv .1) (omega (arith, e, s .pre .0))
+          (t .last .1 .1 .0) (t .result .score) (t .result .counts) (t .result .next) (u .0 .0) (u .0 .1) (u .1 .0) (u .1 .1) (u .1 .2) (u .1 .3)),
     )
 
 same-length : tie.Need-same-length Inv-loop μ-loop

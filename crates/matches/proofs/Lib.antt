@@ -1,4 +1,0 @@
-pub mod Scores
-pub mod Parts
-pub mod Fives
-pub mod Opening

@@ -1,2 +1,0 @@
-pub mod Joint
-pub mod Served

@@ -1,0 +1,140 @@
+-- `queries::judging::keep_one` meets its contract: five are kept, and one more.
+use mathlib.Core.Path.{_≡_, refl, _∙_}
+use Prim.Native.Nat.{_+_, _*_, _≤_}
+use native.Mathlib.Omega.{arith}
+use lib.ListN.{length, drop, length-drop}
+use lib.Seq.{length-take-le}
+use Rattle.words.specs.Words.{words}
+use Rattle.kway.proofs.Parts.{ends, width}
+use Rattle.queries.proofs.Gathering.{keeps-room, keeps-full}
+use borrow.Author.Needs.{needs}
+use Rattle.queries.proofs.judging.keep_one.Statement.{statement}
+use Rattle.queries.proofs.judging.keep_one.Tie as tie
+
+judge-term-requires : tie.Need-judge-term-requires
+judge-term-requires c κs = search needs
+
+same-length : tie.Need-same-length
+same-length c = search needs
+
+returns : tie.Need-returns
+returns c =
+    let s = c .before .before .before .before .before .before .before .before .before .before in
+    record {
+      fine = c .before .before .judge-term .ensures;
+      keeps = λ f. keeps-full (words (s .args .card .now)) (s .args .run .now) (s .args .s) (s .args .k) _ (s .args .heads .now) (s .args .id) (c .before .before .before .before .if1 .taken) refl refl;
+      used = s .pre .1;
+      few = s .pre .2;
+    }
+
+cast-m : tie.Need-cast-m
+cast-m c = search needs
+
+add-m : tie.Need-add-m
+add-m c = search needs
+
+mul-size : tie.Need-mul-size
+mul-size c = search needs
+
+add-size : tie.Need-add-size
+add-size c = search needs
+
+cast-at : tie.Need-cast-at
+cast-at c = search needs
+
+mul-at : tie.Need-mul-at
+mul-at c =
+    let s = c .before .before .before .before .before .before .before .before in
+    let n = s .args .s .partitions .used in
+    let e = ends (4 * (n + 1) + 2) (s .args .k .used) 5 (omega (arith, c .before .before .if1 .left)) in
+    omega (arith, e, s .pre .0 .room, s .pre .0 .most)
+
+add-end : tie.Need-add-end
+add-end c =
+    let s = c .before .before .before .before .before .before .before .before in
+    let n = s .args .s .partitions .used in
+    let e = ends (4 * (n + 1) + 2) (s .args .k .used) 5 (omega (arith, c .before .before .if1 .left)) in
+    omega (arith, e, s .pre .0 .room, s .pre .0 .most)
+
+mul-keep-term : tie.Need-mul-keep-term
+mul-keep-term c =
+    let s = c .before .before .before .before .before .before .before .before in
+    let n = s .args .s .partitions .used in
+    let e = ends (4 * (n + 1) + 2) (s .args .k .used) 5 (omega (arith, c .before .before .if1 .left)) in
+    omega (arith, e, s .pre .0 .room, s .pre .0 .most)
+
+sub-keep-term : tie.Need-sub-keep-term
+sub-keep-term c = search needs
+
+part-keep-term-start : tie.Need-part-keep-term-start
+part-keep-term-start c = search needs
+
+part-keep-term-end : tie.Need-part-keep-term-end
+part-keep-term-end c =
+    let s = c .before .before .before .before .before .before .before .before in
+    let n = s .args .s .partitions .used in
+    let e = ends (4 * (n + 1) + 2) (s .args .k .used) 5 (omega (arith, c .before .before .if1 .left)) in
+    omega (arith, e, s .pre .0 .room, s .pre .0 .most)
+
+keep-term-requires : tie.Need-keep-term-requires
+keep-term-requires c κs =
+    let s = c .before .before .before .before .before .before .before .before .before .before in
+    let n = s .args .s .partitions .used in
+    let e = ends (4 * (n + 1) + 2) (s .args .k .used) 5 (omega (arith, c .before .before .before .before .if1 .left)) in
+    let u = s .args .k .used in
+    let w = width (4 * (n + 1) + 2) u in
+    let r = s .pre .0 in
+    let H = s .args .heads .now in
+    let l = length-take-le (4 * (n + 1) + 2) (drop ((4 * (n + 1) + 2) * u) H) (omega (arith, length-drop ((4 * (n + 1) + 2) * u) H, e, r .room)) in
+    (r .rule, r .long, r .partitions, r .packed, r .one, rw w (l ∙ omega arith))
+
+add-t24 : tie.Need-add-t24
+add-t24 c = search needs
+
+add-t25 : tie.Need-add-t25
+add-t25 c = search needs
+
+same-length-2 : tie.Need-same-length-2
+same-length-2 c = search needs
+
+same-length-3 : tie.Need-same-length-3
+same-length-3 c = search needs
+
+returns-2 : tie.Need-returns-2
+returns-2 c =
+    let s = c .before .before .before .before .before .before .before .before .before .before .before .before .before .before .before .before .before .before in
+    let n = s .args .s .partitions .used in
+    let e = ends (4 * (n + 1) + 2) (s .args .k .used) 5 (omega (arith, c .before .before .before .before .before .before .before .before .before .before .before .before .if1 .left)) in
+    let o = c .before .before .before .before .before .before .before .keep-term in
+    let five : s .args .k .used + 1 ≤ 5 = omega (arith, c .before .before .before .before .before .before .before .before .before .before .before .before .if1 .left) in
+    record {
+      fine = o .ensures .fine;
+      keeps = λ f. keeps-room (words (s .args .card .now)) (s .args .run .now) (s .args .s) (s .args .k) _ (s .args .heads .now) (o .last .1 .1 .0) (s .args .id) (o .result) (omega arith) (omega (arith, e, s .pre .0 .room)) (o .ensures) f refl refl;
+      used = five;
+      few = omega (arith, o .ensures .few, s .pre .2);
+    }
+
+pub keep-one-spec : {M : Type 1} → statement M
+keep-one-spec =
+    tie.close
+    (tie.spec
+    judge-term-requires
+    same-length
+    returns
+    cast-m
+    add-m
+    mul-size
+    add-size
+    cast-at
+    mul-at
+    add-end
+    mul-keep-term
+    sub-keep-term
+    part-keep-term-start
+    part-keep-term-end
+    keep-term-requires
+    add-t24
+    add-t25
+    same-length-2
+    same-length-3
+    returns-2)
