@@ -12,7 +12,7 @@ use Rattle.card.specs.Cursors.{headOf}
 use Rattle.partitions.specs.declared.Reader.{Reader}
 use Rattle.partitions.specs.Readers.{GoodReader, firstAhead, movedReader}
 use Rattle.partitions.proofs.Readers.{reader-more, reader-none}
-use Rattle.walks.proofs.Stored.{fine-rule}
+use Rattle.kway.proofs.Stored.{fine-rule}
 use Rattle.scans.specs.Keys.{itemOf}
 use Rattle.scans.specs.Items.{items, headKey, restReader}
 

@@ -15,7 +15,7 @@ use Rattle.postings.specs.Sums.{sum}
 use Rattle.postings.proofs.Order.{ordered-next}
 use Rattle.postings.proofs.Sums.{sum-append}
 use Rattle.partitions.specs.Formed.{listRule}
-use Rattle.walks.proofs.Stored.{rule}
+use Rattle.kway.proofs.Stored.{rule}
 use Rattle.scans.specs.Keys.{keyOf, keyId, keyWindow, itemOf, isKeyed}
 
 -- ---- a key tells its identifier and its window

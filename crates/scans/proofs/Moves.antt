@@ -15,7 +15,7 @@ use Rattle.words.specs.Words.{Below}
 use Rattle.card.specs.Cursors.{ahead}
 use Rattle.partitions.specs.declared.Reader.{Reader}
 use Rattle.partitions.specs.Readers.{postedBy, postingsAhead, numbered, GoodReader}
-use Rattle.walks.proofs.Stored.{Small, small-ahead}
+use Rattle.kway.proofs.Stored.{Small, small-ahead}
 use Rattle.scans.specs.Keys.{isKeyed}
 
 -- ---- every posting to come has a key of its own

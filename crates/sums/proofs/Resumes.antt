@@ -16,8 +16,8 @@ use Rattle.keyed.proofs.Walk.{over-none}
 use Rattle.keyed.proofs.Groups as G
 use Rattle.postings.specs.declared.Posting.{Posting}
 use Rattle.postings.specs.Merge.{isZero}
-use Rattle.walks.specs.Judged.{totalZ, inRanges}
-use Rattle.walks.proofs.Steps.{total-none, quiet}
+use Rattle.kway.specs.Ranges.{totalZ, inRanges}
+use Rattle.kway.proofs.Ranges.{total-none, quiet}
 use Rattle.scans.specs.Keys.{keyWindow}
 use Rattle.sums.proofs.Tally.{Tally, faulty, tallied, totalAt, checked, gathered, windowChecked, windowGathered, tallyIf, tallyOf, keptOf}
 use Rattle.sums.proofs.Keeps.{append-none}

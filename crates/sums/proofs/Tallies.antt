@@ -19,7 +19,7 @@ use Rattle.postings.specs.Sums.{share, sum}
 use Rattle.postings.proofs.Sums.{is-zero, sum-append, sum-pairs}
 use Rattle.postings.proofs.Merge.{every-puts, pairs-ordered, ordered-sum, same-sums}
 use Rattle.partitions.specs.Formed.{inRange, sumsInRange, listRule}
-use Rattle.walks.specs.Judged.{totalZ, inRanges}
+use Rattle.kway.specs.Ranges.{totalZ, inRanges}
 use Rattle.scans.specs.Keys.{keyOf, keyId, keyWindow, itemOf, isKeyed}
 use Rattle.scans.proofs.Keys.{key-whole, key-of-id, key-of-window, key-below, key-precedes, falls-rule, lists-rule, sum-keyed, sums-keyed}
 use Rattle.sums.proofs.Tally.{faulty, totalAt, checked, gathered, windowChecked, windowGathered, tallyIf, tallyOf}

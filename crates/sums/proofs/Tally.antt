@@ -14,7 +14,7 @@ use Rattle.postings.specs.Merge.{isZero}
 use Rattle.state.specs.declared.Buffer.{Buffer}
 use Rattle.state.specs.Views.{buffered}
 use Rattle.partitions.specs.Formed.{inRange}
-use Rattle.walks.specs.Judged.{totalZ, inRanges}
+use Rattle.kway.specs.Ranges.{totalZ, inRanges}
 use Rattle.scans.specs.Keys.{keyWindow, itemOf, isKeyed, postingOf}
 use Rattle.scans.specs.Heads.{views}
 use Rattle.sums.specs.declared.Judged.{Judged}

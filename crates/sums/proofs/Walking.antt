@@ -14,8 +14,8 @@ use Rattle.keyed.specs.Groups.{Group, topAll, moveAll, headsFineAll}
 use Rattle.postings.specs.declared.Posting.{Posting}
 use Rattle.postings.specs.Merge.{isZero}
 use Rattle.state.specs.declared.Buffer.{Buffer}
-use Rattle.walks.specs.Judged.{totalZ, inRanges}
-use Rattle.walks.proofs.Steps.{top-step}
+use Rattle.kway.specs.Ranges.{totalZ, inRanges}
+use Rattle.kway.proofs.Ranges.{top-step}
 use Rattle.kway.specs.Parts.{parts}
 use Rattle.scans.specs.Keys.{keyWindow}
 use Rattle.scans.specs.Heads.{views, Kept}

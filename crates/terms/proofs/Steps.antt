@@ -1,36 +1,25 @@
 -- The merge as a whole computes the definition.
-use mathlib.Core.Bool.{Bool, true, false, cond, _&&_, and-true}
+use mathlib.Core.Bool.{true, false, cond, _&&_, and-true}
 use mathlib.Core.List.{List, [], _∷_, map}
-use mathlib.Core.Path.{_≡_, refl, ap, _∙_}
+use mathlib.Core.Path.{_≡_, ap, _∙_}
 use Prim.Native.Nat.{ℕ, suc, _+_, _<_, _≤_}
 use native.Mathlib.Omega.{arith}
 use lib.Dec.{ltb}
-use lib.IntN.{ℤ, pos, _+ℤ_, +ℤ-idr}
+use lib.IntN.{ℤ, _+ℤ_, +ℤ-idr}
 use borrow.Author.Tests.{ltb-false}
 use Rattle.lists.specs.All.{AllOf}
 use Rattle.lists.proofs.Bools.{by-test, and-left, and-right}
-use Rattle.keyed.specs.Keys.{Item, reach, larger, topFrom, headVal, headVals, headFine, headsFine}
+use Rattle.keyed.specs.Keys.{Item, larger, headVal, headVals, headFine, headsFine}
 use Rattle.keyed.specs.Groups.{Group, topAll, moveAll, headsFineAll}
 use Rattle.keyed.proofs.Groups as G
 use Rattle.postings.specs.Sums.{isAbove}
 use Rattle.partitions.specs.Formed.{inRange}
+pub use Rattle.kway.proofs.Ranges.{total-none, quiet, top-step}
 use Rattle.terms.specs.declared.judging.Told.{Told}
 use Rattle.terms.specs.declared.judging.Told.the-variants.{Malformed, Windows}
 use Rattle.terms.specs.Judged.{totalZ, inRanges, counts, formed, risen, toldOf, fineAt}
 
--- sums of 0 add up to 0
-pub total-none : (v : List ℤ) → AllOf G.Zero v → totalZ v ≡ pos 0
-unfolding AllOf
-total-none [] z = refl
-total-none (x ∷ v) z = rw (z .0, total-none v (z .1))
-
--- they pass the test
-pub quiet : (v : List ℤ) → AllOf G.Zero v → inRanges v ≡ true
-unfolding AllOf
-quiet [] z = refl
-quiet (x ∷ v) z = rw (z .0, total-none v (z .1))
-
--- they count nothing
+-- sums of 0 count nothing
 pub still : (w : ℕ) (v : List ℤ) (n : ℕ) → AllOf G.Zero v → counts w v n ≡ n
 still w v n z = rw (total-none v z) (omega arith)
 
@@ -80,10 +69,6 @@ pub larger-none : (n : ℕ) → larger 0 n ≡ n
 larger-none n = by-test (ltb 0 n) (λ y. rw y) (λ y. let h = ltb-false 0 n y in rw y (omega arith))
 
 module _ (g : Group) (l : List Item) where
-  -- the highest window of both
-  pub top-step : (x y t : ℕ) → x ≡ topFrom 0 g → y ≡ reach l → t ≡ larger x y → topAll 0 (g ∷ (l ∷ []) ∷ []) ≡ t
-  top-step x y t p q e = rw (larger-none (topFrom 0 g), larger-none (reach l), ← p, ← q, e)
-
   module _ (k : ℕ) (sum total : ℤ) (s : sum ≡ headVals k g) (t : total ≡ sum +ℤ headVal k l) where
     -- postings and sums decide
     pub fine-step : ((headsFine k g && headFine k l) && (inRange sum && inRange total)) ≡ fineAt k (g ∷ (l ∷ []) ∷ [])

@@ -1,17 +1,17 @@
 -- From the words that an identifier's heads have to come to what is stored under it.
-use mathlib.Core.Bool.{Bool, true, false, not, _&&_, and-true, and-false}
+use mathlib.Core.Bool.{Bool, true, false, _&&_, and-true, and-false}
 use mathlib.Core.List.{List, [], _∷_, _++_, map}
 use mathlib.Core.Path.{_≡_, refl, sym, ap, ap₂, _∙_}
-use Prim.Native.Nat.{ℕ, zero, suc, _+_, _-_, _/_, _%_, _<_, _≤_}
+use Prim.Native.Nat.{ℕ, zero, suc, _+_, _-_, _/_, _%_, _≤_}
 use native.Mathlib.Omega.{arith}
-use lib.Dec.{leb, ltb, eqb}
+use lib.Dec.{ltb, eqb}
 use lib.IntN.{ℤ, pos, _+ℤ_, +ℤ-idr}
 use lib.ListN.{length, take, drop, length-append, length-map}
-use borrow.Author.Tests.{leb-true, lt-ltb, le-ltb, le-leb, lt-leb, eqb-true, eqb-false, eq-eqb, ne-eqb}
+use borrow.Author.Tests.{lt-ltb, le-ltb, eq-eqb, ne-eqb}
 use Rattle.lists.specs.Lists.{every, joined, totalBy}
 use Rattle.lists.specs.All.{AllOf}
 use Rattle.lists.proofs.Bools.{by-test, and-left, and-right, and-both}
-use Rattle.lists.proofs.Tests.{keep-append, every-from, every-keep, every-kept}
+use Rattle.lists.proofs.Tests.{keep-append, every-keep}
 use Rattle.lists.proofs.Tests.{every-append}
 use Rattle.lists.proofs.Ranges.{every-map, keep-joined}
 use Rattle.keyed.specs.Keys.{falls, allFall, sumOf, sums, overKeys}
@@ -21,19 +21,18 @@ use Rattle.keyed.proofs.Groups.{Zero}
 use Rattle.words.specs.Words.{Below}
 use Rattle.postings.specs.declared.Posting.{Posting}
 use Rattle.postings.specs.Order.{ordered}
-use Rattle.postings.specs.Merge.{isZero}
-use Rattle.postings.specs.Pack.{signed, wordWindow, isPosting, posted}
+use Rattle.postings.specs.Pack.{wordWindow, isPosting, posted}
 use Rattle.postings.specs.Sums.{sum, under, isAbove, frequency}
 use Rattle.postings.proofs.Order.{ordered-next, keep-ordered}
 use Rattle.postings.proofs.Sums.{sum-append, sum-under}
-use Rattle.postings.proofs.Trips.{posting-count, posting-window}
+use Rattle.postings.proofs.Trips.{posting-window}
 use Rattle.state.specs.declared.State.{State}
 use Rattle.state.specs.Views.{buffered, finished}
-use Rattle.card.specs.Cursors.{nextBlock, nextWord, aheadAt}
 use Rattle.partitions.specs.Reading.{postingsOf, inPartitions, stored}
 use Rattle.partitions.specs.Formed.{listRule, sumsInRange, identifierFormed}
 use Rattle.kway.specs.Parts.{part, parts}
-use Rattle.terms.specs.Heads.{itemOf, comes, coming, view, views}
+pub use Rattle.kway.proofs.Stored.{Small, rule, fine-rule, small-at}
+use Rattle.terms.specs.Heads.{itemOf, comes, coming, view}
 use Rattle.terms.specs.Both.{both}
 use Rattle.terms.specs.Judged.{totalZ, ranges, counts, formed, risen}
 use Rattle.terms.specs.Opening.{listed, Opens}
@@ -41,32 +40,6 @@ use Rattle.terms.proofs.Steps.{total-none}
 use Rattle.terms.proofs.Ranges.{range, own, sums-range, over-two, over-down}
 
 -- ---- words
-
--- a word has 32 bits
-abbrev pub Small : ℕ → Type 0
-Small x = x < 4294967296
-
--- what a rule of a list says of one posting
-abbrev pub rule : Posting → Bool
-rule p = leb 1 (p .window) && not (isZero (p .count))
-
-sizeless-zero : (b n : ℕ) → n ≡ 0 → isZero (signed b n) ≡ true
-sizeless-zero zero zero e = refl
-sizeless-zero (suc b) zero e = refl
-sizeless-zero b (suc n) e = absurd (omega arith)
-
--- a word holds a posting where its posting keeps the rule
-pub fine-rule : (i x : ℕ) → isPosting x ≡ rule (posted i x)
-fine-rule i x =
-    by-test (eqb (x / 65536) 0)
-    (λ y. let z = eqb-true (x / 65536) 0 y in rw (y, lt-leb 1 (x / 65536) (omega arith)))
-    (λ n. let d = eqb-false (x / 65536) 0 n in
-    by-test (eqb (x % 32768) 0)
-    (λ y. let z = eqb-true (x % 32768) 0 y in
-    let s = sizeless-zero (x % 65536 / 32768) (x % 65536 % 32768) (omega arith) in
-    rw (n, y, le-leb 1 (x / 65536) (omega arith), s))
-    (λ m. let t : isPosting x ≡ true = rw (n, m) in
-    t ∙ sym (and-both (leb 1 (x / 65536)) _ (le-leb 1 (x / 65536) (omega arith)) (rw (posting-count x t)))))
 
 -- a list falls where it keeps the rule and its first window is below the bound
 falls-words : (i m x : ℕ) (xs : List ℕ) → falls m (map itemOf (x ∷ xs)) ≡ (ltb (wordWindow x) m && listRule (map (posted i) (x ∷ xs)))
@@ -109,11 +82,6 @@ zero-words m (x ∷ xs) e =
 -- ---- the words that a head has to come
 
 module _ (W R : List ℕ) (small : Below 4294967296 W) (few : Below 4294967296 R) where
-  small-at : (n b k : ℕ) → AllOf Small (aheadAt W n b k)
-  unfolding AllOf aheadAt
-  small-at zero b k = tt
-  small-at (suc n) b k = (small _, small-at n (nextBlock W b k) (nextWord k))
-
   small-list : (l : List ℕ) → Below 4294967296 l → AllOf Small l
   unfolding AllOf
   small-list [] f = tt
@@ -134,7 +102,7 @@ module _ (W R : List ℕ) (small : Below 4294967296 W) (few : Below 4294967296 R
   pub small-comes : (p n : ℕ) → AllOf Small (comes W R p n)
   unfolding comes
   small-comes p n =
-      by-test (ltb p 4194304) (λ y. rw y (small-at n (p / 1024) (p % 1024)))
+      by-test (ltb p 4194304) (λ y. rw y (small-at W small n (p / 1024) (p % 1024)))
       (λ y. rw y (small-take n (drop (p - 4194304) R) (small-drop (p - 4194304) R (small-list R few))))
 
   -- ---- lists of them

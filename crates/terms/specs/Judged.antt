@@ -1,25 +1,15 @@
 -- What a merge of groups of lists tells: whether they are well formed, with the sums of every window in range, and in how many windows the sum over all
 -- groups is above 0.
 use mathlib.Core.Bool.{Bool, true, cond, _&&_}
-use mathlib.Core.List.{List, [], _∷_, map}
+use mathlib.Core.List.{List, map}
 use Prim.Native.Nat.{ℕ, _+_}
-use lib.IntN.{ℤ, pos, _+ℤ_}
+use lib.IntN.{ℤ}
 use Rattle.keyed.specs.Keys.{sums, overKeys, headVals}
 use Rattle.keyed.specs.Groups.{Group, allFallAll, headsFineAll}
 use Rattle.postings.specs.Sums.{isAbove}
-use Rattle.partitions.specs.Formed.{inRange}
+pub use Rattle.kway.specs.Ranges.{totalZ, inRanges}
 use Rattle.terms.specs.declared.judging.Told.{Told}
 use Rattle.terms.specs.declared.judging.Told.the-variants.{Malformed, Windows}
-
--- the groups' sums added up
-abbrev pub totalZ : List ℤ → ℤ
-totalZ [] = pos 0
-totalZ (z ∷ zs) = z +ℤ totalZ zs
-
--- the first group's sum is in range, and so is that of all
-abbrev pub inRanges : List ℤ → Bool
-inRanges [] = true
-inRanges (z ∷ zs) = inRange z && inRange (z +ℤ totalZ zs)
 
 -- the test of every window, and the count of those above 0
 abbrev pub ranges : ℕ → List ℤ → Bool → Bool

@@ -4,7 +4,7 @@ use borrow.Author.Needs.{needs}
 use Rattle.words.specs.Words.{words}
 use Rattle.state.specs.Views.{blocks, finished}
 use Rattle.state.proofs.Kept.{state-kept}
-use Rattle.walks.proofs.Opened.{all-readable}
+use Rattle.kway.proofs.Readable.{all-readable}
 use Rattle.sums.proofs.read.Statement.{statement}
 use Rattle.sums.proofs.read.Tie as tie
 

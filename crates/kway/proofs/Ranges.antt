@@ -5,21 +5,14 @@ use mathlib.Core.Path.{_≡_, refl}
 use Prim.Native.Nat.{ℕ}
 use native.Mathlib.Omega.{arith}
 use lib.Dec.{ltb}
-use lib.IntN.{ℤ, pos, negsuc}
-use lib.Signed.{ltZ}
+use lib.IntN.{ℤ, pos}
 use borrow.Author.Tests.{ltb-false}
 use Rattle.lists.specs.All.{AllOf}
 use Rattle.lists.proofs.Bools.{by-test}
 use Rattle.keyed.specs.Keys.{Item, reach, larger, topFrom}
 use Rattle.keyed.specs.Groups.{Group, topAll}
 use Rattle.keyed.proofs.Groups as G
-use Rattle.postings.specs.Sums.{isAbove}
-use Rattle.walks.specs.Judged.{totalZ, inRanges}
-
--- a test by sign
-pub above-test : (z : ℤ) → ltZ (pos 0) z ≡ isAbove z
-above-test (pos n) = refl
-above-test (negsuc n) = refl
+use Rattle.kway.specs.Ranges.{totalZ, inRanges}
 
 -- sums of 0 add up to 0
 pub total-none : (v : List ℤ) → AllOf G.Zero v → totalZ v ≡ pos 0

@@ -43,7 +43,8 @@ fine-rule i x =
     t ∙ sym (and-both (leb 1 (x / 65536)) _ (le-leb 1 (x / 65536) (omega arith)) (rw (posting-count x t)))))
 
 module _ (W : List ℕ) (small : Below 4294967296 W) where
-  small-at : (n b k : ℕ) → AllOf Small (aheadAt W n b k)
+  -- words along a chain are small
+  pub small-at : (n b k : ℕ) → AllOf Small (aheadAt W n b k)
   unfolding AllOf aheadAt
   small-at zero b k = tt
   small-at (suc n) b k = (small _, small-at n (nextBlock W b k) (nextWord k))
