@@ -19,7 +19,7 @@ use Rattle.state.specs.declared.State.{State}
 use Rattle.identifiers.specs.Names.{Name, numberOf, numbersOf}
 use Rattle.partitions.specs.Reading.{stored}
 use Rattle.partitions.specs.Formed.{identifierFormed}
-use Rattle.kway.specs.Parts.{part, parts}
+use Rattle.kway.specs.Parts.{parts}
 use Rattle.kway.proofs.Parts.{putIn, all-more, put-here, map-more}
 use Rattle.terms.specs.declared.counting.Counted.{Counted}
 use Rattle.terms.specs.Terms.{Term, KeptGroup, termOf, termsOf, Serves, CountedFor}

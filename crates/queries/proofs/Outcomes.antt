@@ -34,7 +34,7 @@ use Rattle.queries.specs.declared.judging.Known.{Known}
 use Rattle.queries.specs.Hits.{place, score, matching, ranked}
 use Rattle.queries.specs.Query.{countIn, takenUp, numbers, queryFormed, badQuery, hitsOf, fill, querying, queryOf}
 use Rattle.queries.specs.Top.{noHit, listedHits, topOf}
-use Rattle.queries.specs.Walks.{foundBy, foundIn, Walkable}
+use Rattle.queries.specs.Walks.{foundIn, Walkable}
 use Rattle.queries.specs.Gathered.{Sound, Readied, storedUnder, Serving, Gathered}
 use Rattle.queries.specs.Finds.{probeOf, hitsIn, Finds}
 use Rattle.queries.proofs.Tops.{listed-of}

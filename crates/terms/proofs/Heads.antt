@@ -1,12 +1,12 @@
 -- One head: put, taken, and moved.
-use mathlib.Core.Bool.{Bool, true, false, cond, _&&_}
+use mathlib.Core.Bool.{true, _&&_}
 use mathlib.Core.List.{List, [], _∷_, map}
 use mathlib.Core.Path.{_≡_, refl, sym, ap, _∙_, subst}
 use Prim.Native.Nat.{ℕ, zero, suc, _+_, _-_, _*_, _/_, _%_, _<_, _≤_}
 use native.Mathlib.Omega.{arith}
 use lib.Dec.{eqb, ltb}
-use lib.IntN.{ℤ, pos}
-use lib.ListN.{length, getD, set, take, drop, length-drop}
+use lib.IntN.{pos}
+use lib.ListN.{length, getD, set, take, drop}
 use lib.Seq.{getD-take, getD-drop, drop-cons}
 use borrow.Author.Tests.{eq-eqb, ne-eqb, lt-ltb, le-ltb, ltb-true, ltb-false}
 use Rattle.lists.proofs.Bools.{by-test}
@@ -14,7 +14,7 @@ use Rattle.keyed.specs.Keys.{Item, reach, rest, headVal, headFine}
 use Rattle.postings.specs.Pack.{wordCount, wordWindow, isPosting}
 use Rattle.card.specs.declared.Cursor.{Cursor}
 use Rattle.card.specs.Blocks.{link}
-use Rattle.card.specs.Cursors.{InCard, aheadAt, ahead, goodAt, Good, headOf, movedOf}
+use Rattle.card.specs.Cursors.{aheadAt, ahead, Good, headOf, movedOf}
 use Rattle.card.proofs.Cursors.{ahead-more, in-block, in-card, link-in, good-moved}
 use Rattle.kway.specs.Parts.{part}
 use Rattle.terms.specs.Heads.{itemOf, cursorAt, wordAt, comes, Lies, coming, view, Kept}

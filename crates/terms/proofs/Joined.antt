@@ -2,28 +2,26 @@
 use mathlib.Core.Bool.{Bool, true, false, _||_, or-false, or-assoc}
 use mathlib.Core.List.{List, [], _∷_, _++_, map}
 use mathlib.Core.Path.{_≡_, refl, sym, ap, ap₂, _∙_}
-use Prim.Native.Nat.{ℕ, zero, suc, _+_, _-_, _*_, _<_, _≤_}
+use Prim.Native.Nat.{ℕ, _+_, _-_, _*_, _≤_}
 use native.Mathlib.Nat.{mul-le-mul}
 use native.Mathlib.Omega.{arith}
-use lib.Dec.{ltb, eqb}
-use lib.IntN.{ℤ, pos, negsuc, _+ℤ_}
-use lib.ListN.{length, getD, take, drop, set, length-drop}
+use lib.IntN.{pos}
+use lib.ListN.{length, getD, drop, set, length-drop}
 use lib.Seq.{getD-take, getD-drop}
-use borrow.Author.Tests.{ne-eqb}
 use borrow.Rule.Slice.PartMut.{putMid}
 use Rattle.lists.specs.Lists.{any, every}
 use Rattle.lists.specs.All.{AllOf}
 use Rattle.lists.proofs.Bools.{and-left, and-right}
-use Rattle.keyed.specs.Keys.{Item, reach, rest, larger, topFrom, headVal, headVals}
+use Rattle.keyed.specs.Keys.{reach, rest, larger, topFrom, headVals}
 use Rattle.keyed.specs.Groups.{Group, topAll, moveAll}
 use Rattle.keyed.proofs.Walk.{Under, none, more, larger-left, larger-right, under-top}
 use Rattle.weights.specs.Weights.{tfWeight, largest}
 use Rattle.weights.proofs.Laws.{tf-most}
-use Rattle.postings.specs.Sums.{above, isAbove}
+use Rattle.postings.specs.Sums.{isAbove}
 use Rattle.partitions.specs.Formed.{inRange}
 use Rattle.kway.specs.Parts.{part, parts}
 use Rattle.kway.proofs.Parts.{putIn, views-more, map-more, Moved, moved-none, now-more, moved-more}
-use Rattle.terms.specs.Heads.{view, Kept, views}
+use Rattle.terms.specs.Heads.{Kept, views}
 use Rattle.terms.specs.Terms.{Term, termOf, KeptGroup, termsOf}
 use Rattle.terms.specs.Scores.{groupsIn, weightsIn, moved, weigh, scoreAt}
 use Rattle.terms.proofs.Heads.{missed}

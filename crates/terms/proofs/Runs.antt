@@ -10,7 +10,7 @@ use lib.Dec.{ltb, eqb, leb}
 use lib.IntN.{natAbs}
 use lib.ListN.{length, getD, take, drop, set}
 use lib.Seq.{slice, take-nil, take-take, getD-take, take-suc, take-suc-set, length-take-le}
-use borrow.Author.Tests.{lt-ltb, le-ltb, eq-eqb, ne-eqb, ltb-true, ltb-false, eqb-true, eqb-false, leb-true}
+use borrow.Author.Tests.{lt-ltb, le-ltb, ne-eqb, ltb-true, ltb-false, eqb-true, eqb-false, leb-true}
 use Rattle.lists.specs.Lists.{every}
 use Rattle.lists.proofs.Turns.{used-turn, used-end}
 use Rattle.lists.proofs.Bools.{by-test, and-left, and-right}

@@ -2,13 +2,13 @@
 use mathlib.Core.Bool.{true, false}
 use mathlib.Core.List.{List, [], _∷_, _++_, map}
 use mathlib.Core.Logic.{⊎-elim}
-use mathlib.Core.Path.{_≡_, refl, sym, ap, ap₂, _∙_, subst}
+use mathlib.Core.Path.{_≡_, sym, ap, ap₂, _∙_, subst}
 use Prim.Native.Nat.{ℕ, zero, suc, _+_, _-_, _*_, _<_, _≤_}
 use native.Mathlib.Nat.{eq-or-lt-of-le}
 use native.Mathlib.Omega.{arith}
 use lib.Dec.{ltb}
 use lib.IntN.{ℤ, pos, _+ℤ_, +ℤ-assoc, +ℤ-idl, +ℤ-idr}
-use lib.ListN.{length, getD, drop, set}
+use lib.ListN.{length, drop, set}
 use borrow.Author.Tests.{ltb-true, ltb-false}
 use borrow.Rule.Slice.PartMut.{putMid}
 use Rattle.lists.specs.Lists.{every, totalBy}
@@ -22,9 +22,9 @@ use Rattle.words.specs.Words.{Below}
 use Rattle.weights.specs.Weights.{idfWeight}
 use Rattle.weights.proofs.Laws.{idf-most}
 use Rattle.postings.specs.Order.{ordered}
-use Rattle.postings.specs.Sums.{sum, under, frequency}
+use Rattle.postings.specs.Sums.{sum, under}
 use Rattle.state.specs.declared.State.{State}
-use Rattle.state.specs.Views.{buffered, finished}
+use Rattle.state.specs.Views.{buffered}
 use Rattle.partitions.specs.Reading.{stored}
 use Rattle.partitions.specs.Formed.{inRange, identifierFormed}
 use Rattle.kway.specs.Parts.{part, parts}

@@ -2,7 +2,7 @@
 -- word, its place, and how many words are to come. A place below 4,194,304, the words of the largest card, is one on the card; the places from there on
 -- are those of the run, the words of the buffer's postings.
 use mathlib.Core.Bool.{cond}
-use mathlib.Core.List.{List, [], _∷_, map}
+use mathlib.Core.List.{List, map}
 use mathlib.Core.Path.{_≡_}
 use Prim.Native.Nat.{ℕ, _+_, _-_, _/_, _%_, _<_, _≤_}
 use lib.Dec.{ltb}

@@ -7,7 +7,7 @@ use Prim.Native.Nat.{ℕ, _+_, _*_, _≤_}
 use lib.IntN.{pos}
 use lib.ListN.{length, getD, drop}
 use Rattle.lists.specs.All.{AllOf}
-use Rattle.keyed.specs.Keys.{topFrom, rest, sums, allFall}
+use Rattle.keyed.specs.Keys.{topFrom, sums, allFall}
 use Rattle.keyed.specs.Groups.{Group}
 use Rattle.weights.specs.Weights.{idfWeight}
 use Rattle.postings.specs.Sums.{sum, under, frequency}

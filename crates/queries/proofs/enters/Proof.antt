@@ -1,5 +1,4 @@
 -- `queries::enters` meets its contract.
-use mathlib.Core.Path.{_∙_}
 use borrow.Author.Tests.{lt-ltb, le-ltb}
 use borrow.Author.Needs.{needs}
 use Rattle.queries.proofs.enters.Statement.{statement}

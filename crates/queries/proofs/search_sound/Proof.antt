@@ -1,8 +1,8 @@
 -- `queries::search_sound` meets its contract: what is lent is packed and large enough.
-use mathlib.Core.Path.{_≡_, sym}
-use Prim.Native.Nat.{_+_, _*_, _≤_}
+use mathlib.Core.Path.{sym}
+use Prim.Native.Nat.{_+_, _*_}
 use native.Mathlib.Omega.{arith}
-use lib.ListN.{length, replicate}
+use lib.ListN.{replicate}
 use lib.Seq.{length-take-le}
 use Rattle.state.specs.Views.{buffered}
 use Rattle.state.proofs.Kept.{state-kept}

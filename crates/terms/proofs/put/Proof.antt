@@ -1,9 +1,8 @@
 -- `terms::put` meets its contract: a spent list, and another.
-use mathlib.Core.Path.{_≡_, sym, _∙_}
+use mathlib.Core.Path.{sym, _∙_}
 use native.Mathlib.Omega.{arith}
 use Rattle.words.specs.Words.{words}
-use Rattle.terms.specs.Heads.{coming, view}
-use Rattle.terms.proofs.Heads.{comes-none, put-none, put-some, viewed}
+use Rattle.terms.proofs.Heads.{comes-none, put-none, put-some}
 use borrow.Author.Needs.{needs}
 use Rattle.terms.proofs.put.Statement.{statement}
 use Rattle.terms.proofs.put.Tie as tie

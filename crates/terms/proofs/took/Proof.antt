@@ -1,7 +1,6 @@
 -- `terms::took` meets its contract: another head, the last of its list, one with another after it.
-use mathlib.Core.Path.{_≡_, sym, ap, _∙_}
-use mathlib.Core.List.{[], map}
-use Prim.Native.Nat.{_-_}
+use mathlib.Core.Path.{ap, _∙_}
+use mathlib.Core.List.{[]}
 use lib.Seq.{lt-length-set}
 use native.Mathlib.Omega.{arith}
 use mir.Syntax.{w16}
@@ -9,7 +8,7 @@ use mir.Val.{SFits}
 use mir.Facts.{toZ-ofZ}
 use Rattle.words.specs.Words.{words}
 use Rattle.postings.specs.declared.Posting.{Posting}
-use Rattle.terms.specs.Heads.{itemOf, comes, view}
+use Rattle.terms.specs.Heads.{view}
 use Rattle.terms.proofs.Heads.{comes-last, put-none, missed, some, hit, viewed}
 use borrow.Author.Needs.{needs}
 use Rattle.terms.proofs.took.Statement.{statement}

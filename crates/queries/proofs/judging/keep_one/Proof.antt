@@ -1,8 +1,8 @@
 -- `queries::judging::keep_one` meets its contract: five are kept, and one more.
-use mathlib.Core.Path.{_≡_, refl, _∙_}
+use mathlib.Core.Path.{refl, _∙_}
 use Prim.Native.Nat.{_+_, _*_, _≤_}
 use native.Mathlib.Omega.{arith}
-use lib.ListN.{length, drop, length-drop}
+use lib.ListN.{drop, length-drop}
 use lib.Seq.{length-take-le}
 use Rattle.words.specs.Words.{words}
 use Rattle.kway.proofs.Parts.{ends, width}

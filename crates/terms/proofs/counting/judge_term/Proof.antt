@@ -1,5 +1,5 @@
 -- `terms::counting::judge_term` meets its contract: what is told of the opened heads is what is read of the identifier.
-use mathlib.Core.Path.{_≡_, refl, sym, _∙_}
+use mathlib.Core.Path.{sym, _∙_}
 use native.Mathlib.Omega.{arith}
 use Rattle.words.specs.Words.{words, Below}
 use Rattle.words.proofs.Views.{words-below}

@@ -1,13 +1,12 @@
 -- `terms::counting::keep_term` meets its contract: the opened heads are copied before the judging spends them, and stand for the identifier.
-use mathlib.Core.Bool.{true}
-use Prim.Native.Nat.{_+_, _-_, _*_, _≤_}
+use Prim.Native.Nat.{_+_, _-_, _≤_}
 use borrow.Rule.Slice.PartMut.{putMid}
-use lib.ListN.{length, drop, length-drop}
+use lib.ListN.{length, length-drop}
 use Rattle.lists.specs.Lists.{totalBy}
 use Rattle.lists.proofs.Runs.{never}
 use Rattle.keyed.specs.Keys.{allFall}
 use Rattle.keyed.specs.Groups.{Group}
-use mathlib.Core.Path.{_≡_, refl, sym, ap, _∙_}
+use mathlib.Core.Path.{sym, ap, _∙_}
 use native.Mathlib.Omega.{arith}
 use Rattle.words.specs.Words.{words, Below}
 use Rattle.words.proofs.Views.{words-below}

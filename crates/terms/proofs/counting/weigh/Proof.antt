@@ -1,12 +1,9 @@
 -- `terms::counting::weigh` meets its contract: two numbers are put in front of the heads.
-use mathlib.Core.Path.{_≡_, refl, sym, ap, ap₂, _∙_}
-use Prim.Native.Nat.{ℕ, _*_, _≤_}
+use Prim.Native.Nat.{_≤_}
 use native.Mathlib.Omega.{arith}
-use lib.ListN.{length, drop, length-drop}
+use lib.ListN.{length, length-drop}
 use lib.Seq.{lt-length-set}
-use Rattle.keyed.specs.Groups.{Group}
 use Rattle.words.specs.Words.{words}
-use Rattle.weights.proofs.Laws.{idf-most}
 use Rattle.terms.proofs.Counts.{rest-two}
 use Rattle.terms.proofs.Serving.{weighed}
 use borrow.Author.Needs.{needs}

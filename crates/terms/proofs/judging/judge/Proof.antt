@@ -1,15 +1,12 @@
 -- `terms::judging::judge` meets its contract. The invariant: the answer is the answer where `count` windows are counted and the heads have windows below
 -- `bound` to come.
 use mathlib.Core.Path.{_≡_, sym, refl, ap, _∙_}
-use Prim.Native.Nat.{ℕ, suc, _≤_, _+_, _-_, _*_}
+use Prim.Native.Nat.{suc, _≤_, _+_, _-_}
 use native.Mathlib.Omega.{arith}
 use borrow.Author.Tests.{not-true, not-false}
 use lib.ListN.{length}
 use Rattle.words.specs.Words.{words}
 use Rattle.keyed.specs.Groups.{topAll}
-use Rattle.kway.specs.Parts.{part, parts}
-use Rattle.kway.proofs.Parts.{views-more}
-use Rattle.terms.specs.Heads.{view, views}
 use Rattle.terms.specs.Both.{Ready, both}
 use Rattle.terms.specs.Judged.{toldOf}
 use Rattle.terms.proofs.Fronts.{ready-all, both-top}

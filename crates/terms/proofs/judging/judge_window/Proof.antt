@@ -1,19 +1,19 @@
 -- `terms::judging::judge_window` meets its contract: what is taken of the lists, and then of the run.
-use mathlib.Core.Bool.{Bool, _&&_}
+use mathlib.Core.Bool.{_&&_}
 use mathlib.Core.Path.{_≡_, sym, ap, ap₂, _∙_}
-use Prim.Native.Nat.{ℕ, _+_, _-_, _*_, _≤_}
+use Prim.Native.Nat.{_+_, _-_, _*_, _≤_}
 use native.Mathlib.Omega.{arith}
 use mir.Facts.{toZ-ofZ}
 use mir.Syntax.{w16, w32}
 use mir.Val.{SFits}
-use lib.IntN.{ℤ, _+ℤ_}
+use lib.IntN.{_+ℤ_}
 use lib.ListN.{length, take}
 use lib.Seq.{length-take-le}
 use Rattle.words.specs.Words.{words}
 use Rattle.postings.specs.Sums.{isAbove}
 use Rattle.partitions.specs.Formed.{inRange}
-use Rattle.kway.specs.Parts.{part, parts}
-use Rattle.terms.specs.Heads.{view, Kept, views}
+use Rattle.kway.specs.Parts.{part}
+use Rattle.terms.specs.Heads.{view, views}
 use Rattle.terms.proofs.Steps.{top-step, fine-step, counts-step}
 use Rattle.terms.proofs.Fronts.{parts-take, between-part, after-long, after-parts, after-part, after-ready, after-both, ready-front}
 use borrow.Author.Needs.{needs}

@@ -1,7 +1,7 @@
 -- `terms::opening::pack_run` meets its contract. The invariant: the words before i are those of the postings before i.
 use mathlib.Core.List.{map}
-use mathlib.Core.Path.{_≡_, refl, _∙_}
-use Prim.Native.Nat.{_≤_, _-_, _+_}
+use mathlib.Core.Path.{_≡_, refl}
+use Prim.Native.Nat.{_≤_, _-_}
 use native.Mathlib.Omega.{arith}
 use mir.Facts.{toZ-ofZ}
 use mir.Syntax.{w16}

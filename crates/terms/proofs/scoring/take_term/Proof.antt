@@ -1,12 +1,12 @@
 -- `terms::scoring::take_term` meets its contract: a term that is not at the window, and one that is.
-use mathlib.Core.Path.{_≡_, refl, sym, ap, _∙_}
+use mathlib.Core.Path.{ap, _∙_}
 use Prim.Native.Nat.{ℕ, _*_, _≤_}
 use native.Mathlib.Omega.{arith}
 use mir.Facts.{toZ-ofZ}
 use mir.Syntax.{w32}
 use mir.Val.{SFits}
 use lib.Dec.{ltb}
-use lib.ListN.{length, getD, drop, length-drop}
+use lib.ListN.{length, getD, length-drop}
 use Rattle.words.specs.Words.{words}
 use Rattle.weights.specs.Weights.{tfWeight}
 use Rattle.postings.specs.Sums.{above}

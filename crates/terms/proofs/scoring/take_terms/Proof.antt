@@ -1,9 +1,7 @@
 -- `terms::scoring::take_terms` meets its contract. The invariant: the terms before j are moved, those from j on are as they were.
-use mathlib.Core.Bool.{Bool}
-use mathlib.Core.Path.{_≡_, refl, sym, ap, _∙_}
-use Prim.Native.Nat.{ℕ, _≤_, _+_, _*_, _-_}
+use mathlib.Core.Path.{_≡_}
+use Prim.Native.Nat.{_≤_, _+_, _*_, _-_}
 use native.Mathlib.Omega.{arith}
-use lib.ListN.{length}
 use Rattle.words.specs.Words.{words}
 use Rattle.kway.specs.Parts.{parts}
 use Rattle.kway.proofs.Parts.{ends, width, all-at}
