@@ -7,3 +7,4 @@ pub mod Refusing
 pub mod Beginning
 pub mod Stepping
 pub mod Filling
+pub mod Planning

@@ -1,18 +1,21 @@
 -- A step that is not refused: what is known before it writes, and the state that it leaves.
-use mathlib.Core.Bool.{Bool, true, cond}
+use mathlib.Core.Bool.{Bool, true, false, cond, not, _&&_}
 use mathlib.Core.List.{List, [], _∷_, _++_, map}
 use mathlib.Core.Path.{_≡_}
 use Prim.Native.Nat.{ℕ, suc, _+_, _*_, _<_, _≤_}
 use lib.Dec.{eqb, leb}
 use lib.ListN.{length, getD, take, drop}
 use Rattle.lists.specs.Lists.{different}
-use Rattle.words.specs.Words.{allOnes}
+use Rattle.words.specs.Words.{words, bytes, allOnes}
 use Rattle.postings.specs.declared.Posting.{Posting}
 use Rattle.postings.specs.Merge.{nonzero}
+use Rattle.answers.specs.Answers.{Outcome, refuseIf, done, refused}
+use Rattle.answers.specs.Numbers.{refusalNumber}
 use Rattle.state.specs.declared.Partition.{Partition}
 use Rattle.state.specs.declared.Partitions.{Partitions}
 use Rattle.state.specs.declared.State.{State}
 use Rattle.state.specs.Views.{padded, noMerge, blocks, finished, partitionsOf, withPartitions, withTaken, withMerge}
+use Rattle.state.specs.Probe.{Store}
 use Rattle.state.specs.Levels.{nextLevel, dueLevels, replaced}
 use Rattle.card.specs.Blocks.{noBlock}
 use Rattle.card.specs.Chains.{chain, chainRule, content}
@@ -21,12 +24,15 @@ use Rattle.partitions.specs.Layout.{totalLength, header, wordOf}
 use Rattle.partitions.specs.Formed.{partitionsFormed, chainsOf}
 use Rattle.inputs.specs.declared.Totals.{Totals}
 use Rattle.inputs.specs.declared.Batch.{Batch}
-use Rattle.inputs.specs.Judging.{totalsOf, Small, allInRange}
+use Rattle.inputs.specs.Judging.{totalsOf, countsOf, Small, allInRange}
 use Rattle.inputs.specs.Ahead.{batched}
 use Rattle.outputs.specs.Contents.{written}
 use Rattle.outputs.specs.Entries.{entriesBy}
+use Rattle.windows.specs.Promises.{Gives, storeOf}
 use Rattle.merges.specs.declared.Output.{Output}
-use Rattle.merges.specs.Merging.{dueIn, inputs, taking, result, outputBlocks, progress, isLast}
+use Rattle.merges.specs.declared.Plan.{Plan}
+use Rattle.merges.specs.Merging.{dueIn, inputs, taking, result, outputBlocks, outputLevel, progress, isLast}
+use Rattle.merges.specs.Step.{inProgress, outputRule, writtenOn, stepping}
 
 -- the output stands on n blocks from b on: they are a chain, in no finished partition, and hold what the steps done have written
 pub record Drafted (W : List ℕ) (s : State) (ps : List Posting) (b n : ℕ) : Type 0 where
@@ -99,3 +105,40 @@ nextState s last t o =
     (withMerge (withPartitions s (partitionsOf (replaced (λ (p : Partition). p .level) (dueIn s) (finished (s .partitions)) (recordFrom (finished (s .partitions)) t o)))) noMerge)
     (withMerge s (record { first = o .first; length = lengthFrom t; steps = suc (s .merge .steps) })))
     (o .taken)
+
+-- ---- the step planned, and then done
+
+-- what a step that is not refused writes from: its inputs as they are judged, with how many postings each identifier has, and what it does
+pub record Due (W : List ℕ) (s : State) (is : Partitions) (t : Totals) (ns : List ℕ) (o : Output) (b : Batch) : Type 0 where
+  pub judged : Judged W s is t
+  pub counts : ns ≡ countsOf (taking W s)
+  pub acts : Acts W s o b
+
+-- some state is at that step and level
+pub record Doing (W : List ℕ) (is : Partitions) (t : Totals) (ns : List ℕ) (o : Output) (b : Batch) (j v : ℕ) : Type 0 where
+  pub state : State
+  pub due : Due W state is t ns o b
+  pub steps : j ≡ state .merge .steps
+  pub level : v ≡ outputLevel state
+
+-- the step is written, for whatever state is: whether it is the last, and the card
+pub record Did (W : List ℕ) (is : Partitions) (t : Totals) (ns : List ℕ) (o : Output) (b : Batch) (j v : ℕ) (r : Bool) (after : List ℕ) : Type 0 where
+  pub last : (s : State) → Due W s is t ns o b → j ≡ s .merge .steps → r ≡ isLast (taking W s) (suc (s .merge .steps))
+  pub card : (s : State) → Due W s is t ns o b → j ≡ s .merge .steps → v ≡ outputLevel s
+      → after ≡ bytes (writtenOn W s (taking W s) (suc (s .merge .steps)) (chain W (o .first) (o .blocks)))
+
+-- the outcome of a step whose inputs are well formed
+abbrev pub goingOn : State → List ℕ → Outcome Store
+goingOn s W = refuseIf (inProgress s && not (outputRule W s (taking W s))) 3 (stepping s W (taking W s))
+
+-- a plan for a step from a card, and the card once the output's blocks are there. A plan that is not ready refuses, and the card stays. Where one is ready, the
+-- step is done by what it says
+pub record Planned (s : State) (is : Partitions) (t : Totals) (card : List ℕ) (p : Plan) (linked : List ℕ) : Type 0 where
+  pub stop : p .ready ≡ false → (linked ≡ card) × Gives (storeOf s card) (goingOn s (words card)) (refused (refusalNumber (p .why))) (storeOf s card)
+  pub pairs : p .ready ≡ true → taking (words linked) s ≡ taking (words card) s
+  pub judged : p .ready ≡ true → Judged (words linked) s is t
+  pub acts : p .ready ≡ true → Acts (words linked) s (p .output) (p .batch)
+  pub early : p .ready ≡ true → s .merge .steps < 4294967295
+  pub done : p .ready ≡ true → (end : Store) → end .state ≡ nextState s (isLast (taking (words card) s) (suc (s .merge .steps))) t (p .output)
+      → end .card ≡ bytes (writtenOn (words linked) s (taking (words linked) s) (suc (s .merge .steps)) (chain (words linked) (p .output .first) (p .output .blocks)))
+      → Gives (storeOf s card) (goingOn s (words card)) done end

@@ -16,7 +16,7 @@ ghost use Rattle.merges.specs.Step.{outputRule};
 ghost use Rattle.merges.specs.Acting.{Judged, Acts, lengthFrom};
 
 // Nothing written, and sixteen pairs that come next and have no sum to write, or all that are left.
-fn no_draft(ok: bool) -> Draft
+pub fn no_draft(ok: bool) -> Draft
     ensures { λ r. ⌜ (r .ok ≡ ok) × (r .written ≡ 0) × (r .batch .used ≡ 0) × (r .batch .taken ≡ 16) ⌝ }
 {
     let none = Posting {

@@ -6,23 +6,21 @@ use inputs::Totals;
 use state::Partitions;
 use state::State;
 use windows::Replied;
-ghost use mathlib.Core.Bool.{true, not};
+ghost use mathlib.Core.Bool.{true, false};
 ghost use mathlib.Core.List.{[]};
 ghost use mathlib.Core.Path.{_≡_};
-ghost use Prim.Native.Nat.{suc, _*_, _%_, _≤_, _<_};
+ghost use Prim.Native.Nat.{_*_, _%_, _≤_, _<_};
 ghost use lib.ListN.{length, getD, take};
-ghost use Rattle.words.specs.Words.{words as wordsOf, bytes};
-ghost use Rattle.answers.specs.Answers.{refuseIf};
+ghost use Rattle.words.specs.Words.{words as wordsOf};
 ghost use Rattle.answers.specs.Numbers.{replied};
 ghost use Rattle.state.specs.Views.{blocks as blocksOf};
 ghost use Rattle.card.specs.Blocks.{noBlock, freeBlocks};
-ghost use Rattle.card.specs.Chains.{chain};
 ghost use Rattle.card.specs.Writes.{store};
-ghost use Rattle.inputs.specs.Judging.{inputsFormed, countsOf};
+ghost use Rattle.inputs.specs.Judging.{inputsFormed};
 ghost use Rattle.windows.specs.Promises.{Gives, storeOf};
-ghost use Rattle.merges.specs.Merging.{inputs as inputsOf, taking, isLast};
-ghost use Rattle.merges.specs.Step.{outputRule, lastOf, writtenOn, stepping, stepOf};
-ghost use Rattle.merges.specs.Acting.{Judged, Acts, nextState};
+ghost use Rattle.merges.specs.Merging.{inputs as inputsOf};
+ghost use Rattle.merges.specs.Step.{lastOf, stepOf};
+ghost use Rattle.merges.specs.Acting.{Judged, Doing, Did, Planned};
 
 mod judging; // the output in progress
 mod listing; // which partitions are merged, and what takes their place
@@ -36,6 +34,14 @@ pub struct Output {
     pub taken: u16,
 }
 
+// What a step is to do: the output that it writes to, and the pairs that it takes; or why it is refused.
+pub struct Plan {
+    pub ready: bool,
+    pub why: Refusal,
+    pub output: Output,
+    pub batch: Batch,
+}
+
 // A refusal: the state stays.
 fn refuse(s: State, why: Refusal) -> Replied
     ensures { λ r. ⌜ r ≡ record { reply = Reply.Refused why; state = s } ⌝ }
@@ -43,6 +49,26 @@ fn refuse(s: State, why: Refusal) -> Replied
     Replied {
         reply: Reply::Refused(why),
         state: s,
+    }
+}
+
+// A plan that refuses.
+fn no_plan(why: Refusal) -> Plan
+    ensures { λ r. ⌜ (r .ready ≡ false) × (r .why ≡ why) ⌝ }
+{
+    let d = judging::no_draft(false);
+    let b = d.batch;
+    let o = Output {
+        first: 65534,
+        blocks: 0,
+        written: 0,
+        taken: 0,
+    };
+    Plan {
+        ready: false,
+        why: why,
+        output: o,
+        batch: b,
     }
 }
 
@@ -73,69 +99,62 @@ fn take_blocks(card: &mut [u8], blocks: u32, taken: u16, n: u32) -> Output
     }
 }
 
-// Writes the step, and tells the state after it: the output's words, and the inputs' blocks freed after the last.
+// Writes the step, and tells whether it is the last: the output's words, and the inputs' blocks freed after the last. The state is not handed on.
 fn finish(
-    s: State,
     card: &mut [u8],
     is: Partitions,
     t: Totals,
     counts: &[u16],
     o: Output,
     b: Batch,
-) -> Replied
-    requires { ⌜ (length (now card) % 4 ≡ 0) × Judged (wordsOf (now card)) s is t × (now counts ≡ countsOf (taking (wordsOf (now card)) s)) × Acts (wordsOf (now card)) s o b
-        × (s .merge .steps < 4294967295) ⌝ }
-    ensures { λ r. ⌜ (r ≡ record { reply = Reply.Done; state = nextState s (isLast (taking (wordsOf (now (card .entry))) s) (suc (s .merge .steps))) t o })
-        × (now (card .exit) ≡ bytes (writtenOn (wordsOf (now (card .entry))) s (taking (wordsOf (now (card .entry))) s) (suc (s .merge .steps))
-        (chain (wordsOf (now (card .entry))) (o .first) (o .blocks)))) ⌝ }
+    steps: u32,
+    level: u16,
+) -> bool
+    requires { ⌜ (length (now card) % 4 ≡ 0) × Doing (wordsOf (now card)) is t (now counts) o b steps level ⌝ }
+    ensures { λ r. ⌜ Did (wordsOf (now (card .entry))) is t (now (counts .entry)) o b steps level r (now (card .exit)) ⌝ }
 {
-    let last = writing::is_last(t, s.merge.steps, b.taken);
+    let last = writing::is_last(t, steps, b.taken);
     if 0 < o.blocks {
-        let level = listing::output_level(s.partitions);
         writing::put_output(card, o, b, last, level, t, counts);
     }
     if last {
         outputs::release_inputs(card, is);
     }
-    let next = writing::next_state(s, last, t, o);
-    Replied {
-        reply: Reply::Done,
-        state: next,
-    }
+    last
 }
 
 // A step with no merge in progress begins one.
-fn begin(s: State, card: &mut [u8], is: Partitions, t: Totals, counts: &[u16]) -> Replied
+fn begin(s: State, card: &mut [u8], is: Partitions, t: Totals) -> Plan
     requires { ⌜ (length (now card) % 4 ≡ 0) × Judged (wordsOf (now card)) s is t × (inputsFormed (wordsOf (now card)) (inputsOf s) ≡ true)
-        × (s .taken < blocksOf s) × (s .merge .steps ≡ 0) × (now counts ≡ countsOf (taking (wordsOf (now card)) s)) ⌝ }
-    ensures { λ r. ⌜ Gives (storeOf s (now (card .entry))) (stepping s (wordsOf (now (card .entry))) (taking (wordsOf (now (card .entry))) s))
-        (replied (r .reply)) (storeOf (r .state) (now (card .exit))) ⌝ }
+        × (s .taken < blocksOf s) × (s .merge .steps ≡ 0) ⌝ }
+    ensures { λ r. ⌜ Planned s is t (now (card .entry)) r (now (card .exit)) ⌝ }
 {
     let blocks = s.lengths.card / 4096;
     let n = partitions::blocks_for(writing::output_length(t));
     if !card::enough_free(card, blocks, s.taken, n) {
-        return refuse(s, Refusal::TooFewFree);
+        return no_plan(Refusal::TooFewFree);
     }
     if is.used == 0 {
-        return refuse(s, Refusal::NothingDue);
+        return no_plan(Refusal::NothingDue);
     }
     let b = drafts::first_batch(card, is);
     let o = take_blocks(card, blocks, s.taken, n);
-    finish(s, card, is, t, counts, o, b)
+    Plan {
+        ready: true,
+        why: Refusal::NothingDue,
+        output: o,
+        batch: b,
+    }
 }
 
 // A step of the merge in progress.
-fn go_on(s: State, card: &mut [u8], is: Partitions, t: Totals, counts: &[u16]) -> Replied
-    requires { ⌜ (length (now card) % 4 ≡ 0) × Judged (wordsOf (now card)) s is t × (inputsFormed (wordsOf (now card)) (inputsOf s) ≡ true) × (1 ≤ s .merge .steps)
-        × (now counts ≡ countsOf (taking (wordsOf (now card)) s)) ⌝ }
-    ensures { λ r. ⌜ Gives (storeOf s (now (card .entry)))
-        (refuseIf (not (outputRule (wordsOf (now (card .entry))) s (taking (wordsOf (now (card .entry))) s))) 3
-        (stepping s (wordsOf (now (card .entry))) (taking (wordsOf (now (card .entry))) s)))
-        (replied (r .reply)) (storeOf (r .state) (now (card .exit))) ⌝ }
+fn go_on(s: State, card: &[u8], is: Partitions, t: Totals) -> Plan
+    requires { ⌜ Judged (wordsOf (now card)) s is t × (inputsFormed (wordsOf (now card)) (inputsOf s) ≡ true) × (1 ≤ s .merge .steps) ⌝ }
+    ensures { λ r. ⌜ Planned s is t (now (card .entry)) r (now (card .entry)) ⌝ }
 {
     let d = judging::output_ok(s, card, is, t);
     if !d.ok {
-        return refuse(s, Refusal::Malformed);
+        return no_plan(Refusal::Malformed);
     }
     let o = Output {
         first: s.merge.first,
@@ -144,7 +163,23 @@ fn go_on(s: State, card: &mut [u8], is: Partitions, t: Totals, counts: &[u16]) -
         taken: s.taken,
     };
     let b = d.batch;
-    finish(s, card, is, t, counts, o, b)
+    Plan {
+        ready: true,
+        why: Refusal::Malformed,
+        output: o,
+        batch: b,
+    }
+}
+
+// What a step whose inputs are well formed is to do.
+fn prepare(s: State, card: &mut [u8], is: Partitions, t: Totals) -> Plan
+    requires { ⌜ (length (now card) % 4 ≡ 0) × Judged (wordsOf (now card)) s is t × (inputsFormed (wordsOf (now card)) (inputsOf s) ≡ true) × (s .taken < blocksOf s) ⌝ }
+    ensures { λ r. ⌜ Planned s is t (now (card .entry)) r (now (card .exit)) ⌝ }
+{
+    if s.merge.steps == 0 {
+        return begin(s, card, is, t);
+    }
+    go_on(s, card, is, t)
 }
 
 // One step of the merge in progress, or of one that begins.
@@ -167,8 +202,18 @@ pub fn step(s: State, card: &mut [u8]) -> Replied
     if !t.fine {
         return refuse(s, Refusal::Malformed);
     }
-    if s.merge.steps == 0 {
-        return begin(s, card, is, t, &counts);
+    let p = prepare(s, card, is, t);
+    if !p.ready {
+        let why = p.why;
+        return refuse(s, why);
     }
-    go_on(s, card, is, t, &counts)
+    let level = listing::output_level(s.partitions);
+    let o = p.output;
+    let b = p.batch;
+    let last = finish(card, is, t, &counts, o, b, s.merge.steps, level);
+    let next = writing::next_state(s, last, t, o);
+    Replied {
+        reply: Reply::Done,
+        state: next,
+    }
 }

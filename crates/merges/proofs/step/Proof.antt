@@ -1,21 +1,25 @@
 -- `merges::step` meets its contract.
 use mathlib.Core.Bool.{true, false, not}
-use mathlib.Core.Path.{_≡_, sym, ap, _∙_}
+use mathlib.Core.Path.{_≡_, refl, sym, ap, _∙_}
+use Prim.Native.Nat.{suc}
 use native.Mathlib.Omega.{arith}
 use borrow.Author.Needs.{needs}
 use borrow.Author.Tests.{not-true, not-false, eq-eqb, ne-eqb}
 use Rattle.words.specs.Words.{words}
 use Rattle.state.specs.Views.{finished}
+use Rattle.state.specs.Probe.{Store}
 use Rattle.state.proofs.Kept.{state-kept}
 use Rattle.inputs.specs.declared.Totals.{Totals}
 use Rattle.inputs.specs.Judging.{inputsFormed, countsOf}
 use Rattle.inputs.proofs.Judged.{judged-fine}
 use Rattle.windows.proofs.Outcomes.{stopped, passed}
-use Rattle.merges.specs.Merging.{inputs}
+use Rattle.merges.specs.Merging.{inputs, isLast}
 use Rattle.merges.specs.Step.{stepOf}
+use Rattle.merges.specs.Acting.{nextState, Due}
 use Rattle.merges.proofs.Choosing.{finished-of}
 use Rattle.merges.proofs.Refusing.{pairs-read}
-use Rattle.merges.proofs.Stepping.{card-long, card-words, judged, inputs-read, formed-first, formed-inputs, formed-idle, formed-output}
+use Rattle.merges.proofs.Stepping.{card-long, card-words, judged, inputs-read, formed-first, formed-inputs}
+use Rattle.merges.proofs.Planning.{formed-plan}
 use Rattle.merges.proofs.step.Statement.{statement}
 use Rattle.merges.proofs.step.Tie as tie
 
@@ -125,26 +129,24 @@ returns-4 c =
     let no : inputsFormed W (inputs (s .args .s)) ≡ false = rw f at (sym fine ∙ not-true _ (c .before .if4 .taken)) in
     rw (c .refuse4 .ensures) (passed _ 1 _ (ap not (sym (i1 .before .state-ok .ensures)) ∙ i1 .if1 .left) (passed _ 2 _ (ap not (eq-eqb _ _ (i2 .if2 .left))) (stopped _ 3 _ (ap not (formed-inputs W (s .args .s) pok no)))))
 
-slice-aggregate-begin : tie.Need-slice-aggregate-begin
-slice-aggregate-begin c = search needs
-
-begin-requires : tie.Need-begin-requires
-begin-requires c κs =
-    let i2 = c .before .before .before .before .before .before .before .before .before .before .before .before .before .before .before .before .before in
-    let i1 = i2 .before .before in
-    let s = i1 .before .before .before in
+prepare-requires : tie.Need-prepare-requires
+prepare-requires c κs =
+    let s = c .before .before .before .before .before .before .before .before .before .before .before .before .before .before .before .before .before .before .before in
     let W = words (s .args .card .now) in
-    let ok = sym (i1 .before .state-ok .ensures) ∙ not-false _ (i1 .if1 .left) in
-    let same = i2 .if2 .left in
-    let pok = sym (c .before .before .before .before .before .before .before .before .before .before .before .before .before .before .partitions-ok .ensures) ∙ not-false _ (c .before .before .before .before .before .before .before .before .before .before .before .before .before .if3 .left) in
-    let io = c .before .before .before .before .before .before .before .before .before .before .before .before .inputs-of in
-    let ju = c .before .before .before .before .before .before .before .before .judge in
-    let f = ap finished (io .ensures) ∙ finished-of (inputs (s .args .s)) in
+    let st = s .args .s in
+    let ok = sym (c .before .before .before .before .before .before .before .before .before .before .before .before .before .before .before .before .before .state-ok .ensures) ∙ not-false _ (c .before .before .before .before .before .before .before .before .before .before .before .before .before .before .before .before .if1 .left) in
+    let same = c .before .before .before .before .before .before .before .before .before .before .before .before .before .before .if2 .left in
+    let pok = sym (c .before .before .before .before .before .before .before .before .before .before .before .partitions-ok .ensures) ∙ not-false _ (c .before .before .before .before .before .before .before .before .before .before .if3 .left) in
+    let io = c .before .before .before .before .before .before .before .before .before .inputs-of in
+    let ju = c .before .before .before .before .before .judge in
+    let f = ap finished (io .ensures) ∙ finished-of (inputs st) in
+    let yes = not-false _ (c .before .if4 .left) in
     let fine = ap (λ (t : Totals). t .fine) (ju .ensures .0) ∙ judged-fine W (finished (io .result)) in
-    let formed : inputsFormed W (inputs (s .args .s)) ≡ true = rw f at (sym fine ∙ not-false _ (c .before .before .before .before .if4 .left)) in
-    let g = judged (s .args .s) (s .args .card .now) ok same pok formed (io .result) (ju .result) (io .ensures) (ju .ensures .0) (ju .ensures .2) in
-    let told = ju .ensures .1 (not-false _ (c .before .before .before .before .if4 .left)) ∙ ap countsOf (pairs-read W (s .args .s) (io .result) (ju .result) g) in
-    (card-words (s .args .s) (s .args .card .now) ok same, g, formed, state-kept (s .args .s) ok .taken, c .before .before .if5 .taken, told)
+    let formed : inputsFormed W (inputs st) ≡ true = rw f at (sym fine ∙ yes) in
+    (card-words st (s .args .card .now) ok same, judged st (s .args .card .now) ok same pok formed (io .result) (ju .result) (io .ensures) (ju .ensures .0) (ju .ensures .2), formed, state-kept st ok .taken)
+
+refuse-requires-5 : tie.Need-refuse-requires-5
+refuse-requires-5 c κs = search needs
 
 same-length-3 : tie.Need-same-length-3
 same-length-3 c = search needs
@@ -152,62 +154,113 @@ same-length-3 c = search needs
 returns-5 : tie.Need-returns-5
 unfolding stepOf
 returns-5 c =
-    let i2 = c .before .before .before .before .before .before .before .before .before .before .before .before .before .before .before .before .before .before .before .before in
-    let i1 = i2 .before .before in
-    let s = i1 .before .before .before in
+    let s = c .before .before .before .before .before .before .before .before .before .before .before .before .before .before .before .before .before .before .before .before .before .before .before .before .before in
     let W = words (s .args .card .now) in
-    let ok = sym (i1 .before .state-ok .ensures) ∙ not-false _ (i1 .if1 .left) in
-    let same = i2 .if2 .left in
+    let st = s .args .s in
+    let ok = sym (c .before .before .before .before .before .before .before .before .before .before .before .before .before .before .before .before .before .before .before .before .before .before .before .state-ok .ensures) ∙ not-false _ (c .before .before .before .before .before .before .before .before .before .before .before .before .before .before .before .before .before .before .before .before .before .before .if1 .left) in
+    let same = c .before .before .before .before .before .before .before .before .before .before .before .before .before .before .before .before .before .before .before .before .if2 .left in
     let pok = sym (c .before .before .before .before .before .before .before .before .before .before .before .before .before .before .before .before .before .partitions-ok .ensures) ∙ not-false _ (c .before .before .before .before .before .before .before .before .before .before .before .before .before .before .before .before .if3 .left) in
     let io = c .before .before .before .before .before .before .before .before .before .before .before .before .before .before .before .inputs-of in
     let ju = c .before .before .before .before .before .before .before .before .before .before .before .judge in
-    let f = ap finished (io .ensures) ∙ finished-of (inputs (s .args .s)) in
+    let f = ap finished (io .ensures) ∙ finished-of (inputs st) in
+    let yes = not-false _ (c .before .before .before .before .before .before .before .if4 .left) in
     let fine = ap (λ (t : Totals). t .fine) (ju .ensures .0) ∙ judged-fine W (finished (io .result)) in
-    let formed : inputsFormed W (inputs (s .args .s)) ≡ true = rw f at (sym fine ∙ not-false _ (c .before .before .before .before .before .before .before .if4 .left)) in
-    let idle = ap not (eq-eqb (s .args .s .merge .steps) 0 (c .before .before .before .before .before .if5 .taken)) in
-    passed _ 1 _ (ap not (sym (i1 .before .state-ok .ensures)) ∙ i1 .if1 .left) (passed _ 2 _ (ap not (eq-eqb _ _ (i2 .if2 .left))) (passed _ 3 _ (ap not (formed-idle W (s .args .s) pok formed idle)) (c .before .before .begin .ensures)))
+    let formed : inputsFormed W (inputs st) ≡ true = rw f at (sym fine ∙ yes) in
+    let q = c .before .before .before .before .before .prepare .ensures .stop (not-true _ (c .before .if5 .taken)) in
+    rw (c .refuse5 .ensures, q .0) (passed _ 1 _ (ap not (sym (c .before .before .before .before .before .before .before .before .before .before .before .before .before .before .before .before .before .before .before .before .before .before .before .state-ok .ensures)) ∙ c .before .before .before .before .before .before .before .before .before .before .before .before .before .before .before .before .before .before .before .before .before .before .if1 .left) (passed _ 2 _ (ap not (eq-eqb _ _ same)) (rw (formed-plan W st pok formed) (q .1))))
 
-slice-aggregate-go-on : tie.Need-slice-aggregate-go-on
-slice-aggregate-go-on c = search needs
-
-go-on-requires : tie.Need-go-on-requires
-go-on-requires c κs =
-    let i2 = c .before .before .before .before .before .before .before .before .before .before .before .before .before .before .before .before .before in
-    let i1 = i2 .before .before in
-    let s = i1 .before .before .before in
+output-level-requires : tie.Need-output-level-requires
+output-level-requires c κs =
+    let s = c .before .before .before .before .before .before .before .before .before .before .before .before .before .before .before .before .before .before .before .before .before .before .before .before in
     let W = words (s .args .card .now) in
-    let ok = sym (i1 .before .state-ok .ensures) ∙ not-false _ (i1 .if1 .left) in
-    let same = i2 .if2 .left in
-    let pok = sym (c .before .before .before .before .before .before .before .before .before .before .before .before .before .before .partitions-ok .ensures) ∙ not-false _ (c .before .before .before .before .before .before .before .before .before .before .before .before .before .if3 .left) in
-    let io = c .before .before .before .before .before .before .before .before .before .before .before .before .inputs-of in
-    let ju = c .before .before .before .before .before .before .before .before .judge in
-    let f = ap finished (io .ensures) ∙ finished-of (inputs (s .args .s)) in
+    let st = s .args .s in
+    let ok = sym (c .before .before .before .before .before .before .before .before .before .before .before .before .before .before .before .before .before .before .before .before .before .before .state-ok .ensures) ∙ not-false _ (c .before .before .before .before .before .before .before .before .before .before .before .before .before .before .before .before .before .before .before .before .before .if1 .left) in
+    let same = c .before .before .before .before .before .before .before .before .before .before .before .before .before .before .before .before .before .before .before .if2 .left in
+    let pok = sym (c .before .before .before .before .before .before .before .before .before .before .before .before .before .before .before .before .partitions-ok .ensures) ∙ not-false _ (c .before .before .before .before .before .before .before .before .before .before .before .before .before .before .before .if3 .left) in
+    let io = c .before .before .before .before .before .before .before .before .before .before .before .before .before .before .inputs-of in
+    let ju = c .before .before .before .before .before .before .before .before .before .before .judge in
+    let f = ap finished (io .ensures) ∙ finished-of (inputs st) in
+    let yes = not-false _ (c .before .before .before .before .before .before .if4 .left) in
     let fine = ap (λ (t : Totals). t .fine) (ju .ensures .0) ∙ judged-fine W (finished (io .result)) in
-    let formed : inputsFormed W (inputs (s .args .s)) ≡ true = rw f at (sym fine ∙ not-false _ (c .before .before .before .before .if4 .left)) in
-    let g = judged (s .args .s) (s .args .card .now) ok same pok formed (io .result) (ju .result) (io .ensures) (ju .ensures .0) (ju .ensures .2) in
-    let told = ju .ensures .1 (not-false _ (c .before .before .before .before .if4 .left)) ∙ ap countsOf (pairs-read W (s .args .s) (io .result) (ju .result) g) in
-    (card-words (s .args .s) (s .args .card .now) ok same, g, formed, omega (arith, c .before .before .if5 .left), told)
+    let formed : inputsFormed W (inputs st) ≡ true = rw f at (sym fine ∙ yes) in
+    state-kept st ok .partitions .used
+
+slice-aggregate-finish : tie.Need-slice-aggregate-finish
+slice-aggregate-finish c = search needs
+
+finish-requires : tie.Need-finish-requires
+finish-requires c κs =
+    let s = c .before .before .before .before .before .before .before .before .before .before .before .before .before .before .before .before .before .before .before .before .before .before .before .before .before .before .before .before .before in
+    let W = words (s .args .card .now) in
+    let st = s .args .s in
+    let ok = sym (c .before .before .before .before .before .before .before .before .before .before .before .before .before .before .before .before .before .before .before .before .before .before .before .before .before .before .before .state-ok .ensures) ∙ not-false _ (c .before .before .before .before .before .before .before .before .before .before .before .before .before .before .before .before .before .before .before .before .before .before .before .before .before .before .if1 .left) in
+    let same = c .before .before .before .before .before .before .before .before .before .before .before .before .before .before .before .before .before .before .before .before .before .before .before .before .if2 .left in
+    let pok = sym (c .before .before .before .before .before .before .before .before .before .before .before .before .before .before .before .before .before .before .before .before .before .partitions-ok .ensures) ∙ not-false _ (c .before .before .before .before .before .before .before .before .before .before .before .before .before .before .before .before .before .before .before .before .if3 .left) in
+    let io = c .before .before .before .before .before .before .before .before .before .before .before .before .before .before .before .before .before .before .before .inputs-of in
+    let ju = c .before .before .before .before .before .before .before .before .before .before .before .before .before .before .before .judge in
+    let f = ap finished (io .ensures) ∙ finished-of (inputs st) in
+    let yes = not-false _ (c .before .before .before .before .before .before .before .before .before .before .before .if4 .left) in
+    let fine = ap (λ (t : Totals). t .fine) (ju .ensures .0) ∙ judged-fine W (finished (io .result)) in
+    let formed : inputsFormed W (inputs st) ≡ true = rw f at (sym fine ∙ yes) in
+    let g = judged st (s .args .card .now) ok same pok formed (io .result) (ju .result) (io .ensures) (ju .ensures .0) (ju .ensures .2) in
+    let pr = c .before .before .before .before .before .before .before .before .before .prepare in
+    let on = not-false _ (c .before .before .before .before .before .if5 .left) in
+    let due : Due (words (pr .last .1 .0)) st (io .result) (ju .result) (ju .last .1 .1 .1 .0) (pr .result .output) (pr .result .batch) =
+    record {
+      judged = pr .ensures .judged on;
+      counts = ju .ensures .1 yes ∙ ap countsOf (pairs-read W st (io .result) (ju .result) g ∙ sym (pr .ensures .pairs on));
+      acts = pr .ensures .acts on;
+    } in
+    (omega (arith, pr .kept .1 .0, card-words st (s .args .card .now) ok same), record { state = st; due = due; steps = refl; level = c .before .before .before .before .output-level .ensures })
+
+next-state-requires : tie.Need-next-state-requires
+next-state-requires c κs =
+    let s = c .before .before .before .before .before .before .before .before .before .before .before .before .before .before .before .before .before .before .before .before .before .before .before .before .before .before .before .before .before .before .before .before in
+    let W = words (s .args .card .now) in
+    let st = s .args .s in
+    let ok = sym (c .before .before .before .before .before .before .before .before .before .before .before .before .before .before .before .before .before .before .before .before .before .before .before .before .before .before .before .before .before .before .state-ok .ensures) ∙ not-false _ (c .before .before .before .before .before .before .before .before .before .before .before .before .before .before .before .before .before .before .before .before .before .before .before .before .before .before .before .before .before .if1 .left) in
+    let same = c .before .before .before .before .before .before .before .before .before .before .before .before .before .before .before .before .before .before .before .before .before .before .before .before .before .before .before .if2 .left in
+    let pok = sym (c .before .before .before .before .before .before .before .before .before .before .before .before .before .before .before .before .before .before .before .before .before .before .before .before .partitions-ok .ensures) ∙ not-false _ (c .before .before .before .before .before .before .before .before .before .before .before .before .before .before .before .before .before .before .before .before .before .before .before .if3 .left) in
+    let io = c .before .before .before .before .before .before .before .before .before .before .before .before .before .before .before .before .before .before .before .before .before .before .inputs-of in
+    let ju = c .before .before .before .before .before .before .before .before .before .before .before .before .before .before .before .before .before .before .judge in
+    let f = ap finished (io .ensures) ∙ finished-of (inputs st) in
+    let yes = not-false _ (c .before .before .before .before .before .before .before .before .before .before .before .before .before .before .if4 .left) in
+    let fine = ap (λ (t : Totals). t .fine) (ju .ensures .0) ∙ judged-fine W (finished (io .result)) in
+    let formed : inputsFormed W (inputs st) ≡ true = rw f at (sym fine ∙ yes) in
+    let k = state-kept st ok in
+    (k .partitions .used, k .partitions .form, ju .ensures .2, c .before .before .before .before .before .before .before .before .before .before .before .before .prepare .ensures .early (not-false _ (c .before .before .before .before .before .before .before .before .if5 .left)))
 
 same-length-4 : tie.Need-same-length-4
-same-length-4 c = search needs
+same-length-4 c = c .before .before .before .finish .kept .0 ∙ c .before .before .before .before .before .before .before .before .before .before .before .before .before .prepare .kept .1 .0
 
 returns-6 : tie.Need-returns-6
 unfolding stepOf
 returns-6 c =
-    let i2 = c .before .before .before .before .before .before .before .before .before .before .before .before .before .before .before .before .before .before .before .before in
-    let i1 = i2 .before .before in
-    let s = i1 .before .before .before in
+    let s = c .before .before .before .before .before .before .before .before .before .before .before .before .before .before .before .before .before .before .before .before .before .before .before .before .before .before .before .before .before .before .before .before .before in
     let W = words (s .args .card .now) in
-    let ok = sym (i1 .before .state-ok .ensures) ∙ not-false _ (i1 .if1 .left) in
-    let same = i2 .if2 .left in
-    let pok = sym (c .before .before .before .before .before .before .before .before .before .before .before .before .before .before .before .before .before .partitions-ok .ensures) ∙ not-false _ (c .before .before .before .before .before .before .before .before .before .before .before .before .before .before .before .before .if3 .left) in
-    let io = c .before .before .before .before .before .before .before .before .before .before .before .before .before .before .before .inputs-of in
-    let ju = c .before .before .before .before .before .before .before .before .before .before .before .judge in
-    let f = ap finished (io .ensures) ∙ finished-of (inputs (s .args .s)) in
+    let st = s .args .s in
+    let ok = sym (c .before .before .before .before .before .before .before .before .before .before .before .before .before .before .before .before .before .before .before .before .before .before .before .before .before .before .before .before .before .before .before .state-ok .ensures) ∙ not-false _ (c .before .before .before .before .before .before .before .before .before .before .before .before .before .before .before .before .before .before .before .before .before .before .before .before .before .before .before .before .before .before .if1 .left) in
+    let same = c .before .before .before .before .before .before .before .before .before .before .before .before .before .before .before .before .before .before .before .before .before .before .before .before .before .before .before .before .if2 .left in
+    let pok = sym (c .before .before .before .before .before .before .before .before .before .before .before .before .before .before .before .before .before .before .before .before .before .before .before .before .before .partitions-ok .ensures) ∙ not-false _ (c .before .before .before .before .before .before .before .before .before .before .before .before .before .before .before .before .before .before .before .before .before .before .before .before .if3 .left) in
+    let io = c .before .before .before .before .before .before .before .before .before .before .before .before .before .before .before .before .before .before .before .before .before .before .before .inputs-of in
+    let ju = c .before .before .before .before .before .before .before .before .before .before .before .before .before .before .before .before .before .before .before .judge in
+    let f = ap finished (io .ensures) ∙ finished-of (inputs st) in
+    let yes = not-false _ (c .before .before .before .before .before .before .before .before .before .before .before .before .before .before .before .if4 .left) in
     let fine = ap (λ (t : Totals). t .fine) (ju .ensures .0) ∙ judged-fine W (finished (io .result)) in
-    let formed : inputsFormed W (inputs (s .args .s)) ≡ true = rw f at (sym fine ∙ not-false _ (c .before .before .before .before .before .before .before .if4 .left)) in
-    let busy = ap not (ne-eqb (s .args .s .merge .steps) 0 (c .before .before .before .before .before .if5 .left)) in
-    passed _ 1 _ (ap not (sym (i1 .before .state-ok .ensures)) ∙ i1 .if1 .left) (passed _ 2 _ (ap not (eq-eqb _ _ (i2 .if2 .left))) (rw (formed-output W (s .args .s) pok formed busy) (c .before .before .go-on .ensures)))
+    let formed : inputsFormed W (inputs st) ≡ true = rw f at (sym fine ∙ yes) in
+    let g = judged st (s .args .card .now) ok same pok formed (io .result) (ju .result) (io .ensures) (ju .ensures .0) (ju .ensures .2) in
+    let pr = c .before .before .before .before .before .before .before .before .before .before .before .before .before .prepare in
+    let on = not-false _ (c .before .before .before .before .before .before .before .before .before .if5 .left) in
+    let due : Due (words (pr .last .1 .0)) st (io .result) (ju .result) (ju .last .1 .1 .1 .0) (pr .result .output) (pr .result .batch) =
+    record {
+      judged = pr .ensures .judged on;
+      counts = ju .ensures .1 yes ∙ ap countsOf (pairs-read W st (io .result) (ju .result) g ∙ sym (pr .ensures .pairs on));
+      acts = pr .ensures .acts on;
+    } in
+    let fin = c .before .before .before .finish in
+    let last = fin .ensures .last st due refl ∙ ap (λ l. isLast l (suc (st .merge .steps))) (pr .ensures .pairs on) in
+    let end : Store = record { state = c .next-state .result; card = fin .last .0 } in
+    passed _ 1 _ (ap not (sym (c .before .before .before .before .before .before .before .before .before .before .before .before .before .before .before .before .before .before .before .before .before .before .before .before .before .before .before .before .before .before .before .state-ok .ensures)) ∙ c .before .before .before .before .before .before .before .before .before .before .before .before .before .before .before .before .before .before .before .before .before .before .before .before .before .before .before .before .before .before .if1 .left) (passed _ 2 _ (ap not (eq-eqb _ _ same)) (rw (formed-plan W st pok formed) (pr .ensures .done on end (c .next-state .ensures ∙ ap (λ l. nextState st l (ju .result) (pr .result .output)) last) (fin .ensures .card st due refl (c .before .before .before .before .before .before .before .before .output-level .ensures)))))
 
 pub step-spec : {M : Type 1} → statement M
 step-spec =
@@ -230,11 +283,13 @@ step-spec =
     refuse-requires-4
     same-length-2
     returns-4
-    slice-aggregate-begin
-    begin-requires
+    prepare-requires
+    refuse-requires-5
     same-length-3
     returns-5
-    slice-aggregate-go-on
-    go-on-requires
+    output-level-requires
+    slice-aggregate-finish
+    finish-requires
+    next-state-requires
     same-length-4
     returns-6)
