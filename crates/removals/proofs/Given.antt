@@ -1,7 +1,7 @@
 -- What a removal gives after refusals 1 to 3, by its tests and by its flush's target.
 use mathlib.Core.Bool.{Bool, true, false, _&&_, _||_, not}
 use mathlib.Core.List.{List}
-use mathlib.Core.Path.{_≡_, sym, ap, _∙_}
+use mathlib.Core.Path.{_≡_, subst}
 use Prim.Native.Nat.{ℕ, _≤_, _+_}
 use native.Mathlib.Omega.{arith}
 use lib.Dec.{eqb, ltb, leb}
@@ -19,10 +19,10 @@ use Rattle.state.specs.Probe.{Store}
 use Rattle.windows.specs.declared.Target.{Target}
 use Rattle.windows.specs.Flush.{flushingIf, flushedTo, flushedCard}
 use Rattle.windows.specs.Calls.{isOpen}
-use Rattle.windows.specs.Targets.{targetOf, following}
+use Rattle.windows.specs.Targets.{Aimed}
 use Rattle.windows.specs.Promises.{Gives, storeOf}
 use Rattle.windows.proofs.Outcomes.{stopped, passed}
-use Rattle.windows.proofs.Targets.{follows}
+use Rattle.windows.proofs.Targets.{follows-refused, follows-plain, follows-written}
 use Rattle.windows.proofs.Flushes.{gives-by, refuses, leaves}
 use Rattle.removals.specs.Removal.{isLive, openCounted, removalFlushes, removed, removing}
 
@@ -55,25 +55,23 @@ module _ (s : State) (card : List ℕ) (w : ℕ) (counts : List Posting) where
       abbrev left : State → List ℕ → Outcome Store
       left t after = leave done (record { state = removed t counts; card = after })
 
-      by-target : (t : Target) → t ≡ targetOf (removalFlushes s counts) s (words card) → flushingIf (removalFlushes s counts) s card left ≡ following s card left t
-      by-target t e = follows s card left (removalFlushes s counts) ∙ ap (following s card left) (sym e)
-
-      goes-on : {x : Answer} {after : Store} (t : Target) → t ≡ targetOf (removalFlushes s counts) s (words card) → Gives (storeOf s card) (following s card left t) x after → Gives (storeOf s card) (removing s card w counts) x after
+      -- what is left is its flush and the counts taken back
+      goes-on : {x : Answer} {after : Store} (o : Outcome Store) → flushingIf (removalFlushes s counts) s card left ≡ o → Gives (storeOf s card) o x after → Gives (storeOf s card) (removing s card w counts) x after
       unfolding removing
-      goes-on t e g = passed _ 5 _ a (passed _ 7 _ b (gives-by _ _ (by-target t e) g))
+      goes-on o e g = passed _ 5 _ a (passed _ 7 _ b (gives-by _ _ e g))
 
-      pub flush-barred : (why : Refusal) → Target.Refused why ≡ targetOf (removalFlushes s counts) s (words card) → Gives (storeOf s card) (removing s card w counts) (refused (refusalNumber why)) (storeOf s card)
-      flush-barred why e = goes-on (Target.Refused why) e (refuses _)
+      pub flush-barred : (why : Refusal) → Aimed (removalFlushes s counts) s card (Target.Refused why) → Gives (storeOf s card) (removing s card w counts) (refused (refusalNumber why)) (storeOf s card)
+      flush-barred why f = goes-on _ (follows-refused left _ s card why f) (refuses _)
 
-      pub removed-plain : Target.Nothing ≡ targetOf (removalFlushes s counts) s (words card) → Gives (storeOf s card) (removing s card w counts) done (storeOf (removed s counts) card)
-      removed-plain e = goes-on Target.Nothing e (leaves _ _)
+      pub removed-plain : Aimed (removalFlushes s counts) s card Target.Nothing → Gives (storeOf s card) (removing s card w counts) done (storeOf (removed s counts) card)
+      removed-plain f = goes-on _ (follows-plain left _ s card f) (leaves _ _)
 
-      pub removed-flushed : (k : ℕ) → Target.Block k ≡ targetOf (removalFlushes s counts) s (words card)
+      pub removed-flushed : (k : ℕ) → Aimed (removalFlushes s counts) s card (Target.Block k)
           → Gives (storeOf s card) (removing s card w counts) done (storeOf (removed (flushedTo s k) counts) (bytes (flushedCard s (words card) k)))
-      removed-flushed k e = goes-on (Target.Block k) e (leaves _ _)
+      removed-flushed k f = goes-on _ (follows-written left _ s card k f) (leaves _ _)
 
 -- a target judged with the test as the code makes it
-pub judged : (s : State) (counts : List Posting) (W : List ℕ) (wanted : Bool) (t : Target)
-    → wanted ≡ ltb 128 (length (buffered (s .buffer)) + length counts) → t ≡ targetOf wanted s W → t ≡ targetOf (removalFlushes s counts) s W
+pub judged : (s : State) (counts : List Posting) (card : List ℕ) (wanted : Bool) (t : Target)
+    → wanted ≡ ltb 128 (length (buffered (s .buffer)) + length counts) → Aimed wanted s card t → Aimed (removalFlushes s counts) s card t
 unfolding removalFlushes
-judged s counts W wanted t e f = f ∙ ap (λ (x : Bool). targetOf x s W) e
+judged s counts card wanted t e a = subst (λ (x : Bool). Aimed x s card t) e a

@@ -1,5 +1,5 @@
 -- A judged window's counts can be taken back from the buffer, with a flush first or without.
-use mathlib.Core.Bool.{Bool, true, false, _||_, not}
+use mathlib.Core.Bool.{true}
 use mathlib.Core.List.{List, [], List·Memᴰ}
 use mathlib.Core.Path.{_≡_, refl, ap, _∙_}
 use Prim.Native.Nat.{ℕ, zero, suc, _+_, _≤_}
@@ -24,9 +24,9 @@ use Rattle.partitions.specs.Formed.{partitionsFormed, listRule, sumsInRange}
 use Rattle.buffer.proofs.Canonical.{canonical-of, rule-canonical, rule-counts}
 use Rattle.windows.specs.declared.Target.{Target}
 use Rattle.windows.specs.Flush.{flushedTo}
-use Rattle.windows.specs.Targets.{targetOf}
+use Rattle.windows.specs.Targets.{Aimed}
 use Rattle.windows.proofs.Targets.{empty-length}
-use Rattle.windows.proofs.Counts.{nothing-wanted}
+use Rattle.windows.proofs.Counts.{not-wanted-only}
 use Rattle.sums.specs.declared.Counts.{Counts}
 use Rattle.sums.specs.Views.{countsIn}
 use Rattle.removals.specs.Removal.{ofWindow, countsOf, listsFormed, removalFormed, removalFlushes}
@@ -105,7 +105,7 @@ module _ (s : State) (card : List ℕ) (w : ℕ) (c : Counts) (j : Removable s c
       (λ p m. rw (+ℤ-idr (negℤ (p .count)), natAbs-neg (p .count), le-leb _ _ (small p m))))
 
   -- without a flush
-  pub takeable-plain : Target.Nothing ≡ targetOf (removalFlushes s (countsIn c)) s (words card) → Takeable (s .buffer) c
+  pub takeable-plain : Aimed (removalFlushes s (countsIn c)) s card Target.Nothing → Takeable (s .buffer) c
   unfolding removalFlushes
   takeable-plain e =
       let r = rules-of s (j .rule) in
@@ -118,12 +118,8 @@ module _ (s : State) (card : List ℕ) (w : ℕ) (c : Counts) (j : Removable s c
         within = from-buffer;
         room = by-test (empty (buffered (s .buffer)))
             (λ y. let z : length (buffered (s .buffer)) ≡ 0 = eqb-true _ _ (empty-length (buffered (s .buffer)) ∙ y) in omega (arith, short))
-            (λ m. let z = ltb-false 128 (length (buffered (s .buffer)) + length (countsIn c)) (not-wanted-only _ _ (nothing-wanted _ s (words card) e) m) in omega arith);
+            (λ m. let z = ltb-false 128 (length (buffered (s .buffer)) + length (countsIn c)) (not-wanted-only _ _ (e .1) m) in omega arith);
       }
-    where
-      not-wanted-only : (x t : Bool) → (not x || t) ≡ true → t ≡ false → x ≡ false
-      not-wanted-only true t e f = let z : _≡_ {A = ℕ} 0 1 = cc in absurd (omega arith)
-      not-wanted-only false t e f = refl
 
   -- after a flush, which leaves an empty buffer
   pub takeable-flushed : (k : ℕ) → Takeable (flushedTo s k .buffer) c

@@ -13,6 +13,7 @@ use Rattle.words.proofs.Views.{words-bytes}
 use Rattle.postings.specs.declared.Posting.{Posting}
 use Rattle.postings.specs.Sums.{sum}
 use Rattle.answers.specs.Answers.{Outcome, leave, refuseIf, answerOf, stateOf, done, refused}
+use Rattle.answers.specs.Numbers.{refusalNumber}
 use Rattle.state.specs.declared.State.{State}
 use Rattle.state.specs.Views.{blocks, finished}
 use Rattle.state.specs.Rules.{stateRule}
@@ -21,9 +22,9 @@ use Rattle.partitions.specs.Reading.{stored}
 use Rattle.partitions.specs.Formed.{partitionsFormed}
 use Rattle.windows.specs.declared.Target.{Target}
 use Rattle.windows.specs.Flush.{flushingIf, flushedTo, flushedCard}
-use Rattle.windows.specs.Targets.{targetOf, following}
+use Rattle.windows.specs.Targets.{Aimed}
 use Rattle.windows.specs.Promises.{storeOf}
-use Rattle.windows.proofs.Targets.{follows, chosen}
+use Rattle.windows.proofs.Targets.{aim, follows-refused, follows-plain, follows-written}
 use Rattle.removals.specs.Removal.{countsOf, removalFormed, removalFlushes, removed, removing, removeOf}
 use Rattle.removals.proofs.Given.{namesOpen, notLive}
 use Rattle.removals.proofs.Turns.{formed-parts, card-words}
@@ -51,31 +52,36 @@ module _ (s : State) (card : List ℕ) (w : ℕ) (wide : length (s .buffer .post
   abbrev k : State → List ℕ → Outcome Store
   k t after = leave done (record { state = removed t counts; card = after })
 
+  -- what follows the tests
+  abbrev last : Outcome Store
+  last = flushingIf (removalFlushes s counts) s card k
+
   live-flushed : (b : ℕ) → flushedTo s b .windows .live ≡ s .windows .live
   unfolding flushedTo
   live-flushed b = refl
 
   module _ (rule : stateRule s ≡ true) (size : length card ≡ s .lengths .card) (formed : partitionsFormed W (blocks s) (finished (s .partitions)) ≡ true) where
-    by-target : (t : Target) → targetOf (removalFlushes s counts) s W ≡ t → answerOf (following s card k t) ≡ done → Gone s card w (stateOf (storeOf s card) (following s card k t))
-    by-target (Target.Refused why) e d = let z : _≡_ {A = ℕ} 0 1 = cc in absurd (omega arith)
-    by-target Target.Nothing e d = record { own = removed-gone W s w; others = removed-others W s w; live = one-less s counts }
-    by-target (Target.Block b) e d =
-        let c = chosen (removalFlushes s counts) s W b e in
+    by-target : (t : Target) → Aimed (removalFlushes s counts) s card t → answerOf last ≡ done → Gone s card w (stateOf (storeOf s card) last)
+    by-target (Target.Refused why) f d =
+        let e : refused (refusalNumber why) ≡ done = sym (ap answerOf (follows-refused k (removalFlushes s counts) s card why f)) ∙ d in
+        let z : _≡_ {A = ℕ} 0 1 = cc in
+        absurd (omega arith)
+    by-target Target.Nothing f d =
+        rw (follows-plain k (removalFlushes s counts) s card f)
+        (record { own = removed-gone W s w; others = removed-others W s w; live = one-less s counts })
+    by-target (Target.Block b) f d =
+        let c = f .1 in
         let long = card-words s card w rule size in
         let same = words-bytes (flushedCard s W b) in
-        record {
+        rw (follows-written k (removalFlushes s counts) s card b f)
+        (record {
           own = λ i. ap (λ (X : List ℕ). sum (stored X (removed (flushedTo s b) counts)) i w) same ∙ flushed-gone W s b rule long wide formed c w i;
           others = λ i v n. ap (λ (X : List ℕ). sum (stored X (removed (flushedTo s b) counts)) i v) same ∙ flushed-others W s b rule long wide formed c w i v n;
           live = one-less (flushedTo s b) counts ∙ ap (λ (n : ℕ). n - 1) (live-flushed b);
-        }
+        })
 
-    flushed-or-not : answerOf (flushingIf (removalFlushes s counts) s card k) ≡ done → Gone s card w (stateOf (storeOf s card) (flushingIf (removalFlushes s counts) s card k))
-    flushed-or-not d =
-        let e = follows s card k (removalFlushes s counts) in
-        rw e (by-target (targetOf (removalFlushes s counts) s W) refl (sym (ap answerOf e) ∙ d))
-
-  abbrev last : Outcome Store
-  last = flushingIf (removalFlushes s counts) s card k
+    flushed-or-not : answerOf last ≡ done → Gone s card w (stateOf (storeOf s card) last)
+    flushed-or-not d = let a = aim (removalFlushes s counts) s card in by-target (a .target) (a .aimed) d
 
   after-three : answerOf (removing s card w counts) ≡ done → removing s card w counts ≡ last
   unfolding removing

@@ -1,6 +1,5 @@
 // Removal of a window.
 use answers::Refusal;
-use answers::Reply;
 use postings::Posting;
 use state::Buffer;
 use state::State;
@@ -22,26 +21,6 @@ ghost use Rattle.windows.specs.Promises.{Gives, storeOf};
 ghost use Rattle.sums.specs.Views.{countsIn};
 ghost use Rattle.removals.specs.Removal.{isLive, removed, removing, removeOf};
 ghost use Rattle.removals.specs.Taking.{Takeable, Removable};
-
-// A refusal: the state stays.
-fn refuse(s: State, why: Refusal) -> Replied
-    ensures { λ r. ⌜ r ≡ record { reply = Reply.Refused why; state = s } ⌝ }
-{
-    Replied {
-        reply: Reply::Refused(why),
-        state: s,
-    }
-}
-
-// A call that is done, and the state that it leaves.
-fn done(s: State) -> Replied
-    ensures { λ r. ⌜ r ≡ record { reply = Reply.Done; state = s } ⌝ }
-{
-    Replied {
-        reply: Reply::Done,
-        state: s,
-    }
-}
 
 // Takes each of a window's counts back: it is added to the buffer negated, and a sum that comes to 0 is dropped.
 fn take_back(b: Buffer, c: Counts) -> Buffer
@@ -157,19 +136,19 @@ fn remove_counts(s: State, card: &mut [u8], window: u32, c: Counts) -> Replied
         (replied (r .reply)) (storeOf (r .state) (now (card .exit))) ⌝ }
 {
     if names_open(s.windows, window) {
-        return refuse(s, Refusal::OutOfTurn);
+        return windows::refuse(s, Refusal::OutOfTurn);
     }
     if not_live(s.windows, window, c) {
-        return refuse(s, Refusal::NotLive);
+        return windows::refuse(s, Refusal::NotLive);
     }
     let target = windows::flushing::target_of(s, card, must_flush(s.buffer, c));
     match target {
-        Target::Refused(why) => refuse(s, why),
+        Target::Refused(why) => windows::refuse(s, why),
         Target::Block(b) => {
             let t = windows::flushing::flush_to(s, card, b);
-            done(without(t, c))
+            windows::done(without(t, c))
         }
-        Target::Nothing => done(without(s, c)),
+        Target::Nothing => windows::done(without(s, c)),
     }
 }
 
@@ -178,18 +157,18 @@ pub fn remove(s: State, card: &mut [u8], window: u32) -> Replied
     ensures { λ r. ⌜ Gives (storeOf s (now (card .entry))) (removeOf (storeOf s (now (card .entry))) window) (replied (r .reply)) (storeOf (r .state) (now (card .exit))) ⌝ }
 {
     if !state::state_ok(s) {
-        return refuse(s, Refusal::BrokenState);
+        return windows::refuse(s, Refusal::BrokenState);
     }
     if card.len() != s.lengths.card as usize {
-        return refuse(s, Refusal::WrongLength);
+        return windows::refuse(s, Refusal::WrongLength);
     }
     if !partitions::partitions_ok(card, s.lengths.card / 4096, s.partitions) {
-        return refuse(s, Refusal::Malformed);
+        return windows::refuse(s, Refusal::Malformed);
     }
     let read = sums::read(card, s, window);
     let fine = read.fine;
     if !fine {
-        return refuse(s, Refusal::Malformed);
+        return windows::refuse(s, Refusal::Malformed);
     }
     let c = read.counts;
     remove_counts(s, card, window, c)

@@ -1,22 +1,20 @@
--- What counting an event asks for, from its verdict and its flush's target.
+-- What counting an event asks for, from its admission and its flush's target.
 use mathlib.Core.Bool.{Bool, true, false, _&&_, _||_, not}
-use mathlib.Core.List.{List, [], _∷_}
-use mathlib.Core.Path.{_≡_, refl, sym, ap, _∙_}
+use mathlib.Core.List.{List, []}
+use mathlib.Core.Path.{_≡_, refl, sym, ap, subst, _∙_}
 use Prim.Native.Nat.{ℕ, zero, suc, _+_, _*_, _/_, _<_, _≤_}
 use native.Mathlib.Omega.{arith}
 use lib.Dec.{eqb, leb}
 use lib.ListN.{length, length-take}
 use borrow.Author.Tests.{leb-true, leb-false, eqb-true, eqb-false, le-leb, lt-leb, not-false}
-use Rattle.lists.specs.Lists.{any, empty}
+use Rattle.lists.specs.Lists.{any, elem, empty}
 use Rattle.lists.proofs.Bools.{by-test}
 use Rattle.postings.specs.Order.{samePair}
-use Rattle.answers.specs.declared.Refusal.{Refusal}
-use Rattle.answers.specs.declared.Refusal.the-variants.{LevelFull, HalfFull}
 use Rattle.state.specs.declared.State.{State}
-use Rattle.state.specs.Views.{blocks, entries, listed, buffered}
+use Rattle.state.specs.Views.{entries, listed, buffered}
+use Rattle.state.specs.Probe.{Probe}
 use Rattle.state.proofs.Kept.{rules-of, state-kept}
 use Rattle.state.proofs.Forms.{buffer-rule}
-use Rattle.card.specs.Blocks.{freeBlocks}
 use Rattle.identifiers.specs.Names.{Name, numberOf}
 use Rattle.identifiers.specs.Register.{names, registerRule}
 use Rattle.identifiers.proofs.Names.{number-within}
@@ -24,10 +22,10 @@ use Rattle.identifiers.proofs.Entries.{names-within, length-entries, rule-forme
 use Rattle.windows.specs.declared.Target.{Target}
 use Rattle.windows.specs.Flush.{flushedTo}
 use Rattle.windows.specs.Calls.{isNew, once, eventFlushes}
-use Rattle.windows.specs.Targets.{barIf, firstFree, targetOf}
-use Rattle.windows.specs.Verdicts.{Countable}
+use Rattle.windows.specs.Targets.{Aimed}
+use Rattle.windows.specs.Verdicts.{Admitted, Countable}
 use Rattle.windows.proofs.Targets.{empty-length}
-use Rattle.windows.proofs.Verdicts.{Admitted}
+use Rattle.windows.proofs.Verdicts.{register-size, events-left}
 
 -- ---- the identifier's place in the register
 
@@ -59,27 +57,16 @@ room-plain len there h e f =
     absurd (omega arith))
     (λ n. let z = eqb-false len 128 n in omega arith)
 
-bar-nothing : (t : Bool) (why : Refusal) (g : Target) → Target.Nothing ≡ barIf t why g → Target.Nothing ≡ g
-unfolding barIf
-bar-nothing true why g e = let z : _≡_ {A = ℕ} 0 1 = cc in absurd (omega arith)
-bar-nothing false why g e = e
-
-free-some : (l : List ℕ) → Target.Nothing ≡ firstFree l → ⊥
-free-some [] e = let z : _≡_ {A = ℕ} 0 1 = cc in omega arith
-free-some (b ∷ l) e = let z : _≡_ {A = ℕ} 0 1 = cc in omega arith
-
--- nothing to write: no flush is wanted, or the buffer is empty
-pub nothing-wanted : (wanted : Bool) (s : State) (W : List ℕ) → Target.Nothing ≡ targetOf wanted s W → (not wanted || empty (buffered (s .buffer))) ≡ true
-unfolding targetOf
-nothing-wanted wanted s W e =
-    by-test (not wanted || empty (buffered (s .buffer))) (λ y. y)
-    (λ n. absurd (free-some (freeBlocks W (blocks s) (s .taken)) (bar-nothing _ HalfFull _ (bar-nothing _ LevelFull _ (rw n at e)))))
-
 -- a target judged with the test as the code makes it
-pub judged : (s : State) (i : ℕ) (W : List ℕ) (wanted : Bool) (t : Target)
-    → wanted ≡ (eqb (length (buffered (s .buffer))) 128 && not (any (samePair (once s i)) (buffered (s .buffer)))) → t ≡ targetOf wanted s W → t ≡ targetOf (eventFlushes s i) s W
+pub judged : (s : State) (i : ℕ) (card : List ℕ) (wanted : Bool) (t : Target)
+    → wanted ≡ (eqb (length (buffered (s .buffer))) 128 && not (any (samePair (once s i)) (buffered (s .buffer)))) → Aimed wanted s card t → Aimed (eventFlushes s i) s card t
 unfolding eventFlushes
-judged s i W wanted t e f = f ∙ ap (λ (w : Bool). targetOf w s W) e
+judged s i card wanted t e a = subst (λ (w : Bool). Aimed w s card t) e a
+
+-- nothing to write with something buffered: no flush is wanted
+pub not-wanted-only : (w t : Bool) → (not w || t) ≡ true → t ≡ false → w ≡ false
+not-wanted-only true t e f = let z : _≡_ {A = ℕ} 0 1 = cc in absurd (omega arith)
+not-wanted-only false t e f = refl
 
 -- ---- what can be counted
 
@@ -91,25 +78,29 @@ open-some : (c : ℕ) → not (eqb c 0) ≡ true → 1 ≤ c
 open-some zero e = let z : _≡_ {A = ℕ} 0 1 = cc in absurd (omega arith)
 open-some (suc c) e = omega arith
 
-module _ (s : State) (bytes : ℕ) (register : List ℕ) (n : Name) (i : ℕ) (a : Admitted s bytes register n i) where
+module _ (p : Probe) (n : Name) (i : ℕ) (a : Admitted p n i) where
   -- its number is a place of the register
-  pub number-placed : i < length register / 65
-  number-placed = rw (a .number) (leb-false _ _ (sym (placed s register n (a .formed) (a .size)) ∙ a .place))
+  pub number-placed : i < length (p .register) / 65
+  number-placed = rw (a .number) (leb-false _ _ (sym (placed (p .state) (p .register) n (a .formed) (register-size p n i a)) ∙ a .place))
 
   -- so its entry lies within the register
-  pub number-room : 65 * i + 65 ≤ length register
+  pub number-room : 65 * i + 65 ≤ length (p .register)
   number-room = omega (arith, number-placed)
 
   number-small : i ≤ 1023
   number-small =
-      let k = state-kept s (a .rule) in
-      let e : length register / 65 ≡ s .lengths .register / 65 = ap (λ (m : ℕ). m / 65) (a .size) in
+      let k = state-kept (p .state) (a .rule) in
+      let e : length (p .register) / 65 ≡ p .state .lengths .register / 65 = ap (λ (m : ℕ). m / 65) (register-size p n i a) in
       omega (arith, number-placed, k .lengths .mostEntries)
 
+  listed-room : elem i (listed (p .state .listed)) ≡ false → length (listed (p .state .listed)) < 64
+  listed-room f = leb-false _ _ (and-none _ _ (a .room) (rw (a .number) at f))
+
   -- without a flush
-  pub countable-plain : (W : List ℕ) → Target.Nothing ≡ targetOf (eventFlushes s i) s W → Countable s i
+  pub countable-plain : Aimed (eventFlushes (p .state) i) (p .state) (p .card) Target.Nothing → Countable (p .state) i
   unfolding eventFlushes
-  countable-plain W e =
+  countable-plain e =
+      let s = p .state in
       let r = rules-of s (a .rule) in
       let k = state-kept s (a .rule) in
       let short : length (buffered (s .buffer)) ≤ 128 = omega (arith, k .buffer .used, length-take (s .buffer .used) (s .buffer .postings)) in
@@ -118,30 +109,27 @@ module _ (s : State) (bytes : ℕ) (register : List ℕ) (n : Name) (i : ℕ) (a
         listedKept = r .listed;
         bufferKept = r .buffer;
         current = open-some (s .windows .current) (a .current);
-        events = a .events;
+        events = events-left p n i a;
         small = number-small;
-        identifiers = λ f. leb-false _ _ (and-none _ _ (a .room) f);
+        identifiers = listed-room;
         pairs = λ f. by-test (empty (buffered (s .buffer)))
             (λ y. let z : length (buffered (s .buffer)) ≡ 0 = eqb-true _ _ (empty-length (buffered (s .buffer)) ∙ y) in omega arith)
-            (λ m. room-plain (length (buffered (s .buffer))) _ short (not-wanted-only _ _ (nothing-wanted _ s W e) m) f);
+            (λ m. room-plain (length (buffered (s .buffer))) _ short (not-wanted-only _ _ (e .1) m) f);
       }
-    where
-      not-wanted-only : (w t : Bool) → (not w || t) ≡ true → t ≡ false → w ≡ false
-      not-wanted-only true t e f = let z : _≡_ {A = ℕ} 0 1 = cc in absurd (omega arith)
-      not-wanted-only false t e f = refl
 
   -- after a flush, which leaves an empty buffer
-  pub countable-flushed : (b : ℕ) → Countable (flushedTo s b) i
+  pub countable-flushed : (b : ℕ) → Countable (flushedTo (p .state) b) i
   unfolding flushedTo
   countable-flushed b =
+      let s = p .state in
       let r = rules-of s (a .rule) in
       record {
         windowsKept = r .windows;
         listedKept = r .listed;
         bufferKept = buffer-rule (s .windows) [] (omega arith) refl refl;
         current = open-some (s .windows .current) (a .current);
-        events = a .events;
+        events = events-left p n i a;
         small = number-small;
-        identifiers = λ f. leb-false _ _ (and-none _ _ (a .room) f);
+        identifiers = listed-room;
         pairs = λ f. omega arith;
       }

@@ -1,7 +1,7 @@
 -- What a flush gives, by its target.
 use mathlib.Core.Bool.{true}
 use mathlib.Core.List.{List}
-use mathlib.Core.Path.{_≡_, refl, sym, ap, _∙_}
+use mathlib.Core.Path.{_≡_, refl, sym, _∙_}
 use Prim.Native.Nat.{ℕ}
 use native.Mathlib.Omega.{arith}
 use Rattle.words.specs.Words.{words, bytes}
@@ -9,12 +9,11 @@ use Rattle.answers.specs.declared.Refusal.{Refusal}
 use Rattle.answers.specs.Answers.{Answer, Outcome, refuse, leave, done, refused}
 use Rattle.answers.specs.Numbers.{refusalNumber}
 use Rattle.state.specs.declared.State.{State}
-use Rattle.state.specs.Probe.{Store}
 use Rattle.windows.specs.declared.Target.{Target}
 use Rattle.windows.specs.Flush.{flushing, flushedTo, flushedCard}
-use Rattle.windows.specs.Targets.{targetOf, following}
+use Rattle.windows.specs.Targets.{written, Aimed}
 use Rattle.windows.specs.Promises.{Gives, storeOf}
-use Rattle.windows.proofs.Targets.{follows, flushing-wanted}
+use Rattle.windows.proofs.Targets.{flushing-wanted}
 
 -- the same outcome gives the same
 pub gives-by : {S : Type 0} {s : S} (o p : Outcome S) {a : Answer} {after : S} → o ≡ p → Gives s p a after → Gives s o a after
@@ -29,21 +28,14 @@ pub leaves : {S : Type 0} {s : S} (a : Answer) (t : S) → Gives s (leave a t) a
 leaves a t = record { answer = refl; left = refl }
 
 module _ (s : State) (card : List ℕ) where
-  -- what a flush leaves
-  abbrev written : State → List ℕ → Outcome Store
-  written t c = leave done (record { state = t; card = c })
+  pub flush-refused : (why : Refusal) → Aimed true s card (Target.Refused why) → Gives (storeOf s card) (flushing s card written) (refused (refusalNumber why)) (storeOf s card)
+  flush-refused why a = gives-by _ _ (flushing-wanted s card written ∙ a) (refuses _)
 
-  by-target : (t : Target) → t ≡ targetOf true s (words card) → flushing s card written ≡ following s card written t
-  by-target t e = flushing-wanted s card written ∙ follows s card written true ∙ ap (following s card written) (sym e)
+  pub flush-nothing : Aimed true s card Target.Nothing → Gives (storeOf s card) (flushing s card written) done (storeOf s card)
+  flush-nothing a = gives-by _ _ (flushing-wanted s card written ∙ a .0) (leaves _ _)
 
-  pub flush-refused : (why : Refusal) → Target.Refused why ≡ targetOf true s (words card) → Gives (storeOf s card) (flushing s card written) (refused (refusalNumber why)) (storeOf s card)
-  flush-refused why e = gives-by _ _ (by-target (Target.Refused why) e) (refuses _)
-
-  pub flush-nothing : Target.Nothing ≡ targetOf true s (words card) → Gives (storeOf s card) (flushing s card written) done (storeOf s card)
-  flush-nothing e = gives-by _ _ (by-target Target.Nothing e) (leaves _ _)
-
-  pub flush-written : (b : ℕ) → Target.Block b ≡ targetOf true s (words card) → Gives (storeOf s card) (flushing s card written) done (storeOf (flushedTo s b) (bytes (flushedCard s (words card) b)))
-  flush-written b e = gives-by _ _ (by-target (Target.Block b) e) (leaves _ _)
+  pub flush-written : (b : ℕ) → Aimed true s card (Target.Block b) → Gives (storeOf s card) (flushing s card written) done (storeOf (flushedTo s b) (bytes (flushedCard s (words card) b)))
+  flush-written b a = gives-by _ _ (flushing-wanted s card written ∙ a .0) (leaves _ _)
 
 -- nothing to write, as the answer's kind tells
 pub nothing-told : (tag : Target → ℕ) → ((b : ℕ) → tag (Target.Block b) ≡ 1) → ((why : Refusal) → tag (Target.Refused why) ≡ 2) → (t : Target) → tag t ≡ 0 → t ≡ Target.Nothing

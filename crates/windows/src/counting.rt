@@ -20,8 +20,9 @@ ghost use Rattle.state.specs.Rules.{windowsRule, bufferRule, stateRule};
 ghost use Rattle.buffer.specs.Places.{pair};
 ghost use Rattle.identifiers.specs.Names.{badLength, numberOf};
 ghost use Rattle.identifiers.specs.Register.{names, registerRule};
-ghost use Rattle.windows.specs.Calls.{counted};
-ghost use Rattle.windows.specs.Verdicts.{turnOf, verdictOf, noted, Countable};
+ghost use Rattle.windows.specs.Calls.{registered, counted};
+ghost use Rattle.windows.specs.Promises.{probeOf};
+ghost use Rattle.windows.specs.Verdicts.{Judged, Turned, Countable};
 
 // Would the identifier be a 65th?
 fn is_full(l: Listed, i: u16) -> bool
@@ -34,11 +35,11 @@ fn is_full(l: Listed, i: u16) -> bool
     l.used >= 64
 }
 
-// Judges an event by its turn: the open window, its events, and the room for its identifier. A new identifier gets the number of those
-// that there are, which is one of the register's places unless that is full.
+// Judges an event by its turn, where refusals 1 to 4 are ruled out and whatever the card holds: the open window, its events, and the room for its
+// identifier. A new identifier gets the number of those that there are, which is one of the register's places unless that is full.
 fn judge_turn(s: State, register: &[u8], id: &[u8]) -> Verdict
-    requires { ⌜ (stateRule s ≡ true) × (length (now register) ≡ s .lengths .register) × (registerRule (now register) ≡ true) ⌝ }
-    ensures { λ r. ⌜ r ≡ turnOf s (now (register .entry)) (now (id .entry)) ⌝ }
+    requires { ⌜ (stateRule s ≡ true) × (length (now register) ≡ s .lengths .register) × (registerRule (now register) ≡ true) × (badLength (now id) ≡ false) ⌝ }
+    ensures { λ r. ⌜ Turned s (now (register .entry)) (now (id .entry)) r ⌝ }
 {
     if s.windows.current == 0 {
         return Verdict::Refused(Refusal::OutOfTurn);
@@ -56,14 +57,14 @@ fn judge_turn(s: State, register: &[u8], id: &[u8]) -> Verdict
     Verdict::Number(i as u16)
 }
 
-// Judges an event, for a card of so many bytes.
-pub fn judge_event(s: State, bytes: usize, register: &[u8], id: &[u8]) -> Verdict
-    ensures { λ r. ⌜ r ≡ verdictOf s bytes (now (register .entry)) (now (id .entry)) ⌝ }
+// Judges an event.
+pub fn judge_event(s: State, card: &[u8], register: &[u8], id: &[u8]) -> Verdict
+    ensures { λ r. ⌜ Judged (probeOf s (now (card .entry)) (now (register .entry))) (now (id .entry)) r ⌝ }
 {
     if !state::state_ok(s) {
         return Verdict::Refused(Refusal::BrokenState);
     }
-    if bytes != s.lengths.card as usize {
+    if card.len() != s.lengths.card as usize {
         return Verdict::Refused(Refusal::WrongLength);
     }
     if register.len() != s.lengths.register as usize {
@@ -148,7 +149,7 @@ pub fn count_event(s: State, i: u16) -> State
 // The register gets an identifier that it has not.
 pub fn note(register: &mut [u8], id: &[u8], i: u16)
     requires { ⌜ (registerRule (now register) ≡ true) × (badLength (now id) ≡ false) × (i ≡ numberOf (names (now register)) (now id)) × (65 * i + 65 ≤ length (now register)) ⌝ }
-    ensures { λ r. ⌜ now (register .exit) ≡ noted (now (register .entry)) (now (id .entry)) ⌝ }
+    ensures { λ r. ⌜ now (register .exit) ≡ registered (now (register .entry)) (now (id .entry)) ⌝ }
 {
     let used = identifiers::used_entries(register);
     if i as usize >= used {

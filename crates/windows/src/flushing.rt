@@ -17,7 +17,7 @@ ghost use Rattle.state.specs.Views.{buffered, finished, partitionsOf};
 ghost use Rattle.state.specs.Rules.{stateRule};
 ghost use Rattle.card.specs.Chains.{blocksFor};
 ghost use Rattle.windows.specs.Flush.{flushedTo, flushedCard};
-ghost use Rattle.windows.specs.Targets.{targetOf, Chosen};
+ghost use Rattle.windows.specs.Targets.{Aimed, Chosen};
 
 // How many blocks hold so many bytes.
 fn blocks_for(length: u32) -> u32
@@ -53,7 +53,7 @@ fn is_empty(b: Buffer) -> bool
 // Judges a flush, and finds the block that it takes.
 pub fn target_of(s: State, card: &[u8], wanted: bool) -> Target
     requires { ⌜ (stateRule s ≡ true) × (length (now card) ≡ s .lengths .card) ⌝ }
-    ensures { λ r. ⌜ r ≡ targetOf wanted s (wordsOf (now (card .entry))) ⌝ }
+    ensures { λ r. ⌜ Aimed wanted s (now (card .entry)) r ⌝ }
 {
     if !wanted {
         return Target::Nothing;

@@ -19,7 +19,7 @@ ghost use Rattle.answers.specs.Numbers.{replied, openedAs};
 ghost use Rattle.state.specs.Views.{bufferOf, emptyState};
 ghost use Rattle.state.specs.Rules.{cardLength, registerLength};
 ghost use Rattle.windows.specs.Calls.{startOf, unstarted, openOf, closeOf, eventOf, flushOf};
-ghost use Rattle.windows.specs.Verdicts.{verdictOf};
+ghost use Rattle.windows.specs.Verdicts.{Admitted};
 ghost use Rattle.windows.specs.Promises.{Gives, storeOf, probeOf};
 
 pub mod counting; // judging and counting an event
@@ -51,7 +51,7 @@ pub enum Verdict {
 }
 
 // A refusal: the state stays.
-fn refuse(s: State, why: Refusal) -> Replied
+pub fn refuse(s: State, why: Refusal) -> Replied
     ensures { λ r. ⌜ r ≡ record { reply = Reply.Refused why; state = s } ⌝ }
 {
     Replied {
@@ -61,7 +61,7 @@ fn refuse(s: State, why: Refusal) -> Replied
 }
 
 // A call that is done, and the state that it leaves.
-fn done(s: State) -> Replied
+pub fn done(s: State) -> Replied
     ensures { λ r. ⌜ r ≡ record { reply = Reply.Done; state = s } ⌝ }
 {
     Replied {
@@ -157,9 +157,9 @@ fn empty_state(card: u32, register: u32, taken: u16) -> State
     }
 }
 
-// Counts an event that is not refused by its verdict, with a flush first where its pair is new to a full buffer.
+// Counts an event that refusals 1 to 9 do not stop, with a flush first where its pair is new to a full buffer.
 fn count(s: State, card: &mut [u8], register: &mut [u8], id: &[u8], i: u16) -> Replied
-    requires { ⌜ Verdict.Number i ≡ verdictOf s (length (now card)) (now register) (now id) ⌝ }
+    requires { ⌜ Admitted (probeOf s (now card) (now register)) (now id) i ⌝ }
     ensures { λ r. ⌜ Gives (probeOf s (now (card .entry)) (now (register .entry))) (eventOf (probeOf s (now (card .entry)) (now (register .entry))) (now (id .entry)))
         (replied (r .reply)) (probeOf (r .state) (now (card .exit)) (now (register .exit))) ⌝ }
 {
@@ -268,7 +268,7 @@ pub fn event(s: State, card: &mut [u8], register: &mut [u8], id: &[u8]) -> Repli
     ensures { λ r. ⌜ Gives (probeOf s (now (card .entry)) (now (register .entry))) (eventOf (probeOf s (now (card .entry)) (now (register .entry))) (now (id .entry)))
         (replied (r .reply)) (probeOf (r .state) (now (card .exit)) (now (register .exit))) ⌝ }
 {
-    let verdict = counting::judge_event(s, card.len(), register, id);
+    let verdict = counting::judge_event(s, card, register, id);
     match verdict {
         Verdict::Refused(why) => refuse(s, why),
         Verdict::Number(i) => count(s, card, register, id, i),

@@ -1,9 +1,8 @@
 use mathlib.Core.Path.{refl, sym, _∙_}
 use denote.Enum.Declared.{tagOf}
-use Rattle.words.specs.Words.{words}
 use Rattle.state.proofs.Kept.{state-kept}
+use Rattle.windows.specs.declared.Target.{Target}
 use Rattle.windows.proofs.Target.{the-type}
-use Rattle.windows.proofs.Targets.{chosen}
 use Rattle.windows.proofs.Flushes.{nothing-told}
 use Rattle.sums.specs.Views.{countsIn}
 use Rattle.removals.proofs.Given.{names-the-open, names-no-live, some-live, flush-barred, removed-plain, removed-flushed, judged}
@@ -76,7 +75,7 @@ flush-to-requires c κs =
     let k = a .args .c in
     let t = c .before .before in
     let m = c .before .before .before .before in
-    (a .pre .rule, a .pre .size, chosen _ s (words card) (t .target2 .given .0 .0) (sym (m .target-of .ensures) ∙ t .target2 .given .1))
+    (a .pre .rule, a .pre .size, (rw (t .target2 .given .1) at (m .target-of .ensures)) .1)
 
 without-requires : tie.Need-without-requires
 without-requires c κs =
@@ -118,7 +117,7 @@ without-requires-2 c κs =
     let shut = sym (o .names-open .ensures) ∙ j .if1 .left in
     let live = sym (l .not-live .ensures) ∙ i .if2 .left in
     let none = nothing-told (tagOf the-type) (λ x. refl) (λ x. refl) (m .target-of .result) (c .before .match .keys3) in
-    (takeable-plain s card w k (a .pre) (sym none ∙ judged s (countsIn k) (words card) _ _ (m .before .must-flush .ensures) (m .target-of .ensures)), some-live s card w (countsIn k) shut live)
+    (takeable-plain s card w k (a .pre) (judged s (countsIn k) card _ Target.Nothing (m .before .must-flush .ensures) (rw none at (m .target-of .ensures))), some-live s card w (countsIn k) shut live)
 
 done-requires-2 : tie.Need-done-requires-2
 done-requires-2 c κs = search needs
@@ -142,7 +141,7 @@ returns-3 c =
     let live = sym (l .not-live .ensures) ∙ i .if2 .left in
     let t = c .before .before in
     rw (c .refuse3 .ensures)
-    (flush-barred s card w (countsIn k) shut live (t .target .given .0 .0) (sym (t .target .given .1) ∙ judged s (countsIn k) (words card) _ _ (m .before .must-flush .ensures) (m .target-of .ensures)))
+    (flush-barred s card w (countsIn k) shut live (t .target .given .0 .0) (judged s (countsIn k) card _ (Target.Refused (t .target .given .0 .0)) (m .before .must-flush .ensures) (rw (t .target .given .1) at (m .target-of .ensures))))
 
 same-length-2 : tie.Need-same-length-2
 same-length-2 c = search needs
@@ -164,7 +163,7 @@ returns-4 c =
     let f = c .before .before .before .before in
     let t = c .before .before .before .before .before .before .before in
     rw (c .done .ensures, c .before .without .ensures, f .flush-to .ensures .0, f .flush-to .ensures .1)
-    (removed-flushed s card w (countsIn k) shut live (t .target2 .given .0 .0) (sym (t .target2 .given .1) ∙ judged s (countsIn k) (words card) _ _ (m .before .must-flush .ensures) (m .target-of .ensures)))
+    (removed-flushed s card w (countsIn k) shut live (t .target2 .given .0 .0) (judged s (countsIn k) card _ (Target.Block (t .target2 .given .0 .0)) (m .before .must-flush .ensures) (rw (t .target2 .given .1) at (m .target-of .ensures))))
 
 same-length-3 : tie.Need-same-length-3
 same-length-3 c = search needs
@@ -185,7 +184,7 @@ returns-5 c =
     let live = sym (l .not-live .ensures) ∙ i .if2 .left in
     let none = nothing-told (tagOf the-type) (λ x. refl) (λ x. refl) (m .target-of .result) (c .before .before .before .match .keys3) in
     rw (c .done2 .ensures, c .before .without2 .ensures)
-    (removed-plain s card w (countsIn k) shut live (sym none ∙ judged s (countsIn k) (words card) _ _ (m .before .must-flush .ensures) (m .target-of .ensures)))
+    (removed-plain s card w (countsIn k) shut live (judged s (countsIn k) card _ Target.Nothing (m .before .must-flush .ensures) (rw none at (m .target-of .ensures))))
 
 pub remove-counts-spec : {M : Type 1} → statement M
 remove-counts-spec =

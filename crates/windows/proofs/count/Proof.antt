@@ -1,14 +1,12 @@
-use mathlib.Core.Path.{refl, sym, _∙_}
+use mathlib.Core.Path.{refl}
 use denote.Enum.Declared.{tagOf}
-use lib.ListN.{length}
 use borrow.Author.Needs.{needs}
-use Rattle.words.specs.Words.{words}
 use Rattle.state.proofs.Kept.{state-kept}
+use Rattle.windows.specs.declared.Target.{Target}
 use Rattle.windows.specs.Promises.{probeOf}
 use Rattle.windows.proofs.Target.{the-type}
-use Rattle.windows.proofs.Targets.{chosen}
 use Rattle.windows.proofs.Flushes.{nothing-told}
-use Rattle.windows.proofs.Verdicts.{admitted, event-barred, event-plain, event-flushed}
+use Rattle.windows.proofs.Verdicts.{card-size, event-barred, event-plain, event-flushed}
 use Rattle.windows.proofs.Counts.{judged, number-room, countable-plain, countable-flushed}
 use Rattle.windows.proofs.count.Statement.{statement}
 use Rattle.windows.proofs.count.Tie as tie
@@ -21,8 +19,7 @@ must-flush-requires c κs =
     let register = a .args .register .now in
     let n = a .args .id .now in
     let i = a .args .i in
-    let ok = admitted s (length card) register n i (a .pre) in
-    state-kept s (ok .rule) .buffer .used
+    state-kept s (a .pre .rule) .buffer .used
 
 target-of-requires : tie.Need-target-of-requires
 target-of-requires c κs =
@@ -32,8 +29,7 @@ target-of-requires c κs =
     let register = a .args .register .now in
     let n = a .args .id .now in
     let i = a .args .i in
-    let ok = admitted s (length card) register n i (a .pre) in
-    (ok .rule, ok .card)
+    (a .pre .rule, card-size (probeOf s card register) n i (a .pre))
 
 enum-known-target : tie.Need-enum-known-target
 enum-known-target c = search needs
@@ -52,10 +48,9 @@ flush-to-requires c κs =
     let register = a .args .register .now in
     let n = a .args .id .now in
     let i = a .args .i in
-    let ok = admitted s (length card) register n i (a .pre) in
     let t = c .before .before in
     let m = t .before .before in
-    (ok .rule, ok .card, chosen _ s (words card) (t .target2 .given .0 .0) (sym (m .target-of .ensures) ∙ t .target2 .given .1))
+    (a .pre .rule, card-size (probeOf s card register) n i (a .pre), (rw (t .target2 .given .1) at (m .target-of .ensures)) .1)
 
 note-requires : tie.Need-note-requires
 note-requires c κs =
@@ -65,8 +60,7 @@ note-requires c κs =
     let register = a .args .register .now in
     let n = a .args .id .now in
     let i = a .args .i in
-    let ok = admitted s (length card) register n i (a .pre) in
-    (ok .formed, ok .good, ok .number, number-room s (length card) register n i ok)
+    (a .pre .formed, a .pre .good, a .pre .number, number-room (probeOf s card register) n i (a .pre))
 
 count-event-requires : tie.Need-count-event-requires
 count-event-requires c κs =
@@ -76,9 +70,8 @@ count-event-requires c κs =
     let register = a .args .register .now in
     let n = a .args .id .now in
     let i = a .args .i in
-    let ok = admitted s (length card) register n i (a .pre) in
     let f = c .before .before .before .before .before .before in
-    rw (f .flush-to .ensures .0) (countable-flushed s (length card) register n i ok _)
+    rw (f .flush-to .ensures .0) (countable-flushed (probeOf s card register) n i (a .pre) _)
 
 done-requires : tie.Need-done-requires
 done-requires c κs = search needs
@@ -94,8 +87,7 @@ note-requires-2 c κs =
     let register = a .args .register .now in
     let n = a .args .id .now in
     let i = a .args .i in
-    let ok = admitted s (length card) register n i (a .pre) in
-    (ok .formed, ok .good, ok .number, number-room s (length card) register n i ok)
+    (a .pre .formed, a .pre .good, a .pre .number, number-room (probeOf s card register) n i (a .pre))
 
 count-event-requires-2 : tie.Need-count-event-requires-2
 count-event-requires-2 c κs =
@@ -105,10 +97,9 @@ count-event-requires-2 c κs =
     let register = a .args .register .now in
     let n = a .args .id .now in
     let i = a .args .i in
-    let ok = admitted s (length card) register n i (a .pre) in
     let m = c .before .before .before .before .before .before in
     let none = nothing-told (tagOf the-type) (λ x. refl) (λ x. refl) (m .target-of .result) (c .before .before .before .before .before .match .keys3) in
-    countable-plain s (length card) register n i ok (words card) (sym none ∙ judged s i (words card) _ _ (m .before .before .must-flush .ensures) (m .target-of .ensures))
+    countable-plain (probeOf s card register) n i (a .pre) (judged s i card _ Target.Nothing (m .before .before .must-flush .ensures) (rw none at (m .target-of .ensures)))
 
 done-requires-2 : tie.Need-done-requires-2
 done-requires-2 c κs = search needs
@@ -127,7 +118,7 @@ returns c =
     let t = c .before .before in
     let m = t .before .before in
     rw (c .refuse .ensures)
-    (event-barred (probeOf s card register) n i (a .pre) (t .target .given .0 .0) (sym (t .target .given .1) ∙ judged s i (words card) _ _ (m .before .before .must-flush .ensures) (m .target-of .ensures)))
+    (event-barred (probeOf s card register) n i (a .pre) (t .target .given .0 .0) (judged s i card _ (Target.Refused (t .target .given .0 .0)) (m .before .before .must-flush .ensures) (rw (t .target .given .1) at (m .target-of .ensures))))
 
 same-length-2 : tie.Need-same-length-2
 same-length-2 c = search needs
@@ -148,7 +139,7 @@ returns-2 c =
     let t = f .before .before .before in
     let m = t .before .before in
     rw (c .done .ensures, c .before .count-event .ensures, f .flush-to .ensures .0, f .flush-to .ensures .1, o .note .ensures)
-    (event-flushed (probeOf s card register) n i (a .pre) (t .target2 .given .0 .0) (sym (t .target2 .given .1) ∙ judged s i (words card) _ _ (m .before .before .must-flush .ensures) (m .target-of .ensures)))
+    (event-flushed (probeOf s card register) n i (a .pre) (t .target2 .given .0 .0) (judged s i card _ (Target.Block (t .target2 .given .0 .0)) (m .before .before .must-flush .ensures) (rw (t .target2 .given .1) at (m .target-of .ensures))))
 
 same-length-4 : tie.Need-same-length-4
 same-length-4 c = search needs
@@ -169,7 +160,7 @@ returns-3 c =
     let m = k .before in
     let none = nothing-told (tagOf the-type) (λ x. refl) (λ x. refl) (m .target-of .result) (k .match .keys3) in
     rw (c .done2 .ensures, c .before .count-event2 .ensures, o .note2 .ensures)
-    (event-plain (probeOf s card register) n i (a .pre) (sym none ∙ judged s i (words card) _ _ (m .before .before .must-flush .ensures) (m .target-of .ensures)))
+    (event-plain (probeOf s card register) n i (a .pre) (judged s i card _ Target.Nothing (m .before .before .must-flush .ensures) (rw none at (m .target-of .ensures))))
 
 pub count-spec : {M : Type 1} → statement M
 count-spec =

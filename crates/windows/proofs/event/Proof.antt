@@ -1,4 +1,3 @@
-use mathlib.Core.Path.{sym, _∙_}
 use borrow.Author.Needs.{needs}
 use Rattle.windows.specs.Promises.{probeOf}
 use Rattle.windows.proofs.Verdicts.{event-refused}
@@ -20,7 +19,7 @@ enum-known-verdict-2 c = search needs
 count-requires : tie.Need-count-requires
 count-requires c κs =
     let v = c .before .before .before in
-    sym (v .verdict2 .given .1) ∙ v .before .before .judge-event .ensures
+    rw (v .verdict2 .given .1) at (v .before .before .judge-event .ensures)
 
 same-length : tie.Need-same-length
 same-length c = search needs
@@ -29,15 +28,18 @@ returns : tie.Need-returns
 returns c =
     let v = c .before .before in
     let j = v .before .before in
-    let a = j .before .before .before .before .before .args in
+    let a = j .before .before .before .before .before .before .args in
     rw (c .refuse .ensures)
-    (event-refused (probeOf (a .s) (a .card .now) (a .register .now)) (a .id .now) (v .verdict .given .0 .0) (sym (v .verdict .given .1) ∙ j .judge-event .ensures))
+    (event-refused (probeOf (a .s) (a .card .now) (a .register .now)) (a .id .now) (v .verdict .given .0 .0) (rw (v .verdict .given .1) at (j .judge-event .ensures)))
 
 same-length-2 : tie.Need-same-length-2
 same-length-2 c = search needs
 
 same-length-3 : tie.Need-same-length-3
 same-length-3 c = search needs
+
+same-length-4 : tie.Need-same-length-4
+same-length-4 c = search needs
 
 returns-2 : tie.Need-returns-2
 returns-2 c = c .before .before .before .before .count .ensures
@@ -52,7 +54,8 @@ event-spec =
     enum-known-verdict-2
     count-requires
     same-length
-    returns
     same-length-2
+    returns
     same-length-3
+    same-length-4
     returns-2)

@@ -3,11 +3,9 @@ use mathlib.Core.Path.{refl, sym, ap, _∙_}
 use denote.Enum.Declared.{tagOf}
 use borrow.Author.Needs.{needs}
 use borrow.Author.Tests.{eq-eqb, ne-eqb, not-false}
-use Rattle.words.specs.Words.{words}
 use Rattle.windows.specs.Calls.{flushOf}
 use Rattle.windows.proofs.Target.{the-type}
 use Rattle.windows.proofs.Outcomes.{stopped, passed}
-use Rattle.windows.proofs.Targets.{chosen}
 use Rattle.windows.proofs.Flushes.{flush-refused, flush-nothing, flush-written, nothing-told}
 use Rattle.windows.proofs.flush.Statement.{statement}
 use Rattle.windows.proofs.flush.Tie as tie
@@ -62,7 +60,7 @@ flush-to-requires c κs =
     let s = a .before .before .before .args in (
       sym (a .before .state-ok .ensures) ∙ not-false _ (a .if1 .left),
       b .if2 .left,
-      chosen _ (s .s) (words (s .card .now)) (t .target2 .given .0 .0) (sym (m .target-of .ensures) ∙ t .target2 .given .1),
+      (rw (t .target2 .given .1) at (m .target-of .ensures)) .1,
     )
 
 done-requires : tie.Need-done-requires
@@ -88,7 +86,7 @@ returns-3 c =
     rw (c .refuse3 .ensures)
     (passed _ 1 _ (ap not (sym (a .before .state-ok .ensures)) ∙ a .if1 .left)
     (passed _ 2 _ (ap not (eq-eqb _ _ (b .if2 .left)))
-    (flush-refused (s .s) (s .card .now) (t .target .given .0 .0) (sym (t .target .given .1) ∙ m .target-of .ensures))))
+    (flush-refused (s .s) (s .card .now) (t .target .given .0 .0) (rw (t .target .given .1) at (m .target-of .ensures)))))
 
 same-length-2 : tie.Need-same-length-2
 same-length-2 c = search needs
@@ -105,7 +103,7 @@ returns-4 c =
     rw (c .done .ensures, f .flush-to .ensures .0, f .flush-to .ensures .1)
     (passed _ 1 _ (ap not (sym (a .before .state-ok .ensures)) ∙ a .if1 .left)
     (passed _ 2 _ (ap not (eq-eqb _ _ (b .if2 .left)))
-    (flush-written (s .s) (s .card .now) (t .target2 .given .0 .0) (sym (t .target2 .given .1) ∙ m .target-of .ensures))))
+    (flush-written (s .s) (s .card .now) (t .target2 .given .0 .0) (rw (t .target2 .given .1) at (m .target-of .ensures)))))
 
 same-length-3 : tie.Need-same-length-3
 same-length-3 c = search needs
@@ -121,7 +119,7 @@ returns-5 c =
     rw (c .done2 .ensures)
     (passed _ 1 _ (ap not (sym (a .before .state-ok .ensures)) ∙ a .if1 .left)
     (passed _ 2 _ (ap not (eq-eqb _ _ (b .if2 .left)))
-    (flush-nothing (s .s) (s .card .now) (sym (nothing-told (tagOf the-type) (λ x. refl) (λ x. refl) (m .target-of .result) (k .match .keys3)) ∙ m .target-of .ensures))))
+    (flush-nothing (s .s) (s .card .now) (rw (nothing-told (tagOf the-type) (λ x. refl) (λ x. refl) (m .target-of .result) (k .match .keys3)) at (m .target-of .ensures)))))
 
 pub flush-spec : {M : Type 1} → statement M
 flush-spec =

@@ -5,7 +5,6 @@ use borrow.Author.Needs.{needs}
 use borrow.Author.Tests.{le-leb, lt-leb}
 use Rattle.identifiers.specs.Names.{numberOf}
 use Rattle.identifiers.specs.Register.{names}
-use Rattle.windows.specs.Verdicts.{noted}
 use Rattle.windows.proofs.counting.note.Statement.{statement}
 use Rattle.windows.proofs.counting.note.Tie as tie
 
@@ -19,7 +18,6 @@ same-length : tie.Need-same-length
 same-length c = search needs
 
 returns : tie.Need-returns
-unfolding noted
 returns c =
     let d = c .before .before in
     let b = d .before .before in
@@ -32,7 +30,6 @@ same-length-2 : tie.Need-same-length-2
 same-length-2 c = search needs
 
 returns-2 : tie.Need-returns-2
-unfolding noted
 returns-2 c =
     let a = c .before .before .before .before .before in
     let m = names (a .args .register .now) in

@@ -3,6 +3,7 @@ use Prim.Native.Nat.{ℕ, suc, _+_, _*_, _≤_, _<_}
 use native.Mathlib.Omega.{arith}
 use denote.Enum.Declared.{tagOf}
 use borrow.Author.Needs.{needs}
+use borrow.Author.Tests.{not-true, not-false}
 use Rattle.lists.specs.Lists.{totalBy}
 use Rattle.words.specs.Words.{words}
 use Rattle.words.proofs.Views.{length-words}
@@ -14,7 +15,7 @@ use Rattle.card.specs.Blocks.{freeBlocks}
 use Rattle.card.specs.Chains.{blocksFor}
 use Rattle.card.proofs.Free.{the-type}
 use Rattle.windows.specs.Flush.{finishedBlocks}
-use Rattle.windows.proofs.Targets.{not-wanted, not-held, level-full, half-full, first-free, block-found, none-found}
+use Rattle.windows.proofs.Targets.{not-wanted, not-held, level-full, half-full, none-free, first-free, block-found, none-found}
 use Rattle.windows.proofs.flushing.target_of.Statement.{statement}
 use Rattle.windows.proofs.flushing.target_of.Tie as tie
 
@@ -29,7 +30,7 @@ module _ (s : State) (n : ℕ) (e : n ≡ totalBy (λ (q : Partition). blocksFor
   unfold-within h = omega arith
 
 returns : tie.Need-returns
-returns c = let a = c .before .before .args in not-wanted (a .s) _ (a .wanted) (c .if1 .taken)
+returns c = let a = c .before .before .args in not-wanted (a .s) (a .card .now) (a .wanted) (not-true _ (c .if1 .taken))
 
 is-empty-requires : tie.Need-is-empty-requires
 is-empty-requires c κs = let a = c .before .before in state-kept (a .args .s) (a .pre .0) .buffer .used
@@ -38,7 +39,7 @@ returns-2 : tie.Need-returns-2
 returns-2 c =
     let b = c .before .before in
     let a = b .before .before in
-    not-held (a .args .s) _ (a .args .wanted) (b .if1 .left) (sym (c .before .is-empty .ensures) ∙ c .if2 .taken)
+    not-held (a .args .s) (a .args .card .now) (a .args .wanted) (not-false _ (b .if1 .left)) (sym (c .before .is-empty .ensures) ∙ c .if2 .taken)
 
 of-level-requires : tie.Need-of-level-requires
 of-level-requires c κs =
@@ -51,7 +52,7 @@ returns-3 c =
     let b = d .before .before in
     let a = b .before .before in
     let level = c .before .of-level .ensures in
-    level-full (a .args .s) _ (a .args .wanted) (b .if1 .left) (sym (d .before .is-empty .ensures) ∙ d .if2 .left) (omega (arith, c .if3 .taken))
+    level-full (a .args .s) (a .args .card .now) (a .args .wanted) (not-false _ (b .if1 .left)) (sym (d .before .is-empty .ensures) ∙ d .if2 .left) (omega (arith, c .if3 .taken))
 
 finished-blocks-requires : tie.Need-finished-blocks-requires
 finished-blocks-requires c κs =
@@ -74,7 +75,7 @@ returns-4 c =
     let level = e .before .of-level .ensures in
     let total = c .before .finished-blocks .ensures .1 in
     let more : blocks s < 2 * suc (finishedBlocks s) = unfold-total s _ total (c .if4 .taken) in
-    half-full s _ (a .args .wanted) (b .if1 .left) (sym (d .before .is-empty .ensures) ∙ d .if2 .left) (omega (arith, e .if3 .left)) more
+    half-full s (a .args .card .now) (a .args .wanted) (not-false _ (b .if1 .left)) (sym (d .before .is-empty .ensures) ∙ d .if2 .left) (omega (arith, e .if3 .left)) more
 
 next-free-requires : tie.Need-next-free-requires
 next-free-requires c κs =
@@ -99,10 +100,9 @@ returns-5 c =
     let s = a .args .s in
     let level = e .before .of-level .ensures in
     let total = f .before .finished-blocks .ensures .1 in
-    let W = words (a .args .card .now) in
-    let l = freeBlocks W (blocks s) (s .taken) in
-    block-found l (c .before .free .given .0 .0) (sym (c .before .free .given .1) ∙ n .next-free .ensures)
-    ∙ first-free s W (a .args .wanted) (b .if1 .left) (sym (d .before .is-empty .ensures) ∙ d .if2 .left) (omega (arith, e .if3 .left)) (unfold-within s _ total (f .if4 .left))
+    let card = a .args .card .now in
+    let found = block-found (freeBlocks (words card) (blocks s) (s .taken)) (c .before .free .given .0 .0) (sym (c .before .free .given .1) ∙ n .next-free .ensures) in
+    first-free s card (a .args .wanted) (not-false _ (b .if1 .left)) (sym (d .before .is-empty .ensures) ∙ d .if2 .left) (omega (arith, e .if3 .left)) (unfold-within s _ total (f .if4 .left)) (found .0) _ (found .1)
 
 returns-6 : tie.Need-returns-6
 returns-6 c =
@@ -115,10 +115,9 @@ returns-6 c =
     let s = a .args .s in
     let level = e .before .of-level .ensures in
     let total = f .before .finished-blocks .ensures .1 in
-    let W = words (a .args .card .now) in
-    let l = freeBlocks W (blocks s) (s .taken) in
-    none-found (tagOf the-type) (λ v. refl) l (ap (tagOf the-type) (sym (n .next-free .ensures)) ∙ c .before .match .keys2)
-    ∙ first-free s W (a .args .wanted) (b .if1 .left) (sym (d .before .is-empty .ensures) ∙ d .if2 .left) (omega (arith, e .if3 .left)) (unfold-within s _ total (f .if4 .left))
+    let card = a .args .card .now in
+    let none = none-found (tagOf the-type) (λ v. refl) (freeBlocks (words card) (blocks s) (s .taken)) (ap (tagOf the-type) (sym (n .next-free .ensures)) ∙ c .before .match .keys2) in
+    none-free s card (a .args .wanted) (not-false _ (b .if1 .left)) (sym (d .before .is-empty .ensures) ∙ d .if2 .left) (omega (arith, e .if3 .left)) (unfold-within s _ total (f .if4 .left)) none
 
 pub target-of-spec : {M : Type 1} → statement M
 target-of-spec =
