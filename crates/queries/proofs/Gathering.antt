@@ -59,9 +59,6 @@ module _ (W R : List ℕ) (s : State) where
   unfolding parts AllOf
   keeps-none k H u t = record { used = u; kept = rw u tt; served = rw u none; taken = t }
 
-  pub used-few : (is : List ℕ) (k : Known) (H : List ℕ) → Keeps W R s is k H → k .used ≤ 5
-  used-few is k H v = omega (arith, v .used, length-take 5 is)
-
   -- one more where there is room
   pub keeps-room : (k r : Known) (H P : List ℕ) (i : ℕ) (o : Counted) → k .used < 5 → size * k .used + size ≤ length H → CountedFor W R s i (s .partitions .used + 1) P o
       → o .fine ≡ true → r .used ≡ k .used + 1 → r .taken ≡ k .taken + o .taken → (is : List ℕ) → Keeps W R s is k H → Keeps W R s (is ++ (i ∷ [])) r (putIn size H P (k .used))

@@ -20,7 +20,7 @@ use Rattle.weights.proofs.Laws.{tf-most}
 use Rattle.postings.specs.Sums.{isAbove}
 use Rattle.partitions.specs.Formed.{inRange}
 use Rattle.kway.specs.Parts.{part, parts}
-use Rattle.kway.proofs.Parts.{putIn, views-more, map-more, Moved, moved-none, now-more, moved-more}
+use Rattle.kway.proofs.Parts.{putIn, views-more, Moved, moved-none, now-more, moved-more}
 use Rattle.terms.specs.Heads.{Kept, views}
 use Rattle.terms.specs.Terms.{Term, termOf, KeptGroup, termsOf}
 use Rattle.terms.specs.Scores.{groupsIn, weightsIn, moved, weigh, scoreAt}
@@ -93,9 +93,6 @@ score-most count w h g = mul-le-mul (tf-most count h) g
 -- ---- one term more
 
 module _ (k : ℕ) where
-  groups-more : (ts : List Term) (t : Term) → groupsIn (ts ++ (t ∷ [])) ≡ groupsIn ts ++ (t .lists ∷ [])
-  groups-more ts t = map-more (λ (t : Term). t .lists) ts t
-
   score-more : (ts : List Term) (t : Term) → scoreAt k (ts ++ (t ∷ [])) ≡ scoreAt k ts + weigh k t
   score-more [] t = omega arith
   score-more (u ∷ ts) t = let r = score-more ts t in omega arith
