@@ -7,7 +7,9 @@ use lib.ListN.{length, getD}
 use Rattle.lists.specs.Lists.{keep, any, empty, totalBy, joined, elem}
 use Rattle.postings.specs.declared.Posting.{Posting}
 use Rattle.postings.specs.Merge.{put, nonzero, pairs}
-use Rattle.answers.specs.Answers.{Outcome, refuseIf, choose}
+use Rattle.answers.specs.Answers.{Outcome, choose}
+use Rattle.answers.specs.Order as order
+use Rattle.answers.specs.Order.{admit}
 use Rattle.state.specs.Levels.{nextLevel, ofLevel, dueLevels, oldest, replaced}
 use Rattle.card.specs.Chains.{blocksFor}
 use Rattle.partitions.specs.Layout.{lengthOf}
@@ -103,19 +105,23 @@ module _ {S : Type 0} (blocks : ℕ) where
   -- 12 where a merge that begins finds too few free blocks, 13 where none is in progress and no level is due
   unfoldable pub stepping : Account → (Account → Outcome S) → Outcome S
   stepping a k =
-      refuseIf (eqb (a .steps) 0 && ltb blocks (blocksIn a + blocksOf (merged a))) 12
-      (refuseIf (eqb (a .steps) 0 && empty (dueOf a)) 13
-      (k (steppedAccount a)))
+      admit order.merging
+      ((eqb (a .steps) 0 && ltb blocks (blocksIn a + blocksOf (merged a)))
+      ∷ (eqb (a .steps) 0 && empty (dueOf a))
+      ∷ [])
+      (k (steppedAccount a))
 
   -- an empty buffer writes nothing; else 10 with 16 partitions at level 0, 11 where twice (finished blocks + 1) exceeds the card's, 12 with no
   -- block that is neither a finished partition's nor the output's
   unfoldable pub flushing : Account → (Account → Outcome S) → Outcome S
   flushing a k =
       choose (empty (a .buffer)) (k a)
-      (refuseIf (leb 16 (ofLevel (λ (p : Portion). p .level) 0 (a .partitions))) 10
-      (refuseIf (ltb blocks (2 * suc (blocksIn a))) 11
-      (refuseIf (ltb blocks (suc (blocksIn a + blocksAhead a))) 12
-      (k (flushedAccount a)))))
+      (admit order.writing
+      (leb 16 (ofLevel (λ (p : Portion). p .level) 0 (a .partitions))
+      ∷ ltb blocks (2 * suc (blocksIn a))
+      ∷ ltb blocks (suc (blocksIn a + blocksAhead a))
+      ∷ [])
+      (k (flushedAccount a)))
 
   -- with a flush first where the test holds
   unfoldable pub flushingIf : Bool → Account → (Account → Outcome S) → Outcome S

@@ -9,7 +9,9 @@ use lib.ListN.{length, getD}
 use Rattle.lists.specs.Lists.{any, down, upTo}
 use Rattle.postings.specs.declared.Posting.{Posting}
 use Rattle.postings.specs.Merge.{isZero}
-use Rattle.answers.specs.Answers.{Answer, done, number, hits, refused, Outcome, refuse, leave, refuseIf}
+use Rattle.answers.specs.Answers.{Answer, done, number, hits, refused, Outcome, leave}
+use Rattle.answers.specs.Order as order
+use Rattle.answers.specs.Order.{past, admit}
 use Rattle.answers.specs.declared.Hit.{Hit}
 use Rattle.identifiers.specs.Names.{Name, badLength, among, numberOf, numbersOf}
 use Rattle.queries.specs.Hits.{ranked}
@@ -46,32 +48,31 @@ pub data Granted : Answer → Type 0 where
 module _ (blocks entries : ℕ) where
   unfoldable pub books : Ledger → Account → Call → Outcome Books
   books l a Open =
-      refuseIf (l .isOpen) 5
-      (refuseIf (leb 65535 (l .last)) 6
-      (leave (number (suc (l .last))) (record { ledger = opens l; account = a })))
+      admit (past 3 order.opening) (l .isOpen ∷ leb 65535 (l .last) ∷ [])
+      (leave (number (suc (l .last))) (record { ledger = opens l; account = a }))
   books l a (Event n) =
-      refuseIf (badLength n) 4
-      (refuseIf (not (l .isOpen)) 5
-      (refuseIf (leb 32767 (l .events)) 6
-      (refuseIf (not (among n (l .identifiers)) && leb entries (length (l .identifiers))) 8
-      (refuseIf (not (among n (l .listed)) && leb 64 (length (l .listed))) 9
+      admit (past 3 order.event)
+      (badLength n
+      ∷ not (l .isOpen)
+      ∷ leb 32767 (l .events)
+      ∷ (not (among n (l .identifiers)) && leb entries (length (l .identifiers)))
+      ∷ (not (among n (l .listed)) && leb 64 (length (l .listed)))
+      ∷ [])
       (flushingIf blocks (overflows (once l n) a) a
-      (λ b. leave done (record { ledger = counts l n; account = addedTo (once l n ∷ []) b })))))))
+      (λ b. leave done (record { ledger = counts l n; account = addedTo (once l n ∷ []) b })))
   books l a Close =
-      refuseIf (not (l .isOpen)) 5
+      admit (past 3 order.closing) (not (l .isOpen) ∷ [])
       (leave done (record { ledger = closes l; account = a }))
   books l a (Remove w) =
-      refuseIf (l .isOpen && eqb w (l .last)) 5
-      (refuseIf (not (live l w)) 7
+      admit (past 3 order.removal) ((l .isOpen && eqb w (l .last)) ∷ not (live l w) ∷ [])
       (flushingIf blocks (exceeds (takenBack l w) a) a
-      (λ b. leave done (record { ledger = removes l w; account = addedTo (takenBack l w) b }))))
+      (λ b. leave done (record { ledger = removes l w; account = addedTo (takenBack l w) b })))
   books l a Flush = flushing blocks a (λ b. leave done (record { ledger = l; account = b }))
   books l a Step = stepping blocks a (λ b. leave done (record { ledger = l; account = b }))
   books l a (Query k ns) =
-      refuseIf (any badLength ns) 4
-      (refuseIf (badQuery k ns) 14
+      admit (past 3 order.query) (any badLength ns ∷ badQuery k ns ∷ [])
       (leave (hits (ranked (existing l) (l .count) (down (l .last)) k ns) (takenFrom (numbersOf (l .identifiers) ns) a))
-      (record { ledger = l; account = a })))
+      (record { ledger = l; account = a }))
 
   abbrev pub booksCall : Books → Call → Outcome Books
   booksCall b c = books (b .ledger) (b .account) c

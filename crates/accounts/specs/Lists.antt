@@ -11,6 +11,8 @@ use Rattle.postings.specs.declared.Posting.{Posting}
 use Rattle.postings.specs.Merge.{put, pairs, negated}
 use Rattle.postings.specs.Sums.{sum, under, above}
 use Rattle.answers.specs.Answers.{Answer, done, number, hits, Outcome, leave, refuseIf}
+use Rattle.answers.specs.Order as order
+use Rattle.answers.specs.Order.{past, admit}
 use Rattle.state.specs.declared.Windows.{Windows}
 use Rattle.state.specs.declared.Partition.{Partition}
 use Rattle.state.specs.Views.{listedOf, bufferOf, partitionsOf}
@@ -154,33 +156,35 @@ module _ (blocks entries : ℕ) where
   -- a removal, where these are the window's counts
   unfoldable pub removingLists : Lists → ℕ → List Posting → Outcome Lists
   removingLists e w counts =
-      refuseIf (isOpen e && eqb w (e .windows .current)) 5
-      (refuseIf (not (isLive counts) || (ltb (e .windows .last) w || leb (e .windows .live) (openCounted e))) 7
-      (flushingIf blocks (exceeds counts (e .account)) (e .account) (λ a. leave done (removedLists e counts a))))
+      admit (past 3 order.removal)
+      ((isOpen e && eqb w (e .windows .current))
+      ∷ (not (isLive counts) || (ltb (e .windows .last) w || leb (e .windows .live) (openCounted e)))
+      ∷ [])
+      (flushingIf blocks (exceeds counts (e .account)) (e .account) (λ a. leave done (removedLists e counts a)))
 
   -- what follows refusals 1 to 3
   unfoldable pub pursued : Lists → Call → Outcome Lists
   pursued e Open =
-      refuseIf (isOpen e) 5
-      (refuseIf (leb 65535 (e .windows .last)) 6
-      (leave (number (suc (e .windows .last))) (openedLists e)))
+      admit (past 3 order.opening) (isOpen e ∷ leb 65535 (e .windows .last) ∷ [])
+      (leave (number (suc (e .windows .last))) (openedLists e))
   pursued e (Event n) =
-      refuseIf (badLength n) 4
-      (refuseIf (not (isOpen e)) 5
-      (refuseIf (leb 32767 (e .windows .events)) 6
-      (refuseIf (isNew e n && leb entries (length (e .names))) 8
-      (refuseIf (not (elem (numberOf (e .names) n) (e .listed)) && leb 64 (length (e .listed))) 9
-      (flushingIf blocks (overflows (onceOf e n) (e .account)) (e .account) (λ a. leave done (countedLists e n a)))))))
+      admit (past 3 order.event)
+      (badLength n
+      ∷ not (isOpen e)
+      ∷ leb 32767 (e .windows .events)
+      ∷ (isNew e n && leb entries (length (e .names)))
+      ∷ (not (elem (numberOf (e .names) n) (e .listed)) && leb 64 (length (e .listed)))
+      ∷ [])
+      (flushingIf blocks (overflows (onceOf e n) (e .account)) (e .account) (λ a. leave done (countedLists e n a)))
   pursued e Close =
-      refuseIf (not (isOpen e)) 5
+      admit (past 3 order.closing) (not (isOpen e) ∷ [])
       (leave done (closedLists e))
   pursued e (Remove w) = removingLists e w (countsOf w (storedIn (e .account)))
   pursued e Flush = flushing blocks (e .account) (λ a. leave done (withAccount e a))
   pursued e Step = stepping blocks (e .account) (λ a. leave done (withAccount e a))
   pursued e (Query k ns) =
-      refuseIf (any badLength ns) 4
-      (refuseIf (badQuery k ns) 14
-      (leave (hits (ranked (e .windows .live) (countOf (e .account)) (down 65535) k (numbersOf (e .names) ns)) (takenFrom (numbersOf (e .names) ns) (e .account))) e))
+      admit (past 3 order.query) (any badLength ns ∷ badQuery k ns ∷ [])
+      (leave (hits (ranked (e .windows .live) (countOf (e .account)) (down 65535) k (numbersOf (e .names) ns)) (takenFrom (numbersOf (e .names) ns) (e .account))) e)
 
   unfoldable pub listsCall : Lists → Call → Outcome Lists
   listsCall e c = refuseIf (not (listsRule blocks e)) 1 (refuseIf (not (callRule e c)) 3 (pursued e c))

@@ -1,3 +1,4 @@
 pub mod Answers
+pub mod Order
 pub mod Numbers
 pub mod Unchanged

@@ -7,7 +7,9 @@ use lib.ListN.{length, getD, take, replicate}
 use Rattle.lists.specs.Lists.{every, empty, different, same}
 use Rattle.words.specs.Words.{words, bytes, allOnes}
 use Rattle.postings.specs.declared.Posting.{Posting}
-use Rattle.answers.specs.Answers.{Outcome, refuse, leave, refuseIf, done}
+use Rattle.answers.specs.Answers.{Outcome, leave, done}
+use Rattle.answers.specs.Order as order
+use Rattle.answers.specs.Order.{admit}
 use Rattle.state.specs.declared.Partition.{Partition}
 use Rattle.state.specs.declared.MergeJob.{MergeJob}
 use Rattle.state.specs.declared.State.{State}
@@ -97,17 +99,18 @@ nextStep s = suc (s .merge .steps)
 -- what follows refusals 1 to 3, where ps are the pairs of the inputs
 unfoldable pub stepping : State → List ℕ → List Posting → Outcome Store
 stepping s W ps =
-    refuseIf (fewFree W s ps) 12
-    (refuseIf (nothingDue s) 13
+    admit order.merging (fewFree W s ps ∷ nothingDue s ∷ [])
     (leave done
     (record {
       state = steppedOn s ps (nextStep s) (outputOn W s ps);
       card = bytes (writtenOn W s ps (nextStep s) (outputOn W s ps));
-    })))
+    }))
 
 unfoldable pub stepOf : Store → Outcome Store
 stepOf p =
-    refuseIf (not (stateRule (p .state))) 1
-    (refuseIf (not (sameLength (p .card) (p .state .lengths .card))) 2
-    (refuseIf (not (stepFormed (words (p .card)) (p .state))) 3
-    (stepping (p .state) (words (p .card)) (taking (words (p .card)) (p .state)))))
+    admit order.step
+    (not (stateRule (p .state))
+    ∷ not (sameLength (p .card) (p .state .lengths .card))
+    ∷ not (stepFormed (words (p .card)) (p .state))
+    ∷ [])
+    (stepping (p .state) (words (p .card)) (taking (words (p .card)) (p .state)))

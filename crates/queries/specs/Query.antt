@@ -1,6 +1,6 @@
 -- The query: what it answers and leaves, for every input.
 use mathlib.Core.Bool.{Bool, _||_, _&&_, not}
-use mathlib.Core.List.{List, _++_}
+use mathlib.Core.List.{List, [], _∷_, _++_}
 use Prim.Native.Nat.{ℕ}
 use lib.Dec.{eqb, ltb}
 use lib.ListN.{length, drop}
@@ -8,7 +8,9 @@ use Rattle.lists.specs.Lists.{keep, any, every, empty, elem, down}
 use Rattle.words.specs.Words.{words}
 use Rattle.postings.specs.declared.Posting.{Posting}
 use Rattle.postings.specs.Sums.{sum, above}
-use Rattle.answers.specs.Answers.{Outcome, refuse, leave, refuseIf, hits}
+use Rattle.answers.specs.Answers.{Outcome, leave, hits}
+use Rattle.answers.specs.Order as order
+use Rattle.answers.specs.Order.{admit}
 use Rattle.answers.specs.declared.Hit.{Hit}
 use Rattle.state.specs.declared.State.{State}
 use Rattle.state.specs.Views.{blocks, finished}
@@ -52,12 +54,14 @@ fill found places = found ++ drop (length found) places
 -- the answer, and the lent list as it is left, where these are the hits
 unfoldable pub querying : Probe → List Name → List Hit → List Hit → Outcome (List Hit)
 querying p ns places found =
-    refuseIf (not (stateRule (p .state))) 1
-    (refuseIf (not (sameLength (p .card) (p .state .lengths .card) && sameLength (p .register) (p .state .lengths .register))) 2
-    (refuseIf (not (queryFormed (words (p .card)) (p .state) (p .register) (numbers (p .register) ns))) 3
-    (refuseIf (any badLength ns) 4
-    (refuseIf (badQuery (length places) ns) 14
-    (leave (hits found (takenUp (words (p .card)) (p .state) (numbers (p .register) ns))) (fill found places))))))
+    admit order.query
+    (not (stateRule (p .state))
+    ∷ not (sameLength (p .card) (p .state .lengths .card) && sameLength (p .register) (p .state .lengths .register))
+    ∷ not (queryFormed (words (p .card)) (p .state) (p .register) (numbers (p .register) ns))
+    ∷ any badLength ns
+    ∷ badQuery (length places) ns
+    ∷ [])
+    (leave (hits found (takenUp (words (p .card)) (p .state) (numbers (p .register) ns))) (fill found places))
 
 unfoldable pub queryOf : Probe → List Name → List Hit → Outcome (List Hit)
 queryOf p ns places = querying p ns places (hitsOf (words (p .card)) (p .state) (length places) (numbers (p .register) ns))

@@ -25,8 +25,7 @@ use Rattle.buffer.proofs.Canonical.{canonical-of, rule-canonical, rule-counts}
 use Rattle.windows.specs.declared.Target.{Target}
 use Rattle.windows.specs.Flush.{flushedTo}
 use Rattle.windows.specs.Targets.{Aimed}
-use Rattle.windows.proofs.Targets.{empty-length}
-use Rattle.windows.proofs.Counts.{not-wanted-only}
+use Rattle.windows.proofs.Targets.{empty-length, not-wanted-only}
 use Rattle.sums.specs.declared.Counts.{Counts}
 use Rattle.sums.specs.Views.{countsIn}
 use Rattle.removals.specs.Removal.{ofWindow, countsOf, listsFormed, removalFormed, removalFlushes}

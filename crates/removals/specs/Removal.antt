@@ -1,6 +1,6 @@
 -- Removal of a window: what it answers and leaves, for every input.
 use mathlib.Core.Bool.{Bool, _||_, _&&_, not, cond}
-use mathlib.Core.List.{List, foldr}
+use mathlib.Core.List.{List, [], _∷_, foldr}
 use Prim.Native.Nat.{ℕ, _+_, _-_}
 use lib.Dec.{eqb, ltb, leb}
 use lib.ListN.{length}
@@ -9,7 +9,9 @@ use Rattle.words.specs.Words.{words}
 use Rattle.postings.specs.declared.Posting.{Posting}
 use Rattle.postings.specs.Merge.{put, nonzero, negated}
 use Rattle.postings.specs.Sums.{isAbove}
-use Rattle.answers.specs.Answers.{Outcome, refuse, leave, refuseIf, done}
+use Rattle.answers.specs.Answers.{Outcome, leave, done}
+use Rattle.answers.specs.Order as order
+use Rattle.answers.specs.Order.{upTo, past, admit}
 use Rattle.state.specs.declared.Windows.{Windows}
 use Rattle.state.specs.declared.State.{State}
 use Rattle.state.specs.Views.{blocks, buffered, finished, bufferOf, withWindows, withBuffer}
@@ -49,13 +51,17 @@ removed s counts =
 -- what follows refusals 1 to 3, where these are the window's counts
 unfoldable pub removing : State → List ℕ → ℕ → List Posting → Outcome Store
 removing s card w counts =
-    refuseIf (isOpen s && eqb w (s .windows .current)) 5
-    (refuseIf (not (isLive counts) || (ltb (s .windows .last) w || leb (s .windows .live) (openCounted s))) 7
-    (flushingIf (removalFlushes s counts) s card (λ t after. leave done (record { state = removed t counts; card = after }))))
+    admit (past 3 order.removal)
+    ((isOpen s && eqb w (s .windows .current))
+    ∷ (not (isLive counts) || (ltb (s .windows .last) w || leb (s .windows .live) (openCounted s)))
+    ∷ [])
+    (flushingIf (removalFlushes s counts) s card (λ t after. leave done (record { state = removed t counts; card = after })))
 
 unfoldable pub removeOf : Store → ℕ → Outcome Store
 removeOf p w =
-    refuseIf (not (stateRule (p .state))) 1
-    (refuseIf (not (sameLength (p .card) (p .state .lengths .card))) 2
-    (refuseIf (not (removalFormed (words (p .card)) (p .state) w)) 3
-    (removing (p .state) (p .card) w (countsOf w (stored (words (p .card)) (p .state))))))
+    admit (upTo 3 order.removal)
+    (not (stateRule (p .state))
+    ∷ not (sameLength (p .card) (p .state .lengths .card))
+    ∷ not (removalFormed (words (p .card)) (p .state) w)
+    ∷ [])
+    (removing (p .state) (p .card) w (countsOf w (stored (words (p .card)) (p .state))))

@@ -1,5 +1,5 @@
 -- What counting an event asks for, from its admission and its flush's target.
-use mathlib.Core.Bool.{Bool, true, false, _&&_, _||_, not}
+use mathlib.Core.Bool.{Bool, true, false, _&&_, not}
 use mathlib.Core.List.{List, []}
 use mathlib.Core.Path.{_≡_, refl, sym, ap, subst, _∙_}
 use Prim.Native.Nat.{ℕ, zero, suc, _+_, _*_, _/_, _<_, _≤_}
@@ -24,7 +24,7 @@ use Rattle.windows.specs.Flush.{flushedTo}
 use Rattle.windows.specs.Calls.{isNew, once, eventFlushes}
 use Rattle.windows.specs.Targets.{Aimed}
 use Rattle.windows.specs.Verdicts.{Admitted, Countable}
-use Rattle.windows.proofs.Targets.{empty-length}
+use Rattle.windows.proofs.Targets.{empty-length, not-wanted-only}
 use Rattle.windows.proofs.Verdicts.{register-size, events-left}
 
 -- ---- the identifier's place in the register
@@ -62,11 +62,6 @@ pub judged : (s : State) (i : ℕ) (card : List ℕ) (wanted : Bool) (t : Target
     → wanted ≡ (eqb (length (buffered (s .buffer))) 128 && not (any (samePair (once s i)) (buffered (s .buffer)))) → Aimed wanted s card t → Aimed (eventFlushes s i) s card t
 unfolding eventFlushes
 judged s i card wanted t e a = subst (λ (w : Bool). Aimed w s card t) e a
-
--- nothing to write with something buffered: no flush is wanted
-pub not-wanted-only : (w t : Bool) → (not w || t) ≡ true → t ≡ false → w ≡ false
-not-wanted-only true t e f = let z : _≡_ {A = ℕ} 0 1 = cc in absurd (omega arith)
-not-wanted-only false t e f = refl
 
 -- ---- what can be counted
 

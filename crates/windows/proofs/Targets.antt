@@ -24,7 +24,7 @@ use Rattle.card.specs.Free.{firstOf}
 use Rattle.card.specs.Blocks.{freeBlocks}
 use Rattle.windows.specs.declared.Target.{Target}
 use Rattle.windows.specs.Flush.{finishedBlocks, flushing, flushingIf, flushedTo, flushedCard}
-use Rattle.windows.specs.Targets.{Chosen, written, Aimed}
+use Rattle.windows.specs.Targets.{written, Aimed}
 
 -- an empty list, by its length
 pub empty-length : {A : Type 0} (l : List A) → eqb (length l) 0 ≡ empty l
@@ -80,6 +80,11 @@ block-found (d ∷ l) b e = let f : b ≡ d = cc in (refl, f)
 pub none-found : (tag : Free → ℕ) → ((b : ℕ) → tag (Free.Block b) ≡ 0) → (l : List ℕ) → tag (firstOf l) ≡ 1 → empty l ≡ true
 none-found tag one [] e = refl
 none-found tag one (b ∷ l) e = let z : _≡_ {A = ℕ} 0 1 = sym (one b) ∙ e in absurd (omega arith)
+
+-- nothing to write with something buffered: no flush is wanted
+pub not-wanted-only : (w t : Bool) → (not w || t) ≡ true → t ≡ false → w ≡ false
+not-wanted-only true t e f = let z : _≡_ {A = ℕ} 0 1 = cc in absurd (omega arith)
+not-wanted-only false t e f = refl
 
 -- every flush has a target
 pub record Aim (wanted : Bool) (s : State) (card : List ℕ) : Type 0 where

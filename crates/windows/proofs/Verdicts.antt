@@ -1,5 +1,4 @@
 -- What an event that is admitted comes to, by its flush's target.
-use mathlib.Core.Bool.{Bool, true, false, _&&_, not}
 use mathlib.Core.List.{List}
 use mathlib.Core.Path.{_≡_, _∙_}
 use Prim.Native.Nat.{ℕ, _<_}

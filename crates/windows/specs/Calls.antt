@@ -9,7 +9,9 @@ use Rattle.lists.specs.Lists.{any, elem}
 use Rattle.postings.specs.declared.Posting.{Posting}
 use Rattle.postings.specs.Order.{samePair}
 use Rattle.postings.specs.Merge.{put}
-use Rattle.answers.specs.Answers.{Outcome, refuse, leave, refuseIf, done, number}
+use Rattle.answers.specs.Answers.{Outcome, leave, refuseIf, done, number}
+use Rattle.answers.specs.Order as order
+use Rattle.answers.specs.Order.{admit}
 use Rattle.state.specs.declared.Windows.{Windows}
 use Rattle.state.specs.declared.State.{State}
 use Rattle.state.specs.Views.{entries, listed, buffered, listedOf, bufferOf, withWindows, withListed, withBuffer, emptyState}
@@ -48,10 +50,8 @@ isOpen s = not (eqb (s .windows .current) 0)
 
 unfoldable pub openOf : State → Outcome State
 openOf s =
-    refuseIf (not (stateRule s)) 1
-    (refuseIf (isOpen s) 5
-    (refuseIf (leb 65535 (s .windows .last)) 6
-    (leave (number (suc (s .windows .last))) (opened s))))
+    admit order.opening (not (stateRule s) ∷ isOpen s ∷ leb 65535 (s .windows .last) ∷ [])
+    (leave (number (suc (s .windows .last))) (opened s))
 
 -- ---- close
 
@@ -64,9 +64,8 @@ closed s =
 
 unfoldable pub closeOf : State → Outcome State
 closeOf s =
-    refuseIf (not (stateRule s)) 1
-    (refuseIf (not (isOpen s)) 5
-    (leave done (closed s)))
+    admit order.closing (not (stateRule s) ∷ not (isOpen s) ∷ [])
+    (leave done (closed s))
 
 -- ---- event
 
@@ -114,21 +113,22 @@ registered register n = cond (isNew register n) (added register n) register
 -- refusals 1 to 9 as they concern an event, then a flush where its pair finds no room; then it is counted, and its identifier has an entry
 unfoldable pub eventOf : Probe → Name → Outcome Probe
 eventOf p n =
-    refuseIf (not (stateRule (p .state))) 1
-    (refuseIf (not (sameLengths p)) 2
-    (refuseIf (not (registerRule (p .register))) 3
-    (refuseIf (badLength n) 4
-    (refuseIf (not (isOpen (p .state))) 5
-    (refuseIf (leb 32767 (p .state .windows .events)) 6
-    (refuseIf (registerFull p n) 8
-    (refuseIf (windowFull p n) 9
+    admit order.event
+    (not (stateRule (p .state))
+    ∷ not (sameLengths p)
+    ∷ not (registerRule (p .register))
+    ∷ badLength n
+    ∷ not (isOpen (p .state))
+    ∷ leb 32767 (p .state .windows .events)
+    ∷ registerFull p n
+    ∷ windowFull p n
+    ∷ [])
     (flushingIf (eventFlushes (p .state) (numberIn p n)) (p .state) (p .card)
-    (λ s card. leave done (record { state = counted s (numberIn p n); card = card; register = registered (p .register) n }))))))))))
+    (λ s card. leave done (record { state = counted s (numberIn p n); card = card; register = registered (p .register) n })))
 
 -- ---- flush
 
 unfoldable pub flushOf : Store → Outcome Store
 flushOf p =
-    refuseIf (not (stateRule (p .state))) 1
-    (refuseIf (not (sameLength (p .card) (p .state .lengths .card))) 2
-    (flushing (p .state) (p .card) (λ s card. leave done (record { state = s; card = card }))))
+    admit order.flush (not (stateRule (p .state)) ∷ not (sameLength (p .card) (p .state .lengths .card)) ∷ [])
+    (flushing (p .state) (p .card) (λ s card. leave done (record { state = s; card = card })))

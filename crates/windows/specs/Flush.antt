@@ -7,7 +7,9 @@ use lib.ListN.{length, getD}
 use Rattle.lists.specs.Lists.{empty, totalBy}
 use Rattle.words.specs.Words.{words, bytes}
 use Rattle.postings.specs.declared.Posting.{Posting}
-use Rattle.answers.specs.Answers.{Outcome, refuseIf, choose}
+use Rattle.answers.specs.Answers.{Outcome, choose}
+use Rattle.answers.specs.Order as order
+use Rattle.answers.specs.Order.{admit}
 use Rattle.state.specs.declared.Partition.{Partition}
 use Rattle.state.specs.declared.State.{State}
 use Rattle.state.specs.Views.{blocks, buffered, finished, bufferOf, partitionsOf, withBuffer, withPartitions, withTaken}
@@ -43,10 +45,12 @@ module _ {S : Type 0} where
   unfoldable pub flushing : State → List ℕ → (State → List ℕ → Outcome S) → Outcome S
   flushing s card k =
       choose (empty (buffered (s .buffer))) (k s card)
-      (refuseIf (leb 16 (ofLevel (λ (p : Partition). p .level) 0 (finished (s .partitions)))) 10
-      (refuseIf (ltb (blocks s) (2 * suc (finishedBlocks s))) 11
-      (refuseIf (empty (freeBlocks (words card) (blocks s) (s .taken))) 12
-      (k (flushedTo s (nextFree s (words card))) (bytes (flushedCard s (words card) (nextFree s (words card))))))))
+      (admit order.writing
+      (leb 16 (ofLevel (λ (p : Partition). p .level) 0 (finished (s .partitions)))
+      ∷ ltb (blocks s) (2 * suc (finishedBlocks s))
+      ∷ empty (freeBlocks (words card) (blocks s) (s .taken))
+      ∷ [])
+      (k (flushedTo s (nextFree s (words card))) (bytes (flushedCard s (words card) (nextFree s (words card))))))
 
   -- with a flush first where the test holds
   unfoldable pub flushingIf : Bool → State → List ℕ → (State → List ℕ → Outcome S) → Outcome S
