@@ -1,3 +1,3 @@
-pub mod Groups
-pub mod Blocks
+pub mod Filling
+pub mod Alone
 pub mod Flushed

@@ -2,8 +2,10 @@ pub mod Places
 pub mod Writing
 pub mod Contents
 pub mod Turning
+pub mod Free
 pub mod Linking
 pub mod Entering
 pub mod Freeing
 pub mod Batches
 pub mod Entries
+pub mod Whole

@@ -19,7 +19,7 @@ use Rattle.card.specs.declared.Free.{Free}
 use Rattle.card.specs.Free.{firstOf}
 use Rattle.card.specs.Writes.{putBlock, store}
 use Rattle.card.proofs.FreeBlocks.{free-at, free-free, free-different, free-link}
-use Rattle.flushes.proofs.Blocks.{put-free}
+use Rattle.outputs.proofs.Free.{put-free}
 use Rattle.outputs.proofs.Turning.{free-turned, keep-others, keep-both}
 
 -- a block found is the first of a list

@@ -1,4 +1,4 @@
-// What a merge writes: the output's blocks linked, words of its content, header and entries; and its inputs' blocks freed.
+// A partition written along a chain of blocks: its header, entries and postings; free blocks linked, and a merge's inputs' blocks freed.
 use card::Cursor;
 use card::Free;
 use card::block_word;
@@ -68,7 +68,7 @@ fn put_next(card: &mut [u8], p: Place, value: u32) -> Place
 }
 
 // Writes words into the content of the n blocks from `first` on, from word `offset` on.
-fn write_words(card: &mut [u8], first: u16, n: u32, offset: u32, content: &[u32])
+pub fn write_words(card: &mut [u8], first: u16, n: u32, offset: u32, content: &[u32])
     requires { ⌜ (length (now card) % 4 ≡ 0) × (0 < n) × (offset + length (now content) ≤ 1023 * n) × Chained (wordsOf (now card)) first n ⌝ }
     ensures { λ r. ⌜ wordsOf (now (card .exit)) ≡ written (wordsOf (now (card .entry))) (chain (wordsOf (now (card .entry))) first n) offset (now (content .entry)) ⌝ }
 {

@@ -10,3 +10,4 @@ pub mod Listed
 pub mod Readers
 pub mod Starts
 pub mod Apart
+pub mod Counts

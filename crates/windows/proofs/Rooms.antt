@@ -82,3 +82,7 @@ chosen-free s W b c = rw (c .block) (free-at W (blocks s) (s .taken) 0 (c .there
 -- buffered counts fit a posting
 pub counts-fit : (w : Windows) (l : List Posting) → every (postingRule w) l ≡ true → every (λ p. inRange (p .count)) l ≡ true
 counts-fit w l e = every-from (postingRule w) (postingRule w) (λ p. inRange (p .count)) (λ p f g. le-leb _ _ (posting-kept w p f .small)) l e e
+
+-- and buffered identifiers a register
+pub ids-fit : (w : Windows) (l : List Posting) → every (postingRule w) l ≡ true → every (λ p. leb (p .id) 1023) l ≡ true
+ids-fit w l e = every-from (postingRule w) (postingRule w) (λ p. leb (p .id) 1023) (λ p f g. le-leb _ _ (posting-kept w p f .id)) l e e

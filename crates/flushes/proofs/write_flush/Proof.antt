@@ -1,10 +1,10 @@
--- `flushes::write_flush` meets its contract: header, entries, postings and link are the whole partition, as the block was all ones. Assumes nothing.
+-- `flushes::write_flush` meets its contract: with its link the block is a chain of one that holds nothing, and the partition is written along it.
 use mathlib.Core.List.{[], _∷_}
-use mathlib.Core.Path.{_≡_, sym, ap, _∙_}
-use Prim.Native.Nat.{_%_}
+use mathlib.Core.Path.{_≡_, refl, sym, ap, _∙_}
+use Prim.Native.Nat.{_-_, _*_, _/_, _%_}
 use native.Mathlib.Omega.{arith}
 use borrow.Author.Needs.{needs}
-use lib.ListN.{length}
+use lib.ListN.{length, take, length-take}
 use lib.Seq.{length-take-le}
 use Rattle.lists.proofs.Arrays.{unmapped}
 use Rattle.words.specs.Words.{words, bytes}
@@ -12,94 +12,136 @@ use Rattle.words.proofs.Views.{length-words, bytes-words}
 use Rattle.state.specs.Views.{buffered}
 use Rattle.card.specs.Writes.{store}
 use Rattle.partitions.specs.Layout.{encode}
-use Rattle.flushes.proofs.Blocks.{flush-parts, terms-few}
+use Rattle.partitions.proofs.Counts.{length-numbers}
+use Rattle.partitions.proofs.Lengths.{terms-most}
+use Rattle.outputs.proofs.Entries.{entries-length}
+use Rattle.flushes.proofs.Alone.{alone-chained, packed-words, alone-stored}
 use Rattle.flushes.proofs.write_flush.Statement.{statement}
 use Rattle.flushes.proofs.write_flush.Tie as tie
 
-term-count-requires : tie.Need-term-count-requires
-term-count-requires c κs = search needs
+put-block-word-requires : tie.Need-put-block-word-requires
+put-block-word-requires c κs = search needs
+
+slice-aggregate-count-postings : tie.Need-slice-aggregate-count-postings
+slice-aggregate-count-postings c = search needs
+
+count-postings-requires : tie.Need-count-postings-requires
+count-postings-requires c κs = search needs
+
+cast-write-header : tie.Need-cast-write-header
+cast-write-header c = search needs
 
 write-header-requires : tie.Need-write-header-requires
 write-header-requires c κs =
-    let s = c .before .before .before in
-    let few = terms-few (s .args .b .postings) (s .args .b .used) (s .pre .3) in
-    let t = c .before .term-count .ensures in
-    (s .pre .0, s .pre .1, omega arith, s .pre .3)
+    let s = c .before .before .before .before .before .before .before .before .before .before in
+    let k = c .before .before .before .before .before .before .before .put-block-word .kept .0 in
+    (omega (arith, s .pre .0, k), omega arith, search needs, alone-chained (s .args .card .now) _ (s .args .block) k (s .pre .1))
+
+slice-aggregate-write-entries : tie.Need-slice-aggregate-write-entries
+slice-aggregate-write-entries c = search needs
 
 write-entries-requires : tie.Need-write-entries-requires
 write-entries-requires c κs =
-    let s = c .before .before .before .before .before .before .before in
-    let h = c .before .before .before .write-header in
-    let l = length-words (h .last .0) in
-    let l₀ = length-words (s .args .card .now) in
-    (omega (arith, h .kept .0), omega (arith, h .kept .0), s .pre .3, s .pre .4)
-
-mul-write-postings : tie.Need-mul-write-postings
-mul-write-postings c =
-    let s = c .before .before .before .before .before .before .before .before .before .before .before in
-    let few = terms-few (s .args .b .postings) (s .args .b .used) (s .pre .3) in
-    let t = c .before .before .before .before .before .before .before .before .before .term-count .ensures in
-    omega arith
-
-add-write-postings : tie.Need-add-write-postings
-add-write-postings c =
-    let s = c .before .before .before .before .before .before .before .before .before .before .before in
-    let few = terms-few (s .args .b .postings) (s .args .b .used) (s .pre .3) in
-    let t = c .before .before .before .before .before .before .before .before .before .term-count .ensures in
-    omega arith
-
-write-postings-requires : tie.Need-write-postings-requires
-write-postings-requires c κs =
-    let s = c .before .before .before .before .before .before .before .before .before .before .before in
-    let few = terms-few (s .args .b .postings) (s .args .b .used) (s .pre .3) in
-    let t = c .before .before .before .before .before .before .before .before .before .term-count .ensures in
-    let e = c .before .before .before .write-entries in
-    let h = c .before .before .before .before .before .before .before .write-header in
-    let l = length-words (e .last .0) in
-    let l₀ = length-words (s .args .card .now) in
-    (omega (arith, e .kept .0, h .kept .0), omega (arith, e .kept .0, h .kept .0), omega arith, s .pre .3, s .pre .5)
-
-put-block-word-requires : tie.Need-put-block-word-requires
-put-block-word-requires c κs =
     let s = c .before .before .before .before .before .before .before .before .before .before .before .before .before .before .before in
-    let p = c .before .before .before .write-postings in
-    let e = c .before .before .before .before .before .before .before .write-entries in
-    let h = c .before .before .before .before .before .before .before .before .before .before .before .write-header in
-    let l = length-words (p .last .0) in
-    let l₀ = length-words (s .args .card .now) in
-    (omega (arith, p .kept .0, e .kept .0, h .kept .0, s .pre .0), omega (arith, p .kept .0, e .kept .0, h .kept .0, s .pre .1))
+    let ps = buffered (s .args .b) in
+    let l = c .before .before .before .before .before .before .before .before .before .before .before .before .put-block-word .kept .0 in
+    let h = c .before .before .before .before .write-header .kept .0 in
+    let n = c .before .before .before .before .before .before .before .before .count-postings .ensures .1 in (
+      omega (arith, s .pre .0, l, h),
+      omega arith,
+      omega (arith, entries-length ps (s .pre .4) (s .pre .6) _ n, terms-most ps, length-take (s .args .b .used) (s .args .b .postings), s .pre .3),
+      alone-chained (s .args .card .now) _ (s .args .block) (h ∙ l) (s .pre .1),
+      ap length n ∙ length-numbers ps,
+    )
+
+slice-aggregate-pack-postings : tie.Need-slice-aggregate-pack-postings
+slice-aggregate-pack-postings c = search needs
+
+pack-postings-requires : tie.Need-pack-postings-requires
+pack-postings-requires c κs = search needs
+
+cast-n : tie.Need-cast-n
+cast-n c = search needs
+
+cast-write-words : tie.Need-cast-write-words
+cast-write-words c = search needs
+
+mul-write-words : tie.Need-mul-write-words
+mul-write-words c = search needs
+
+add-write-words : tie.Need-add-write-words
+add-write-words c = search needs
+
+sub-write-words : tie.Need-sub-write-words
+sub-write-words c = search needs
+
+part-write-words-start : tie.Need-part-write-words-start
+part-write-words-start c = search needs
+
+part-write-words-end : tie.Need-part-write-words-end
+part-write-words-end c = search needs
+
+write-words-requires : tie.Need-write-words-requires
+write-words-requires c κs =
+    let s = c .before .before .before .before .before .before .before .before .before .before .before .before .before .before .before .before .before .before .before .before .before .before .before .before .before in
+    let u = s .args .b .used in
+    let ps = buffered (s .args .b) in
+    let l = c .before .before .before .before .before .before .before .before .before .before .before .before .before .before .before .before .before .before .before .before .before .before .put-block-word .kept .0 in
+    let h = c .before .before .before .before .before .before .before .before .before .before .before .before .before .before .write-header .kept .0 in
+    let e = c .before .before .before .before .before .before .before .before .before .write-entries .kept .0 in
+    let t = c .before .before .before .before .before .before .before .before .before .before .before .before .before .before .before .before .before .before .count-postings .ensures .0 in (
+      omega (arith, s .pre .0, l, h, e),
+      omega arith,
+      omega (arith, t, terms-most ps, length-take u (s .args .b .postings), length-take (u - 0) (c .before .before .before .before .before .pack-postings .last .1 .0), s .pre .3),
+      alone-chained (s .args .card .now) _ (s .args .block) (e ∙ h ∙ l) (s .pre .1),
+    )
 
 same-length : tie.Need-same-length
 same-length c = search needs
 
 returns : tie.Need-returns
 returns c =
-    let s = c .before .before .before .before .before .before .before .before .before .before .before .before .before .before .before .before .before .before in
-    let b = s .args .b in
-    let block = s .args .block in
-    let W = words (s .args .card .now) in
-    let link = c .before .before .put-block-word in
-    let p = c .before .before .before .before .before .before .write-postings in
-    let e = c .before .before .before .before .before .before .before .before .before .before .write-entries in
-    let h = c .before .before .before .before .before .before .before .before .before .before .before .before .before .before .write-header in
-    let t = c .before .before .before .before .before .before .before .before .before .before .before .before .before .before .before .before .term-count .ensures in
-    let len : length (b .postings) ≡ 128 = search (unmapped, needs) in
-    let n : length (buffered b) ≡ b .used = length-take-le (b .used) (b .postings) (omega (arith, s .pre .3)) in
-    let w : words (link .last .0) ≡ store W (block ∷ []) (encode 0 (buffered b)) =
-    link .ensures ∙ rw (p .ensures, e .ensures, h .ensures, t) (sym (rw n at (flush-parts W block (s .pre .1) (s .pre .2) 0 (buffered b) (omega (arith, s .pre .3))))) in
-    let m : length (link .last .0) % 4 ≡ 0 = omega (arith, link .kept .0, p .kept .0, e .kept .0, h .kept .0, s .pre .0) in
-    sym (bytes-words (link .last .0) (λ i. omega (arith, c .slice-known5 .given i)) m) ∙ ap bytes w
+    let s = c .before .before .before .before .before .before .before .before .before .before .before .before .before .before .before .before .before .before .before .before .before .before .before .before .before .before .before .before in
+    let card = s .args .card .now in
+    let W = words card in
+    let u = s .args .b .used in
+    let ps = buffered (s .args .b) in
+    let link = c .before .before .before .before .before .before .before .before .before .before .before .before .before .before .before .before .before .before .before .before .before .before .before .before .before .put-block-word in
+    let counted = c .before .before .before .before .before .before .before .before .before .before .before .before .before .before .before .before .before .before .before .before .before .count-postings .ensures in
+    let h = c .before .before .before .before .before .before .before .before .before .before .before .before .before .before .before .before .before .write-header in
+    let e = c .before .before .before .before .before .before .before .before .before .before .before .before .write-entries in
+    let p = c .before .before .before .before .before .before .before .before .pack-postings in
+    let w = c .before .before .write-words in
+    let len : length (s .args .b .postings) ≡ 128 = search (unmapped, needs) in
+    let n : length ps ≡ u = length-take-le u (s .args .b .postings) (omega (arith, s .pre .3)) in
+    let long : length W ≡ 1024 * (length card / 4096) = omega (arith, length-words card, s .pre .0) in
+    let ws : take (u - 0) (p .last .1 .0) ≡ _ = ap (take (u - 0)) (p .ensures) ∙ packed-words _ ps u refl n (s .pre .3) in
+    let stored : words (w .last .0) ≡ store W (s .args .block ∷ []) (encode 0 ps) =
+    alone-stored W (length card / 4096) (s .args .block) ps long (s .pre .1) (s .pre .2) (omega (arith, s .pre .3)) (s .pre .4) (s .pre .6)
+    _ _ _ _ _ _ _ _ (counted .0) (sym n) (counted .1) ws (link .ensures) (h .ensures) (e .ensures) (w .ensures) in
+    let m : length (w .last .0) % 4 ≡ 0 = omega (arith, w .kept .0, e .kept .0, h .kept .0, link .kept .0, s .pre .0) in
+    sym (bytes-words (w .last .0) (λ i. omega (arith, c .slice-known5 .given i)) m) ∙ ap bytes stored
 
 pub write-flush-spec : {M : Type 1} → statement M
 write-flush-spec =
     tie.close
     (tie.spec
-    term-count-requires
-    write-header-requires
-    write-entries-requires
-    mul-write-postings
-    add-write-postings
-    write-postings-requires
     put-block-word-requires
+    slice-aggregate-count-postings
+    count-postings-requires
+    cast-write-header
+    write-header-requires
+    slice-aggregate-write-entries
+    write-entries-requires
+    slice-aggregate-pack-postings
+    pack-postings-requires
+    cast-n
+    cast-write-words
+    mul-write-words
+    add-write-words
+    sub-write-words
+    part-write-words-start
+    part-write-words-end
+    write-words-requires
     same-length
     returns)

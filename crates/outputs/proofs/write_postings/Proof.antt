@@ -12,9 +12,8 @@ use Rattle.lists.proofs.Arrays.{unmapped}
 use Rattle.words.specs.Words.{words}
 use Rattle.state.specs.Views.{noPosting}
 use Rattle.partitions.specs.Layout.{wordOf}
-use Rattle.flushes.proofs.Blocks.{posting-fits}
 use Rattle.outputs.proofs.Writing.{Writing, writing-start, writing-needs, writing-on, writing-end}
-use Rattle.outputs.proofs.Batches.{length-words-of, word-turn}
+use Rattle.outputs.proofs.Batches.{length-words-of, word-turn, posting-fits}
 use Rattle.outputs.proofs.write_postings.Statement.{statement}
 use Rattle.outputs.proofs.write_postings.Tie as tie
 

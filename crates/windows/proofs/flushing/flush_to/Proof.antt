@@ -5,7 +5,7 @@ use Rattle.words.proofs.Views.{length-words}
 use Rattle.state.specs.Views.{blocks, buffered}
 use Rattle.state.proofs.Kept.{state-kept}
 use Rattle.windows.specs.Flush.{flushedTo, flushedCard}
-use Rattle.windows.proofs.Rooms.{room-left, chosen-there, chosen-free, counts-fit}
+use Rattle.windows.proofs.Rooms.{room-left, chosen-there, chosen-free, counts-fit, ids-fit}
 use Rattle.windows.proofs.flushing.flush_to.Statement.{statement}
 use Rattle.windows.proofs.flushing.flush_to.Tie as tie
 
@@ -13,7 +13,7 @@ flush-length-requires : tie.Need-flush-length-requires
 flush-length-requires c κs =
     let a = c .before in
     let k = state-kept (a .args .s) (a .pre .0) in
-    (k .buffer .used, k .buffer .order)
+    (k .buffer .used, ids-fit (a .args .s .windows) (buffered (a .args .s .buffer)) (k .buffer .rules))
 
 write-flush-requires : tie.Need-write-flush-requires
 write-flush-requires c κs =
@@ -23,11 +23,12 @@ write-flush-requires c κs =
     let W = words (a .args .card .now) in
     let there = chosen-there s W (a .args .block) (a .pre .2) in (
       omega (arith, a .pre .1, k .lengths .card),
-      omega (arith, a .pre .1, k .lengths .card, length-words (a .args .card .now), there),
+      record { few = omega (arith, k .lengths .mostBlocks, there); inside = omega (arith, a .pre .1, k .lengths .card, length-words (a .args .card .now), there) },
       chosen-free s W (a .args .block) (a .pre .2),
       k .buffer .used,
       k .buffer .order,
       counts-fit (s .windows) (buffered (s .buffer)) (k .buffer .rules),
+      ids-fit (s .windows) (buffered (s .buffer)) (k .buffer .rules),
     )
 
 list-flush-requires : tie.Need-list-flush-requires

@@ -1,0 +1,53 @@
+-- A free block whose link names none is a chain of one: a partition written along it is stored.
+use mathlib.Core.Bool.{true}
+use mathlib.Core.List.{List, [], _∷_, map}
+use mathlib.Core.Path.{_≡_, refl, ap, _∙_}
+use Prim.Native.Nat.{ℕ, _+_, _-_, _*_, _/_, _≤_}
+use native.Mathlib.Omega.{arith}
+use lib.Dec.{ltb, leb}
+use lib.ListN.{length, set, take, drop, length-map}
+use lib.Seq.{sets}
+use borrow.Author.Tests.{lt-ltb}
+use Rattle.lists.specs.All.{AllOf}
+use Rattle.lists.specs.Lists.{every}
+use Rattle.lists.proofs.Bools.{and-both}
+use Rattle.lists.proofs.Sets.{sets-back}
+use Rattle.words.specs.Words.{words}
+use Rattle.words.proofs.Views.{length-words}
+use Rattle.postings.specs.declared.Posting.{Posting}
+use Rattle.postings.specs.Order.{ordered}
+use Rattle.card.specs.Blocks.{isFree}
+use Rattle.card.specs.Chains.{chain}
+use Rattle.card.specs.Cursors.{InCard, Chained}
+use Rattle.card.specs.Writes.{store}
+use Rattle.partitions.specs.Layout.{termCount, header, wordOf, encode}
+use Rattle.partitions.proofs.Counts.{numbers}
+use Rattle.partitions.proofs.Lengths.{terms-most}
+use Rattle.outputs.specs.Contents.{written}
+use Rattle.outputs.specs.Entries.{entriesBy}
+use Rattle.outputs.proofs.Contents.{Blocks}
+use Rattle.outputs.proofs.Free.{link-stored}
+use Rattle.outputs.proofs.Whole.{partition-stored}
+
+-- a block of the card is a chain of one on every card as long
+pub alone-chained : (c c′ : List ℕ) (b : ℕ) → length c′ ≡ length c → InCard (words c) b → Chained (words c′) b 1
+unfolding AllOf chain
+alone-chained c c′ b e g = (record { few = g .few; inside = omega (arith, g .inside, length-words c, length-words c′) }, tt)
+
+-- the words that were packed into an array of 128, at most as many
+pub packed-words : (z : List ℕ) (ps : List Posting) (n : ℕ) → length z ≡ 128 → length ps ≡ n → n ≤ 128 → take (n - 0) (sets z 0 (map wordOf ps)) ≡ map wordOf ps
+packed-words z ps n l e h =
+    let m : n - 0 ≡ n = omega arith in
+    rw m (sets-back z 0 n (map wordOf ps) (length-map ps wordOf ∙ e) (omega arith))
+
+module _ (W : List ℕ) (n b : ℕ) (ps : List Posting) (long : length W ≡ 1024 * n) (g : InCard W b) (free : isFree W b ≡ true) (few : length ps ≤ 128)
+    (o : ordered ps ≡ true) (small : every (λ p. leb (p .id) 1023) ps ≡ true) where
+  -- the link is set, then header, entries and postings are written
+  pub alone-stored : (W₁ W₂ W₃ W₄ counts ws : List ℕ) (terms used : ℕ) → terms ≡ termCount ps → used ≡ length ps → counts ≡ numbers ps → ws ≡ map wordOf ps
+      → W₁ ≡ set W (1024 * b + 1023) 65534 → W₂ ≡ written W₁ (chain W₁ b 1) 0 (header 0 terms used) → W₃ ≡ written W₂ (chain W₂ b 1) 8 (entriesBy 0 0 counts)
+      → W₄ ≡ written W₃ (chain W₃ b 1) (8 + 3 * terms) ws → W₄ ≡ store W (b ∷ []) (encode 0 ps)
+  unfolding chain
+  alone-stored W₁ W₂ W₃ W₄ counts ws terms used t u c w e₁ e₂ e₃ e₄ =
+      let bs : Blocks (b ∷ []) n = record { on = and-both (ltb b n) true (lt-ltb b n (omega (arith, g .inside))) refl; new = refl; some = omega arith } in
+      let start : W₁ ≡ store W (b ∷ []) [] = e₁ ∙ link-stored W b (g .inside) free in
+      e₄ ∙ rw (e₃, e₂, start, t, u, w) (partition-stored W (b ∷ []) n long bs ps o small (omega (arith, terms-most ps)) 0 counts c)

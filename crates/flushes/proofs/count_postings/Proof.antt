@@ -1,0 +1,122 @@
+-- `flushes::count_postings` meets its contract. The invariant: the postings before place i are counted.
+use mathlib.Core.Logic.{⊎-elim}
+use mathlib.Core.Path.{_≡_, sym, ap, _∙_}
+use Prim.Native.Nat.{ℕ, _-_}
+use native.Mathlib.Omega.{arith}
+use borrow.Author.Needs.{needs}
+use borrow.Author.Tests.{eq-eqb, ne-eqb}
+use lib.ListN.{length, length-set, length-replicate}
+use Rattle.lists.proofs.Arrays.{unmapped}
+use Rattle.flushes.proofs.Filling.{Counting, counting-start, counting-terms, counting-id, counting-few, counting-on}
+use Rattle.flushes.proofs.count_postings.Statement.{statement}
+use Rattle.flushes.proofs.count_postings.Tie as tie
+
+abbrev Inv-loop : tie.InvT-loop
+Inv-loop counts₀ b n terms₀ i₀ counts terms i = (length (b .postings) ≡ 128) × (length counts ≡ 1024) × Counting (b .postings) n counts terms i
+
+abbrev μ-loop : tie.MeasureT-loop
+μ-loop counts₀ b n terms₀ i₀ counts terms i = n - i
+
+loop-holds : tie.Need-loop-holds Inv-loop μ-loop
+loop-holds c =
+    (search (unmapped, needs), ap length (c .pre .2) ∙ length-replicate {A = ℕ} 1024 0, counting-start (c .args .t1 .postings) (c .args .t1 .used) (c .args .counts .now) (c .pre .2))
+
+cast-p : tie.Need-cast-p Inv-loop μ-loop
+cast-p c = search needs
+
+mul-p : tie.Need-mul-p Inv-loop μ-loop
+mul-p c = search needs
+
+element-copy-out-p : tie.Need-element-copy-out-p Inv-loop μ-loop
+element-copy-out-p c = search needs
+
+cast-id : tie.Need-cast-id Inv-loop μ-loop
+cast-id c = search needs
+
+mul-count : tie.Need-mul-count Inv-loop μ-loop
+mul-count c = search needs
+
+slice-read-count : tie.Need-slice-read-count Inv-loop μ-loop
+slice-read-count c =
+    let a = c .before .before .before .before in
+    let s = a .before in
+    let b = s .args .t1 in
+    let v = a .loop .inv in
+    omega (arith, v .1, counting-id (b .postings) (b .used) (omega (arith, v .0, s .pre .0)) (a .loop .counts) (a .loop .terms) (a .loop .i) (v .2) (s .pre .1) (c .before .before .before .loop-test .taken))
+
+add-terms : tie.Need-add-terms Inv-loop μ-loop
+add-terms c =
+    let a = c .before .before .before .before .before in
+    let s = a .before in
+    let b = s .args .t1 in
+    let v = a .loop .inv in
+    omega (arith, s .pre .0, v .2 .most, counting-terms (b .postings) (b .used) (omega (arith, v .0, s .pre .0)) (a .loop .counts) (a .loop .terms) (a .loop .i) (v .2))
+
+add-counts : tie.Need-add-counts Inv-loop μ-loop
+add-counts c =
+    let a = c .before .before .before .before .before in
+    let s = a .before in
+    let b = s .args .t1 in
+    let v = a .loop .inv in
+    omega (arith, s .pre .0, v .2 .most, counting-few (b .postings) (b .used) (omega (arith, v .0, s .pre .0)) (a .loop .counts) (a .loop .terms) (a .loop .i) (v .2) (s .pre .1) (c .before .before .before .before .loop-test .taken))
+
+mul-counts : tie.Need-mul-counts Inv-loop μ-loop
+mul-counts c = search needs
+
+slice-write-counts : tie.Need-slice-write-counts Inv-loop μ-loop
+slice-write-counts c =
+    let a = c .before .before .before .before .before in
+    let s = a .before in
+    let b = s .args .t1 in
+    let v = a .loop .inv in
+    omega (arith, v .1, counting-id (b .postings) (b .used) (omega (arith, v .0, s .pre .0)) (a .loop .counts) (a .loop .terms) (a .loop .i) (v .2) (s .pre .1) (c .before .before .before .before .loop-test .taken))
+
+add-i : tie.Need-add-i Inv-loop μ-loop
+add-i c = search needs
+
+loop-less : tie.Need-loop-less Inv-loop μ-loop
+loop-less c = search needs
+
+loop-again : tie.Need-loop-again Inv-loop μ-loop
+loop-again c =
+    let a = c .before .before .before .before .before in
+    let s = a .before in
+    let b = s .args .t1 in
+    let v = a .loop .inv in
+    let g = counting-on (b .postings) (b .used) (omega (arith, v .0, s .pre .0)) (a .loop .counts) (a .loop .terms) (a .loop .i) (v .2) (s .pre .1) (c .before .before .before .before .loop-test .taken) in
+    ⊎-elim
+    (λ w. rw (w .1) (v .0, rw length-set (v .1), rw (eq-eqb _ 0 (w .0 .taken)) at g))
+    (λ w. rw (w .1) (v .0, rw length-set (v .1), rw (ne-eqb _ 0 (w .0 .left)) at g))
+    (c .if1 .came)
+
+same-length : tie.Need-same-length Inv-loop μ-loop
+same-length c = c .before .loop .inv .1 ∙ sym (ap length (c .before .before .pre .2) ∙ length-replicate {A = ℕ} 1024 0)
+
+returns : tie.Need-returns Inv-loop μ-loop
+returns c =
+    let v = c .before .loop .inv .2 in
+    let e : c .before .loop .i ≡ c .before .before .args .t1 .used = omega (arith, v .most, c .loop-test .left) in
+    (rw e at (v .told), rw e at (v .counts))
+
+pub count-postings-spec : {M : Type 1} → statement M
+count-postings-spec =
+    tie.close
+    (tie.spec
+    Inv-loop
+    μ-loop
+    loop-holds
+    cast-p
+    mul-p
+    element-copy-out-p
+    cast-id
+    mul-count
+    slice-read-count
+    add-terms
+    add-counts
+    mul-counts
+    slice-write-counts
+    add-i
+    loop-less
+    loop-again
+    same-length
+    returns)
