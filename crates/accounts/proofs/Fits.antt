@@ -11,7 +11,7 @@ use Rattle.lists.specs.Lists.{every, empty, totalBy}
 use Rattle.lists.proofs.Bools.{by-test, and-left, and-right, and-both}
 use Rattle.postings.specs.declared.Posting.{Posting}
 use Rattle.postings.specs.Merge.{nonzero, pairs}
-use Rattle.state.specs.Levels.{placeOf, dueAt, replaced}
+use Rattle.state.specs.Levels.{oldestAt, dueAt, replaced}
 use Rattle.partitions.specs.Layout.{lengthOf}
 use Rattle.partitions.proofs.Lengths.{terms-most}
 use Rattle.accounts.specs.Account.{Portion, Account, blocksOf, blocksIn, dueOf, inputsOf, merged, portionOf, blocksAhead, completed, furthered, steppedAccount, flushedAccount, addedTo}
@@ -46,7 +46,7 @@ cost-portion a = by-test (empty (merged a)) (λ y. rw y (omega arith)) (λ n. rw
 cost-replaced : (vs : List ℕ) (ps R : List Portion) → cost (replaced levelOf vs ps R) ≤ cost ps + cost R
 cost-replaced [] ps R = omega arith
 cost-replaced (v ∷ vs) ps R =
-    let k = placeOf levelOf v ps in
+    let k = oldestAt levelOf v ps in
     let ins = take (dueAt v) (drop k ps) in
     let back = drop (dueAt v) (drop k ps) in
     omega (

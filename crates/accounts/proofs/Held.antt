@@ -14,7 +14,7 @@ use Rattle.lists.proofs.Tests.{every-from}
 use Rattle.lists.proofs.Ranges.{map-upTo}
 use Rattle.postings.specs.declared.Posting.{Posting}
 use Rattle.postings.specs.Order.{precedes, ordered}
-use Rattle.postings.specs.Merge.{counting, isZero, counts, nonzero, pairs, negated}
+use Rattle.postings.specs.Merge.{counting, isZero, isCounted, nonzero, pairs, negated}
 use Rattle.postings.specs.Sums.{sum, isAbove}
 use Rattle.postings.proofs.Order.{precedes-id}
 use Rattle.postings.proofs.Sums.{is-zero}
@@ -36,7 +36,7 @@ heldBy c w (i ∷ is) = cond (isZero (c i)) (heldBy c w is) (record { id = i; wi
 
 module _ (c : ℕ → ℤ) (w : ℕ) where
   -- no count is 0
-  held-counts : (is : List ℕ) → every counts (heldBy c w is) ≡ true
+  held-counts : (is : List ℕ) → every isCounted (heldBy c w is) ≡ true
   held-counts [] = refl
   held-counts (i ∷ is) = by-test (isZero (c i)) (λ y. rw y (held-counts is)) (λ n. rw (n, n) (held-counts is))
 
@@ -152,7 +152,7 @@ counts-held w l n none =
     in-order : ordered (countsOf w l) ≡ true
     in-order = unfold countsOf in nonzero-ordered (pairs (ofWindow w l)) (pairs-ordered (ofWindow w l))
 
-    no-zero : every counts (countsOf w l) ≡ true
+    no-zero : every isCounted (countsOf w l) ≡ true
     no-zero = unfold countsOf in nonzero-counts (pairs (ofWindow w l))
 
     own : (i : ℕ) → sum (heldBy c w (upTo n)) i w ≡ c i
@@ -225,9 +225,9 @@ module _ (entries : ℕ) (l : Ledger) (s : Lawful entries l) (a : Account) (sums
 pub length-back : (entries : ℕ) (l : Ledger) → Lawful entries l → (a : Account) → ((i w : ℕ) → sum (storedIn a) i w ≡ pos (byNumber l i w)) → (w : ℕ) → length (takenBack l w) ≡ length (countsOf w (storedIn a))
 length-back entries l s a sums w = sym (ap length (counts-back entries l s a sums w)) ∙ lengths (countsOf w (storedIn a)) (unfold countsOf in nonzero-counts (pairs (ofWindow w (storedIn a))))
   where
-    lengths : (m : List Posting) → every counts m ≡ true → length (negated m) ≡ length m
+    lengths : (m : List Posting) → every isCounted m ≡ true → length (negated m) ≡ length m
     lengths m e = unfold negated nonzero in go m e
       where
-        go : (m : List Posting) → every counts m ≡ true → length (map (λ p. counting p (negℤ (p .count))) (keep counts m)) ≡ length m
+        go : (m : List Posting) → every isCounted m ≡ true → length (map (λ p. counting p (negℤ (p .count))) (keep isCounted m)) ≡ length m
         go [] e = refl
-        go (p ∷ m) e = rw (and-left (counts p) _ e) (ap suc (go m (and-right (counts p) _ e)))
+        go (p ∷ m) e = rw (and-left (isCounted p) _ e) (ap suc (go m (and-right (isCounted p) _ e)))

@@ -10,7 +10,7 @@ use lib.Seq.{take-append-le, drop-append-le}
 use borrow.Author.Tests.{eqb-true, eqb-false, ne-eqb, le-leb, lt-leb}
 use Rattle.lists.specs.Lists.{keep, below}
 use Rattle.lists.proofs.Bools.{by-test}
-use Rattle.state.specs.Levels.{dueAt, ofLevel, dueLevels, placeOf, oldest}
+use Rattle.state.specs.Levels.{dueAt, ofLevel, dueLevels, oldestAt, oldest}
 use Rattle.state.proofs.Counts.{levels-below}
 use Rattle.state.proofs.Runs.{due-first, place-within}
 use Rattle.state.proofs.Replaced.{count-append}
@@ -37,7 +37,7 @@ due-some v = by-test (eqb v 5) (λ y. rw y (omega arith)) (λ n. rw n (omega ari
 
 module _ {P : Type 0} (level : P → ℕ) where
   -- a level that is there keeps its place when partitions come last
-  place-added : (v : ℕ) (ps qs : List P) → 1 ≤ ofLevel level v ps → placeOf level v (ps ++ qs) ≡ placeOf level v ps
+  place-added : (v : ℕ) (ps qs : List P) → 1 ≤ ofLevel level v ps → oldestAt level v (ps ++ qs) ≡ oldestAt level v ps
   place-added v [] qs h = absurd (omega arith)
   place-added v (p ∷ ps) qs h =
       by-test (eqb (level p) v) (λ y. rw y) (λ n. rw (n, place-added v ps qs (rw n at h)))
@@ -70,5 +70,5 @@ module _ {P : Type 0} (level : P → ℕ) where
         let enough : dueAt v ≤ ofLevel level v ps = f .1 in
         let some = due-some v in
         let at = place-within level v ps in
-        rw (due-added .is, due, place-added v ps (q ∷ []) (omega arith), drop-append-le (placeOf level v ps) ps (q ∷ []) (omega arith))
-        (take-append-le (dueAt v) (drop (placeOf level v ps) ps) (q ∷ []) (omega (arith, length-drop (placeOf level v ps) ps)))
+        rw (due-added .is, due, place-added v ps (q ∷ []) (omega arith), drop-append-le (oldestAt level v ps) ps (q ∷ []) (omega arith))
+        (take-append-le (dueAt v) (drop (oldestAt level v ps) ps) (q ∷ []) (omega (arith, length-drop (oldestAt level v ps) ps)))

@@ -13,7 +13,7 @@ use borrow.Author.Tests.{leb-true, leb-false, ltb-false}
 use Rattle.lists.specs.Lists.{empty}
 use Rattle.lists.proofs.Bools.{by-test}
 use Rattle.postings.specs.Sums.{sum}
-use Rattle.state.specs.Levels.{placeOf, dueAt, oldest, replaced}
+use Rattle.state.specs.Levels.{oldestAt, dueAt, oldest, replaced}
 use Rattle.accounts.specs.Account.{Portion, Account, postingsIn, storedIn, dueOf, inputsOf, merged, portionOf, completed, furthered, steppedAccount, flushedAccount}
 use Rattle.accounts.proofs.Stored.{levelOf, sum-runs, sum-stored, parted, stored-flushed, merged-sums, portion-postings, step-ends, step-goes}
 use Rattle.accounts.proofs.Steps.{pairCount}
@@ -109,7 +109,7 @@ portion-one a = by-test (empty (merged a)) (λ y. rw y (omega arith)) (λ n. rw 
 prefixes-merged : (vs : List ℕ) (ps R : List Portion) → length R ≤ 1 → ((i w : ℕ) → sum (postingsIn R) i w ≡ sum (postingsIn (oldest levelOf vs ps)) i w) → Prefixes ps → Prefixes (replaced levelOf vs ps R)
 prefixes-merged [] ps R one e h = h
 prefixes-merged (v ∷ vs) ps R one e h =
-    let k = placeOf levelOf v ps in
+    let k = oldestAt levelOf v ps in
     prefixes-replaced (take k ps) (take (dueAt v) (drop k ps)) (drop (dueAt v) (drop k ps)) R one e (subst Prefixes (sym (parted levelOf v ps)) h)
 
 pub prefixes-stepped : (a : Account) → Prefixes (a .partitions) → Prefixes (steppedAccount a .partitions)
@@ -129,7 +129,7 @@ inputs-small a h i w = go (dueOf a)
     go : (vs : List ℕ) → natAbs (sum (postingsIn (oldest levelOf vs (a .partitions))) i w) ≤ 32767
     go [] = omega arith
     go (v ∷ vs) =
-        let k = placeOf levelOf v (a .partitions) in
+        let k = oldestAt levelOf v (a .partitions) in
         run-small (take k (a .partitions)) (take (dueAt v) (drop k (a .partitions))) (drop (dueAt v) (drop k (a .partitions)))
         (subst Prefixes (sym (parted levelOf v (a .partitions))) h) i w
 

@@ -12,10 +12,10 @@ use Rattle.lists.specs.Lists.{keep, every}
 use Rattle.lists.proofs.Bools.{by-test, and-left, and-right, and-both}
 use Rattle.lists.proofs.Tests.{every-append, every-keep, every-from, every-take, every-drop}
 use Rattle.postings.specs.declared.Posting.{Posting}
-use Rattle.postings.specs.Merge.{counting, put, counts, nonzero, pairs, negated}
+use Rattle.postings.specs.Merge.{counting, put, isCounted, nonzero, pairs, negated}
 use Rattle.postings.specs.Sums.{sum}
 use Rattle.postings.proofs.Merge.{every-puts}
-use Rattle.state.specs.Levels.{dueAt, placeOf, oldest, replaced}
+use Rattle.state.specs.Levels.{dueAt, oldestAt, oldest, replaced}
 use Rattle.removals.specs.Removal.{ofWindow, countsOf}
 use Rattle.accounts.specs.Account.{Portion, Account, postingsIn, storedIn, dueOf, inputsOf, merged, portionOf, completed, furthered, steppedAccount, flushedAccount, addedTo}
 use Rattle.accounts.proofs.Parts.{sum-apart}
@@ -82,7 +82,7 @@ by-pair t q c e = e
 
 ranged-merged : (t : ℕ) (l m : List Posting) → every (storedRule t) l ≡ true → every (storedRule t) m ≡ true → every (storedRule t) (nonzero (foldr put m l)) ≡ true
 unfolding nonzero
-ranged-merged t l m e f = every-keep counts (storedRule t) (foldr put m l) (every-puts (storedRule t) (by-pair t) l m e f)
+ranged-merged t l m e f = every-keep isCounted (storedRule t) (foldr put m l) (every-puts (storedRule t) (by-pair t) l m e f)
 
 -- ---- what calls leave
 
@@ -92,7 +92,7 @@ ranged-flushed t a e = rw (stored-flushed a) e
 -- the inputs of a merge are some of the partitions
 pub every-oldest : (t : Portion → Bool) (vs : List ℕ) (ps : List Portion) → every t ps ≡ true → every t (oldest levelOf vs ps) ≡ true
 every-oldest t [] ps e = refl
-every-oldest t (v ∷ vs) ps e = every-take t (dueAt v) (drop (placeOf levelOf v ps) ps) (every-drop t (placeOf levelOf v ps) ps e)
+every-oldest t (v ∷ vs) ps e = every-take t (dueAt v) (drop (oldestAt levelOf v ps) ps) (every-drop t (oldestAt levelOf v ps) ps e)
 
 pub ranged-inputs : (t : ℕ) (a : Account) → every (storedRule t) (postingsIn (a .partitions)) ≡ true → every (storedRule t) (inputsOf a) ≡ true
 unfolding inputsOf
@@ -131,9 +131,9 @@ ranged-added t ps a e f = ranged-both t (addedTo ps a) (ranged-partitions t a f)
 pub ranged-back : (t w : ℕ) (l : List Posting) → every (storedRule t) l ≡ true → every (storedRule t) (negated (countsOf w l)) ≡ true
 unfolding negated countsOf nonzero pairs
 ranged-back t w l e =
-    turned (keep counts (keep counts (foldr put [] (ofWindow w l))))
-    (every-keep counts (storedRule t) (keep counts (foldr put [] (ofWindow w l)))
-    (every-keep counts (storedRule t) (foldr put [] (ofWindow w l))
+    turned (keep isCounted (keep isCounted (foldr put [] (ofWindow w l))))
+    (every-keep isCounted (storedRule t) (keep isCounted (foldr put [] (ofWindow w l)))
+    (every-keep isCounted (storedRule t) (foldr put [] (ofWindow w l))
     (every-puts (storedRule t) (by-pair t) (ofWindow w l) [] (every-keep (λ p. eqb (p .window) w) (storedRule t) l e) refl)))
   where
     turned : (m : List Posting) → every (storedRule t) m ≡ true → every (storedRule t) (map (λ p. counting p (negℤ (p .count))) m) ≡ true

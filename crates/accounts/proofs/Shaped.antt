@@ -14,11 +14,11 @@ use Rattle.lists.proofs.Bools.{by-test, and-both}
 use Rattle.lists.proofs.Tests.{every-append, every-take, every-drop, every-from, length-keep}
 use Rattle.postings.specs.declared.Posting.{Posting}
 use Rattle.postings.specs.Order.{samePair, ordered}
-use Rattle.postings.specs.Merge.{put, counts, nonzero}
+use Rattle.postings.specs.Merge.{put, isCounted, nonzero}
 use Rattle.postings.specs.Sums.{sum}
 use Rattle.postings.proofs.Order.{same-swap}
 use Rattle.postings.proofs.Merge.{puts-ordered, nonzero-ordered, nonzero-counts, length-put, length-puts, length-put-there}
-use Rattle.state.specs.Levels.{dueAt, nextLevel, levelLimit, levels, ofLevel, placeOf, replaced}
+use Rattle.state.specs.Levels.{dueAt, nextLevel, levelLimit, levels, ofLevel, oldestAt, replaced}
 use Rattle.state.proofs.Runs.{falls, due-first}
 use Rattle.state.proofs.Replaced.{falls-add, replaced-falls, replaced-limits, added-limits}
 use Rattle.accounts.specs.Account.{Portion, Account, postingsIn, storedIn, dueOf, inputsOf, merged, portionOf, completed, furthered, steppedAccount, flushedAccount, overflows, exceeds, addedTo}
@@ -28,7 +28,7 @@ use Rattle.accounts.proofs.Prefixes.{Small, Prefixes, prefixes-flushed,
 
 -- a partition has postings, in order and without a count of 0
 abbrev pub portionRule : Portion → Bool
-portionRule p = not (empty (p .postings)) && (ordered (p .postings) && every counts (p .postings))
+portionRule p = not (empty (p .postings)) && (ordered (p .postings) && every isCounted (p .postings))
 
 -- no level has more partitions than it may
 abbrev pub withinLimits : List Portion → Bool
@@ -38,7 +38,7 @@ pub record Shaped (a : Account) : Type 0 where
   pub prefixes : Prefixes (a .partitions)
   pub parts : every portionRule (a .partitions) ≡ true
   pub order : ordered (a .buffer) ≡ true
-  pub counted : every counts (a .buffer) ≡ true
+  pub counted : every isCounted (a .buffer) ≡ true
   pub room : length (a .buffer) ≤ 128
   pub progress : Progress a
   pub low : every (λ p. leb (levelOf p) 5) (a .partitions) ≡ true
@@ -86,7 +86,7 @@ shaped-flushed a s total some ten = record {
 pub every-replaced : {P : Type 0} (level : P → ℕ) (t : P → Bool) (vs : List ℕ) (ps R : List P) → every t ps ≡ true → every t R ≡ true → every t (replaced level vs ps R) ≡ true
 every-replaced level t [] ps R e f = e
 every-replaced level t (v ∷ vs) ps R e f =
-    let k = placeOf level v ps in
+    let k = oldestAt level v ps in
     every-append t (take k ps) _
     ∙ and-both (every t (take k ps)) _ (every-take t k ps e)
     (every-append t R _ ∙ and-both (every t R) _ f (every-drop t (dueAt v) (drop k ps) (every-drop t k ps e)))
@@ -164,7 +164,7 @@ pub data Roomed (t : Bool) (a : Account) : Account → Type 0 where
 
 length-nonzero : (l : List Posting) → length (nonzero l) ≤ length l
 unfolding nonzero
-length-nonzero l = length-keep counts l
+length-nonzero l = length-keep isCounted l
 
 -- the account's test for an event's pair, as the order of postings has it
 pub overflows-is : (p : Posting) (a : Account) → overflows p a ≡ (eqb (length (a .buffer)) 128 && not (any (samePair p) (a .buffer)))

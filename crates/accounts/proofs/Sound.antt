@@ -16,7 +16,7 @@ use Rattle.lists.proofs.Tests.{every-from, every-keep, every-mem, length-keep}
 use Rattle.lists.proofs.Ranges.{every-map}
 use Rattle.postings.specs.declared.Posting.{Posting}
 use Rattle.postings.specs.Order.{ordered}
-use Rattle.postings.specs.Merge.{isZero, counts, pairs}
+use Rattle.postings.specs.Merge.{isZero, isCounted, pairs}
 use Rattle.postings.specs.Sums.{sum, under, above}
 use Rattle.postings.proofs.Order.{keep-ordered}
 use Rattle.postings.proofs.Merge.{ordered-sum}
@@ -37,7 +37,7 @@ use Rattle.merges.specs.Merging.{isLast}
 use Rattle.engine.specs.Calls.{Call, Open, Event, Close, Remove, Flush, Step, Query}
 use Rattle.accounts.specs.Account.{Portion, Account, postingsIn, storedIn, blocksOf, blocksIn, blocksAhead, dueOf, inputsOf}
 use Rattle.accounts.specs.Ledger.{Ledger, live, existing, byNumber}
-use Rattle.accounts.specs.Lists.{Lists, recordOf, listsRule, identifierRule, windowRule, inputsRule, callRule}
+use Rattle.accounts.specs.Lists.{Lists, recordLike, listsRule, identifierRule, windowRule, inputsRule, callRule}
 use Rattle.accounts.proofs.Members.{members-every}
 use Rattle.accounts.proofs.Parts.{sums-in-range, window-in-range, identifier-in-range}
 use Rattle.accounts.proofs.Stored.{levelOf, sum-stored}
@@ -126,13 +126,13 @@ part-formed i m x =
     (every-keep (λ q. eqb (q .id) i) (λ q. leb 1 (q .window) && not (isZero (q .count))) m (and-right (ordered m) _ x))
 
 -- a partition's record has its level
-level-records : (v : ℕ) (ps : List Portion) → ofLevel (λ (q : Partition). q .level) v (map recordOf ps) ≡ ofLevel levelOf v ps
+level-records : (v : ℕ) (ps : List Portion) → ofLevel (λ (q : Partition). q .level) v (map recordLike ps) ≡ ofLevel levelOf v ps
 level-records v [] = refl
 level-records v (p ∷ ps) = by-test (eqb (levelOf p) v) (λ y. rw y (ap suc (level-records v ps))) (λ n. rw n (level-records v ps))
 
-rise-records : (ps : List Portion) → neverRise (map recordOf ps) ≡ falls levelOf ps
+rise-records : (ps : List Portion) → neverRise (map recordLike ps) ≡ falls levelOf ps
 rise-records [] = refl
-rise-records (p ∷ ps) = ap₂ _&&_ (every-map (λ (q : Partition). leb (q .level) (levelOf p)) recordOf ps) (rise-records ps)
+rise-records (p ∷ ps) = ap₂ _&&_ (every-map (λ (q : Partition). leb (q .level) (levelOf p)) recordLike ps) (rise-records ps)
 
 module _ (blocks entries : ℕ) (l : Ledger) (a : Account) (k : Kept blocks entries l a) where
   -- at most 16 of level 0, so at most 51 in all
@@ -142,11 +142,11 @@ module _ (blocks entries : ℕ) (l : Ledger) (a : Account) (k : Kept blocks entr
       zero-room : ofLevel levelOf 0 (a .partitions) ≤ 16
       zero-room = leb-true _ _ (at-levels (λ u. leb (ofLevel levelOf u (a .partitions)) (levelLimit u)) (k .shaped .limits) 0 (omega arith))
 
-  records-hold : every (recordRule blocks) (map recordOf (a .partitions)) ≡ true
+  records-hold : every (recordRule blocks) (map recordLike (a .partitions)) ≡ true
   records-hold =
-      every-map (recordRule blocks) recordOf (a .partitions)
-      ∙ every-from (λ p. leb (levelOf p) 5) (λ (p : Portion). leb (lengthOf (p .postings)) (4092 * blocks)) (λ p. recordRule blocks (recordOf p))
-      (λ p x y. record-rule blocks (recordOf p) (record { level = leb-true _ _ x; length = leb-true _ _ y })) (a .partitions) (k .shaped .low)
+      every-map (recordRule blocks) recordLike (a .partitions)
+      ∙ every-from (λ p. leb (levelOf p) 5) (λ (p : Portion). leb (lengthOf (p .postings)) (4092 * blocks)) (λ p. recordRule blocks (recordLike p))
+      (λ p x y. record-rule blocks (recordLike p) (record { level = leb-true _ _ x; length = leb-true _ _ y })) (a .partitions) (k .shaped .low)
       (lengths-fit blocks (a .partitions) (k .shaped .parts) room)
     where
       room : cost (a .partitions) ≤ blocks
@@ -158,11 +158,11 @@ module _ (blocks entries : ℕ) (l : Ledger) (a : Account) (k : Kept blocks entr
               within : Fits blocks a → totalBy (λ (p : Portion). blocksOf (p .postings)) (a .partitions) + blocksAhead a ≤ blocks
               within h = unfold Fits blocksIn in h
 
-  partitions-hold : partitionsRule blocks (partitionsOf (map recordOf (a .partitions))) ≡ true
+  partitions-hold : partitionsRule blocks (partitionsOf (map recordLike (a .partitions))) ≡ true
   partitions-hold =
-      partitions-rule blocks (map recordOf (a .partitions)) (rw (length-map (a .partitions) recordOf) partitions-few) records-hold
+      partitions-rule blocks (map recordLike (a .partitions)) (rw (length-map (a .partitions) recordLike) partitions-few) records-hold
       (rise-records (a .partitions) ∙ k .shaped .fall)
-      (every-from within within (λ v. leb (ofLevel (λ (q : Partition). q .level) v (map recordOf (a .partitions))) (levelLimit v)) (λ v x y. rw (level-records v (a .partitions)) x) levels (k .shaped .limits) (k .shaped .limits))
+      (every-from within within (λ v. leb (ofLevel (λ (q : Partition). q .level) v (map recordLike (a .partitions))) (levelLimit v)) (λ v x y. rw (level-records v (a .partitions)) x) levels (k .shaped .limits) (k .shaped .limits))
     where
       within : ℕ → Bool
       within v = leb (ofLevel levelOf v (a .partitions)) (levelLimit v)
@@ -178,7 +178,7 @@ module _ (blocks entries : ℕ) (l : Ledger) (a : Account) (k : Kept blocks entr
       kept p m =
           let r = stored-kept (top l) p (every-mem (storedRule (top l)) (a .buffer) (ranged-buffer (top l) a (k .ranged)) m) in
           let one : sum (a .buffer) (p .id) (p .window) ≡ p .count = ordered-sum (a .buffer) (k .shaped .order) m in
-          let some : isZero (p .count) ≡ false = not-true _ (every-mem counts (a .buffer) (k .shaped .counted) m) in
+          let some : isZero (p .count) ≡ false = not-true _ (every-mem isCounted (a .buffer) (k .shaped .counted) m) in
           record {
             id = r .id;
             some = r .some;
@@ -221,10 +221,10 @@ module _ (blocks entries : ℕ) (l : Ledger) (a : Account) (k : Kept blocks entr
       (λ p x y. unfold listRule in formed (p .postings) (and-right (not (empty (p .postings))) _ x) y)
       (a .partitions) (k .shaped .parts) (sym (every-portion (storedRule (top l)) (a .partitions)) ∙ ranged-partitions (top l) a (k .ranged))
     where
-      formed : (m : List Posting) → (ordered m && every counts m) ≡ true → every (storedRule (top l)) m ≡ true → (ordered m && every (λ q. leb 1 (q .window) && not (isZero (q .count))) m) ≡ true
+      formed : (m : List Posting) → (ordered m && every isCounted m) ≡ true → every (storedRule (top l)) m ≡ true → (ordered m && every (λ q. leb 1 (q .window) && not (isZero (q .count))) m) ≡ true
       formed m x y =
           and-both (ordered m) _ (and-left (ordered m) _ x)
-          (every-from counts (storedRule (top l)) (λ q. leb 1 (q .window) && not (isZero (q .count)))
+          (every-from isCounted (storedRule (top l)) (λ q. leb 1 (q .window) && not (isZero (q .count)))
           (λ q c r. and-both (leb 1 (q .window)) _ (le-leb _ _ (stored-kept (top l) q r .some)) c) m (and-right (ordered m) _ x) y)
 
   -- and so is the part of it that one identifier has

@@ -13,11 +13,11 @@ use Rattle.lists.proofs.Ints.{sum-swap}
 use Rattle.lists.proofs.Stores.{joined-append}
 use Rattle.postings.specs.declared.Posting.{Posting}
 use Rattle.postings.specs.Order.{ordered}
-use Rattle.postings.specs.Merge.{put, counts, pairs, negated}
+use Rattle.postings.specs.Merge.{put, isCounted, pairs, negated}
 use Rattle.postings.specs.Sums.{sum}
 use Rattle.postings.proofs.Sums.{sum-append, sum-puts, sum-nonzero, sum-merge, sum-negated}
 use Rattle.postings.proofs.Merge.{pairs-ordered, nonzero-ordered, nonzero-counts}
-use Rattle.state.specs.Levels.{placeOf, dueAt, oldest, replaced}
+use Rattle.state.specs.Levels.{oldestAt, dueAt, oldest, replaced}
 use Rattle.removals.specs.Removal.{ofWindow, countsOf}
 use Rattle.accounts.specs.Account.{Portion, Account, postingsIn, storedIn, dueOf, inputsOf, merged, portionOf, completed, furthered, steppedAccount, flushedAccount, addedTo}
 use Rattle.accounts.proofs.Parts.{sum-window, sum-other-window}
@@ -42,9 +42,9 @@ module _ (i w : ℕ) where
 
 -- the partitions before the inputs of a merge of level v, the inputs, and those after
 pub parted : {P : Type 0} (level : P → ℕ) (v : ℕ) (ps : List P)
-    → take (placeOf level v ps) ps ++ (take (dueAt v) (drop (placeOf level v ps) ps) ++ drop (dueAt v) (drop (placeOf level v ps) ps)) ≡ ps
+    → take (oldestAt level v ps) ps ++ (take (dueAt v) (drop (oldestAt level v ps) ps) ++ drop (dueAt v) (drop (oldestAt level v ps) ps)) ≡ ps
 parted level v ps =
-    ap (λ l. take (placeOf level v ps) ps ++ l) (take-append-drop (dueAt v) (drop (placeOf level v ps) ps)) ∙ take-append-drop (placeOf level v ps) ps
+    ap (λ l. take (oldestAt level v ps) ps ++ l) (take-append-drop (dueAt v) (drop (oldestAt level v ps) ps)) ∙ take-append-drop (oldestAt level v ps) ps
 
 -- ---- a flush
 
@@ -66,7 +66,7 @@ unfolding merged
 merged-ordered a = nonzero-ordered (pairs (inputsOf a)) (pairs-ordered (inputsOf a))
 
 -- and without a count of 0
-pub merged-counts : (a : Account) → every counts (merged a) ≡ true
+pub merged-counts : (a : Account) → every isCounted (merged a) ≡ true
 unfolding merged
 merged-counts a = nonzero-counts (pairs (inputsOf a))
 
@@ -89,7 +89,7 @@ pub sum-replaced : (vs : List ℕ) (ps result : List Portion) (i w : ℕ) → su
     → sum (postingsIn (replaced levelOf vs ps result)) i w ≡ sum (postingsIn ps) i w
 sum-replaced [] ps result i w e = refl
 sum-replaced (v ∷ vs) ps result i w e =
-    let k = placeOf levelOf v ps in
+    let k = oldestAt levelOf v ps in
     let ins = take (dueAt v) (drop k ps) in
     let back = drop (dueAt v) (drop k ps) in
     sum-runs i w (take k ps) (result ++ back)

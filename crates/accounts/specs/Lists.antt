@@ -47,8 +47,8 @@ isOpen e = not (eqb (e .windows .current) 0)
 -- ---- refusal 1
 
 -- a partition's record, but for its first block, of which no rule of the state says anything
-abbrev pub recordOf : Portion → Partition
-recordOf p = record { first = 0; level = p .level; length = lengthOf (p .postings) }
+abbrev pub recordLike : Portion → Partition
+recordLike p = record { first = 0; level = p .level; length = lengthOf (p .postings) }
 
 -- every rule of the state that concerns what is listed here, on a card of so many blocks
 unfoldable pub listsRule : ℕ → Lists → Bool
@@ -56,7 +56,7 @@ listsRule blocks e =
     windowsRule (e .windows)
     && (listedRule (e .windows) (listedOf (e .listed))
     && (bufferRule (e .windows) (bufferOf (e .account .buffer))
-    && (partitionsRule blocks (partitionsOf (map recordOf (e .account .partitions)))
+    && (partitionsRule blocks (partitionsOf (map recordLike (e .account .partitions)))
     && (eqb (e .account .steps) 0 || not (empty (dueOf (e .account)))))))
 
 -- ---- refusal 3: the lists and sums that a call uses

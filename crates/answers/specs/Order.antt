@@ -35,9 +35,9 @@ abbrev pub merging : List ℕ
 merging = 12 ∷ 13 ∷ []
 
 -- those numbers up to m
-abbrev pub upTo : ℕ → List ℕ → List ℕ
-upTo m [] = []
-upTo m (n ∷ ns) = cond (leb n m) (n ∷ upTo m ns) (upTo m ns)
+abbrev pub until : ℕ → List ℕ → List ℕ
+until m [] = []
+until m (n ∷ ns) = cond (leb n m) (n ∷ until m ns) (until m ns)
 
 -- those numbers past m
 abbrev pub past : ℕ → List ℕ → List ℕ

@@ -14,7 +14,7 @@ use Rattle.lists.proofs.Ints.{sum-swap}
 use Rattle.lists.proofs.Tests.{length-keep, every-keep}
 use Rattle.postings.specs.declared.Posting.{Posting}
 use Rattle.postings.specs.Order.{samePair, ordered}
-use Rattle.postings.specs.Merge.{counting, put, counts, nonzero}
+use Rattle.postings.specs.Merge.{counting, put, isCounted, nonzero}
 use Rattle.postings.specs.Sums.{share, sum}
 use Rattle.postings.proofs.Order.{ordered-once}
 use Rattle.postings.proofs.Sums.{sum-permuted, sum-put, sum-puts, sum-nonzero}
@@ -26,7 +26,7 @@ use Rattle.buffer.proofs.Canonical.{buffered-of, canonical-of, canonica
 
 length-nonzero : (l : List Posting) → length (nonzero l) ≤ length l
 unfolding nonzero
-length-nonzero l = length-keep counts l
+length-nonzero l = length-keep isCounted l
 
 -- ---- one posting
 
@@ -62,7 +62,7 @@ module _ (p : Posting) (l : List Posting) where
   -- what all pass by their pairs alone, all pass
   pub every-added : (t : Posting → Bool) → ((q : Posting) (c : ℤ) → t q ≡ true → t (counting q c) ≡ true) → t p ≡ true → every t l ≡ true → every t (nonzero (put p l)) ≡ true
   unfolding nonzero
-  every-added t h f e = every-keep counts t (put p l) (every-put t h p l f e)
+  every-added t h f e = every-keep isCounted t (put p l) (every-put t h p l f e)
 
 -- what `add` leaves is canonical again
 pub canonical-added : (b : Buffer) (p : Posting) → Canonical b → Addable b p → Canonical (bufferOf (nonzero (put p (buffered b))))
@@ -90,12 +90,12 @@ added-nonzero p l o =
     (λ i w. sum-put i w p (nonzero l) ∙ ap (λ (z : ℤ). share p i w +ℤ z) (sum-nonzero i w l) ∙ sym (sum-put i w p l))
 
 -- a list without counts of 0 is its own
-nonzero-self : (l : List Posting) → ordered l ≡ true → every counts l ≡ true → nonzero l ≡ l
+nonzero-self : (l : List Posting) → ordered l ≡ true → every isCounted l ≡ true → nonzero l ≡ l
 nonzero-self l o c = same-sums (nonzero l) l (nonzero-ordered l o) o (nonzero-counts l) c (λ i w. sum-nonzero i w l)
 
 module _ (l : List Posting) (o : ordered l ≡ true) where
   -- added one by one from the last to the first: the same as put in and then rid of counts of 0
-  pub added-back : (ps : List Posting) → every counts l ≡ true → foldr (λ p m. nonzero (put p m)) l ps ≡ nonzero (foldr put l ps)
+  pub added-back : (ps : List Posting) → every isCounted l ≡ true → foldr (λ p m. nonzero (put p m)) l ps ≡ nonzero (foldr put l ps)
   added-back [] c = sym (nonzero-self l o c)
   added-back (p ∷ ps) c =
       ap (λ (m : List Posting). nonzero (put p m)) (added-back ps c) ∙ added-nonzero p (foldr put l ps) (puts-ordered ps l o)
@@ -116,7 +116,7 @@ pub length-added-all : (l ps : List Posting) → length (nonzero (foldr put l ps
 length-added-all l ps = omega (arith, length-nonzero (foldr put l ps), length-puts ps l)
 
 -- where others are added already, none of its pair, an amount can be added that could be at first, while there is room for one more
-pub addable-after : (l ps : List Posting) (p : Posting) → ordered l ≡ true → any (samePair p) ps ≡ false → counts p ≡ true → length ps + length l < 128 → natAbs (p .count +ℤ sum l (p .id) (p .window)) ≤ 32767 → Addable (bufferOf (nonzero (foldr put l ps))) p
+pub addable-after : (l ps : List Posting) (p : Posting) → ordered l ≡ true → any (samePair p) ps ≡ false → isCounted p ≡ true → length ps + length l < 128 → natAbs (p .count +ℤ sum l (p .id) (p .window)) ≤ 32767 → Addable (bufferOf (nonzero (foldr put l ps))) p
 addable-after l ps p o e f h g =
     let m = nonzero (foldr put l ps) in
     let k = length-added-all l ps in
@@ -128,7 +128,7 @@ addable-after l ps p o e f h g =
     }
 
 -- added one by one from the first to the last: the same
-pub added-forth : (ps l : List Posting) → ordered l ≡ true → every counts l ≡ true → foldl (λ m p. nonzero (put p m)) l ps ≡ nonzero (foldr put l ps)
+pub added-forth : (ps l : List Posting) → ordered l ≡ true → every isCounted l ≡ true → foldl (λ m p. nonzero (put p m)) l ps ≡ nonzero (foldr put l ps)
 added-forth [] l o c = sym (nonzero-self l o c)
 added-forth (p ∷ ps) l o c =
     let a = added-ordered p l o in

@@ -16,7 +16,7 @@ use Rattle.lists.proofs.Shifts.{raised, lowered}
 use Rattle.lists.proofs.Places.{length-insert, length-without, filled-from, filled-insert, filled-without, filled-set}
 use Rattle.postings.specs.declared.Posting.{Posting}
 use Rattle.postings.specs.Order.{ordered}
-use Rattle.postings.specs.Merge.{counts}
+use Rattle.postings.specs.Merge.{isCounted}
 use Rattle.postings.proofs.Sums.{is-zero}
 use Rattle.state.specs.declared.Buffer.{Buffer}
 use Rattle.state.specs.declared.Windows.{Windows}
@@ -59,12 +59,12 @@ module _ (w : Windows) (b : Buffer) (r : bufferRule w b ≡ true) where
           λ k. record { id = i k; window = v k; count = z k }
 
   -- and each posting counts
-  pub rule-counts : every counts (buffered b) ≡ true
+  pub rule-counts : every isCounted (buffered b) ≡ true
   unfolding bufferRule postingRule
   rule-counts =
       let t = and-left (every (postingRule w) (buffered b)) _ (and-right (ordered (buffered b)) _ (and-right (leb (b .used) 128) _ r)) in
-      every-from (postingRule w) (postingRule w) counts
-      (λ q f g. and-left (counts q) _ (and-right (leb (q .window) (w .last)) _ (and-right (leb 1 (q .window)) _ (and-right (leb (q .id) 1023) _ f))))
+      every-from (postingRule w) (postingRule w) isCounted
+      (λ q f g. and-left (isCounted q) _ (and-right (leb (q .window) (w .last)) _ (and-right (leb 1 (q .window)) _ (and-right (leb (q .id) 1023) _ f))))
       (buffered b) t t
 
 -- ---- one place more, one less, one changed

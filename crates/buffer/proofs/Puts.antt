@@ -11,18 +11,18 @@ use Rattle.lists.proofs.Tests.{keep-all}
 use Rattle.lists.proofs.Places.{mem-at, every-insert, keep-set}
 use Rattle.postings.specs.declared.Posting.{Posting}
 use Rattle.postings.specs.Order.{precedes, samePair, ordered}
-use Rattle.postings.specs.Merge.{counting, put, isZero, counts, nonzero}
+use Rattle.postings.specs.Merge.{counting, put, isZero, isCounted, nonzero}
 use Rattle.postings.specs.Sums.{sum}
 use Rattle.postings.proofs.Order.{precedes-total, same-pair, same-swap, before-all, any-before, precedes-apart}
 use Rattle.postings.proofs.Merge.{ordered-sum, sum-none}
 use Rattle.state.specs.Views.{noPosting}
-use Rattle.buffer.specs.Places.{rank, insertedAt, postingAt, movedAt}
+use Rattle.buffer.specs.Places.{placesBefore, insertedAt, postingAt, movedAt}
 use Rattle.buffer.proofs.Ranks.{precedes-asym, rank-more, rank-none, rank-there}
 
 module _ (p : Posting) where
   -- a new pair
-  pub put-new : (l : List Posting) → ordered l ≡ true → any (samePair p) l ≡ false → put p l ≡ insertedAt (rank p l) p l
-  put-new [] o e = none (rank p [])
+  pub put-new : (l : List Posting) → ordered l ≡ true → any (samePair p) l ≡ false → put p l ≡ insertedAt (placesBefore p l) p l
+  put-new [] o e = none (placesBefore p [])
     where
       none : (k : ℕ) → p ∷ [] ≡ insertedAt k p []
       none zero = refl
@@ -34,7 +34,7 @@ module _ (p : Posting) where
       (λ n. rw (m .0, n, rank-more p q l (precedes-total p q (m .0) n), put-new l (and-right (every (precedes q) l) _ o) (m .1)))
 
   -- a pair that is there
-  pub put-there : (l : List Posting) → ordered l ≡ true → any (samePair p) l ≡ true → put p l ≡ set l (rank p l) (counting (postingAt (rank p l) l) (p .count +ℤ postingAt (rank p l) l .count))
+  pub put-there : (l : List Posting) → ordered l ≡ true → any (samePair p) l ≡ true → put p l ≡ set l (placesBefore p l) (counting (postingAt (placesBefore p l) l) (p .count +ℤ postingAt (placesBefore p l) l .count))
   put-there [] o e = absurd (true≢false (sym e))
   put-there (q ∷ l) o e =
       by-test (samePair p q)
@@ -49,25 +49,25 @@ module _ (p : Posting) where
 
   module _ (l : List Posting) (o : ordered l ≡ true) where
     -- the count of a pair that is there is its sum
-    pub sum-there : any (samePair p) l ≡ true → sum l (p .id) (p .window) ≡ postingAt (rank p l) l .count
+    pub sum-there : any (samePair p) l ≡ true → sum l (p .id) (p .window) ≡ postingAt (placesBefore p l) l .count
     sum-there e =
         let t = rank-there p l noPosting o e in
-        let s = same-pair p (postingAt (rank p l) l) (t .1) in
-        ap₂ (sum l) (s .0) (s .1) ∙ ordered-sum l o (mem-at l noPosting (rank p l) (t .0))
+        let s = same-pair p (postingAt (placesBefore p l) l) (t .1) in
+        ap₂ (sum l) (s .0) (s .1) ∙ ordered-sum l o (mem-at l noPosting (placesBefore p l) (t .0))
 
-    module _ (c : every counts l ≡ true) where
+    module _ (c : every isCounted l ≡ true) where
       -- a new pair that counts
-      pub added-new : counts p ≡ true → any (samePair p) l ≡ false → nonzero (put p l) ≡ insertedAt (rank p l) p l
+      pub added-new : isCounted p ≡ true → any (samePair p) l ≡ false → nonzero (put p l) ≡ insertedAt (placesBefore p l) p l
       unfolding nonzero
-      added-new f e = rw (put-new l o e) (keep-all counts (insertedAt (rank p l) p l) (every-insert counts (rank p l) p l f c))
+      added-new f e = rw (put-new l o e) (keep-all isCounted (insertedAt (placesBefore p l) p l) (every-insert isCounted (placesBefore p l) p l f c))
 
       -- a pair that is there: its count moves, and it goes where that makes it 0
-      pub added-there : any (samePair p) l ≡ true → nonzero (put p l) ≡ movedAt (rank p l) (p .count) l
+      pub added-there : any (samePair p) l ≡ true → nonzero (put p l) ≡ movedAt (placesBefore p l) (p .count) l
       unfolding nonzero movedAt
       added-there e =
-          let z = p .count +ℤ postingAt (rank p l) l .count in
+          let z = p .count +ℤ postingAt (placesBefore p l) l .count in
           rw (put-there l o e)
-          (keep-set counts (rank p l) (counting (postingAt (rank p l) l) z) l (rank-there p l noPosting o e .0) c
+          (keep-set isCounted (placesBefore p l) (counting (postingAt (placesBefore p l) l) z) l (rank-there p l noPosting o e .0) c
           ∙ by-test (isZero z) (λ y. rw y) (λ n. rw n))
 
       -- nothing goes where the pair's sum comes to other than 0

@@ -6,7 +6,7 @@ use lib.IntN.{natAbs, _+ℤ_}
 use Rattle.lists.specs.Lists.{any, every}
 use Rattle.postings.specs.declared.Posting.{Posting}
 use Rattle.postings.specs.Order.{samePair, ordered}
-use Rattle.postings.specs.Merge.{counts}
+use Rattle.postings.specs.Merge.{isCounted}
 use Rattle.postings.specs.Sums.{sum}
 use Rattle.state.specs.declared.Buffer.{Buffer}
 use Rattle.state.specs.Views.{buffered, bufferOf}
@@ -19,7 +19,7 @@ pub record Canonical (b : Buffer) : Type 0 where
 
 -- p can be added: neither it nor a buffered posting counts 0, there is room for a new pair, and the pair's sum keeps within ±32,767
 pub record Addable (b : Buffer) (p : Posting) : Type 0 where
-  pub counted : every counts (buffered b) ≡ true
-  pub amount : counts p ≡ true
+  pub counted : every isCounted (buffered b) ≡ true
+  pub amount : isCounted p ≡ true
   pub room : any (samePair p) (buffered b) ≡ false → b .used < 128
   pub within : natAbs (p .count +ℤ sum (buffered b) (p .id) (p .window)) ≤ 32767

@@ -16,12 +16,12 @@ abbrev pub pair : ℕ → ℕ → Posting
 pair i w = record { id = i; window = w; count = pos 1 }
 
 -- how many postings stand before p
-unfoldable pub rank : Posting → List Posting → ℕ
-rank p l = length (keep (λ q. precedes q p) l)
+unfoldable pub placesBefore : Posting → List Posting → ℕ
+placesBefore p l = length (keep (λ q. precedes q p) l)
 
 -- the place of p's pair, or the place before which it would be put in
 unfoldable pub placeOf : Posting → List Posting → Place
-placeOf p l = cond (any (samePair p) l) (Place.At (rank p l)) (Place.Before (rank p l))
+placeOf p l = cond (any (samePair p) l) (Place.At (placesBefore p l)) (Place.Before (placesBefore p l))
 
 module _ {A : Type 0} where
   -- the list with x put in before place k

@@ -9,7 +9,7 @@ ghost use Rattle.lists.specs.Lists.{any};
 ghost use Rattle.postings.specs.Order.{samePair};
 ghost use Rattle.postings.specs.Merge.{put, nonzero};
 ghost use Rattle.state.specs.Views.{buffered, bufferOf};
-ghost use Rattle.buffer.specs.Places.{pair, rank, placeOf, insertedAt, droppedAt, postingAt, movedAt};
+ghost use Rattle.buffer.specs.Places.{pair, placesBefore, placeOf, insertedAt, droppedAt, postingAt, movedAt};
 ghost use Rattle.buffer.specs.Canonical.{Canonical, Addable};
 
 // Where a pair stands, or before which place it would be put in.
@@ -48,7 +48,7 @@ pub fn holds_pair(b: Buffer, id: u16, window: u16) -> bool
 // How many buffered postings stand before the pair, by halving.
 fn rank_of(b: Buffer, id: u16, window: u16) -> usize
     requires { ⌜ Canonical b ⌝ }
-    ensures { λ r. ⌜ r ≡ rank (pair id window) (buffered b) ⌝ }
+    ensures { λ r. ⌜ r ≡ placesBefore (pair id window) (buffered b) ⌝ }
 {
     let p = Posting {
         id: id,

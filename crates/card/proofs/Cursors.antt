@@ -9,7 +9,7 @@ use borrow.Author.Tests.{lt-ltb, eq-eqb}
 use Rattle.lists.proofs.Bools.{by-test}
 use Rattle.card.specs.declared.Cursor.{Cursor}
 use Rattle.card.specs.Blocks.{link}
-use Rattle.card.specs.Cursors.{wordOf, InCard, nextBlock, nextWord, aheadAt, ahead, goodAt, Good, headOf, movedOf}
+use Rattle.card.specs.Cursors.{wordIn, InCard, nextBlock, nextWord, aheadAt, ahead, goodAt, Good, headOf, movedOf}
 
 module _ (W : List ℕ) where
   length-at : (n b i : ℕ) → length (aheadAt W n b i) ≡ n
@@ -25,7 +25,7 @@ module _ (W : List ℕ) where
     abbrev moves : ℕ → Cursor
     moves n = movedOf W (record { block = b; word = i; left = n })
 
-    ahead-at : (n : ℕ) → 0 < n → aheadAt W n b i ≡ wordOf W b i ∷ ahead W (moves n)
+    ahead-at : (n : ℕ) → 0 < n → aheadAt W n b i ≡ wordIn W b i ∷ ahead W (moves n)
     unfolding aheadAt
     ahead-at zero h = absurd (omega arith)
     ahead-at (suc zero) h = by-test (eqb i 1022) (λ y. rw y) (λ y. rw y)

@@ -15,7 +15,7 @@ use Rattle.lists.specs.All.{AllOf}
 use Rattle.lists.proofs.Bools.{and-left, and-right}
 use Rattle.card.specs.Blocks.{block, contentOf, link}
 use Rattle.card.specs.Chains.{chain, chainRule, content}
-use Rattle.card.specs.Cursors.{wordOf, InCard, Chained, aheadAt, goodAt}
+use Rattle.card.specs.Cursors.{wordIn, InCard, Chained, aheadAt, goodAt}
 use Rattle.card.proofs.Chains.{first-in}
 
 -- the content of the chain of n blocks from b on
@@ -32,14 +32,14 @@ module _ (W : List ℕ) where
   unfolding chain content
   held-more b n = refl
 
-  content-at : (b i : ℕ) → i < 1023 → getD (contentOf W b) i 0 ≡ wordOf W b i
+  content-at : (b i : ℕ) → i < 1023 → getD (contentOf W b) i 0 ≡ wordIn W b i
   content-at b i l = getD-take 1023 (block W b) i 0 l ∙ getD-take 1024 (drop (1024 * b) W) i 0 (omega arith) ∙ getD-drop (1024 * b) W i 0
 
-  word-in : (b n i : ℕ) → InCard W b → i < 1023 → drop i (held W b (suc n)) ≡ wordOf W b i ∷ drop (suc i) (held W b (suc n))
+  word-in : (b n i : ℕ) → InCard W b → i < 1023 → drop i (held W b (suc n)) ≡ wordIn W b i ∷ drop (suc i) (held W b (suc n))
   word-in b n i h l =
       let len = length-content b h in
       let whole : i < length (contentOf W b ++ held W (link W b) n) = simp length-append (omega arith) in
-      let e : getD (contentOf W b ++ held W (link W b) n) i 0 ≡ wordOf W b i =
+      let e : getD (contentOf W b ++ held W (link W b) n) i 0 ≡ wordIn W b i =
       List·getD-append (contentOf W b) (held W (link W b) n) 0 i (omega arith) ∙ content-at b i l in
       rw (held-more b n) (drop-cons (contentOf W b ++ held W (link W b) n) i 0 whole ∙ rw e)
 

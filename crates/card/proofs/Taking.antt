@@ -14,7 +14,7 @@ use Rattle.lists.proofs.Ranges.{length-rising}
 use Rattle.lists.proofs.Runs.{getD-rising, keep-here, keep-past}
 use Rattle.words.specs.Words.{allOnes}
 use Rattle.card.specs.Blocks.{block, isFree, afterTaken}
-use Rattle.card.specs.Cursors.{wordOf}
+use Rattle.card.specs.Cursors.{wordIn}
 
 -- every block of the card is tried
 pub length-after : (n taken : ℕ) → taken < n → length (afterTaken n taken) ≡ n
@@ -47,19 +47,19 @@ module _ (W : List ℕ) (b : ℕ) (h : 1024 * b + 1023 < length W) where
   length-block : length (block W b) ≡ 1024
   length-block = length-take-le 1024 (drop (1024 * b) W) (simp length-drop (omega arith))
 
-  block-at : (i : ℕ) → i < 1024 → drop i (block W b) ≡ wordOf W b i ∷ drop (i + 1) (block W b)
+  block-at : (i : ℕ) → i < 1024 → drop i (block W b) ≡ wordIn W b i ∷ drop (i + 1) (block W b)
   block-at i l =
       let k : i < length (block W b) = omega (arith, length-block) in
-      let e : getD (block W b) i 0 ≡ wordOf W b i = getD-take 1024 (drop (1024 * b) W) i 0 l ∙ getD-drop (1024 * b) W i 0 in
+      let e : getD (block W b) i 0 ≡ wordIn W b i = getD-take 1024 (drop (1024 * b) W) i 0 l ∙ getD-drop (1024 * b) W i 0 in
       rw (add-one i) (drop-cons (block W b) i 0 k ∙ rw e)
 
   -- what is left of the test of a free block: past a word of all ones
-  pub free-past : (i : ℕ) → i < 1024 → wordOf W b i ≡ allOnes → every (eqb allOnes) (drop i (block W b)) ≡ every (eqb allOnes) (drop (i + 1) (block W b))
+  pub free-past : (i : ℕ) → i < 1024 → wordIn W b i ≡ allOnes → every (eqb allOnes) (drop i (block W b)) ≡ every (eqb allOnes) (drop (i + 1) (block W b))
   free-past i l e = rw (block-at i l, e)
 
   -- at another word
-  pub free-not : (i : ℕ) → i < 1024 → (wordOf W b i ≡ allOnes → ⊥) → every (eqb allOnes) (drop i (block W b)) ≡ false
-  free-not i l e = rw (block-at i l, ne-eqb allOnes (wordOf W b i) (λ q. e (sym q)))
+  pub free-not : (i : ℕ) → i < 1024 → (wordIn W b i ≡ allOnes → ⊥) → every (eqb allOnes) (drop i (block W b)) ≡ false
+  free-not i l e = rw (block-at i l, ne-eqb allOnes (wordIn W b i) (λ q. e (sym q)))
 
   -- at the end
   pub free-end : (i : ℕ) → 1024 ≤ i → every (eqb allOnes) (drop i (block W b)) ≡ true

@@ -10,8 +10,8 @@ use Rattle.card.specs.Blocks.{link}
 use Rattle.card.specs.Chains.{chain}
 
 -- word i of block b
-abbrev pub wordOf : List ℕ → ℕ → ℕ → ℕ
-wordOf W b i = getD W (1024 * b + i) 0
+abbrev pub wordIn : List ℕ → ℕ → ℕ → ℕ
+wordIn W b i = getD W (1024 * b + i) 0
 
 -- b is a block of the card, which has at most 4,096
 pub record InCard (W : List ℕ) (b : ℕ) : Type 0 where
@@ -33,7 +33,7 @@ nextWord i = cond (eqb i 1022) 0 (i + 1)
 -- n content words, from word i of block b on
 unfoldable pub aheadAt : List ℕ → ℕ → ℕ → ℕ → List ℕ
 aheadAt W zero b i = []
-aheadAt W (suc n) b i = wordOf W b i ∷ aheadAt W n (nextBlock W b i) (nextWord i)
+aheadAt W (suc n) b i = wordIn W b i ∷ aheadAt W n (nextBlock W b i) (nextWord i)
 
 -- what a cursor has still to come
 abbrev pub ahead : List ℕ → Cursor → List ℕ
@@ -50,7 +50,7 @@ Good W c = goodAt W (c .left) (c .block) (c .word)
 
 -- the first word to come
 abbrev pub headOf : List ℕ → Cursor → ℕ
-headOf W c = wordOf W (c .block) (c .word)
+headOf W c = wordIn W (c .block) (c .word)
 
 -- the cursor past its first word; a link is followed only to a word that is to come, as the last link names no block
 abbrev pub movedOf : List ℕ → Cursor → Cursor

@@ -7,7 +7,7 @@ use lib.Dec.{eqb, leb}
 use lib.ListN.{take, drop}
 use Rattle.lists.specs.Lists.{keep}
 use Rattle.lists.proofs.Bools.{by-test}
-use Rattle.state.specs.Levels.{dueAt, levels, ofLevel, dueLevels, placeOf, oldest, replaced}
+use Rattle.state.specs.Levels.{dueAt, levels, ofLevel, dueLevels, oldestAt, oldest, replaced}
 
 pub map-append : {A B : Type 0} (f : A → B) (xs ys : List A) → map f (xs ++ ys) ≡ map f xs ++ map f ys
 map-append f [] ys = refl
@@ -35,21 +35,21 @@ module _ {P Q : Type 0} (f : P → Q) (level : Q → ℕ) where
   pub due-map : (ps : List P) → dueLevels level (map f ps) ≡ dueLevels (λ p. level (f p)) ps
   due-map ps = ap (λ (t : ℕ → Bool). keep t levels) (fun-ext λ v. ap (leb (dueAt v)) (count-map v ps))
 
-  pub place-map : (v : ℕ) (ps : List P) → placeOf level v (map f ps) ≡ placeOf (λ p. level (f p)) v ps
+  pub place-map : (v : ℕ) (ps : List P) → oldestAt level v (map f ps) ≡ oldestAt (λ p. level (f p)) v ps
   place-map v [] = refl
   place-map v (p ∷ ps) = ap (λ n. cond (eqb (level (f p)) v) 0 (suc n)) (place-map v ps)
 
   pub oldest-map : (vs : List ℕ) (ps : List P) → oldest level vs (map f ps) ≡ map f (oldest (λ p. level (f p)) vs ps)
   oldest-map [] ps = refl
   oldest-map (v ∷ vs) ps =
-      let k = placeOf (λ p. level (f p)) v ps in
+      let k = oldestAt (λ p. level (f p)) v ps in
       ap (λ n. take (dueAt v) (drop n (map f ps))) (place-map v ps)
       ∙ sym (map-take f (dueAt v) (drop k ps) ∙ ap (take (dueAt v)) (map-drop f k ps))
 
   pub replaced-map : (vs : List ℕ) (ps R : List P) → replaced level vs (map f ps) (map f R) ≡ map f (replaced (λ p. level (f p)) vs ps R)
   replaced-map [] ps R = refl
   replaced-map (v ∷ vs) ps R =
-      let k = placeOf (λ p. level (f p)) v ps in
+      let k = oldestAt (λ p. level (f p)) v ps in
       let back = drop (dueAt v) (drop k ps) in
       ap (λ n. take n (map f ps) ++ (map f R ++ drop (dueAt v) (drop n (map f ps)))) (place-map v ps)
       ∙ sym (map-append f (take k ps) (R ++ back) ∙ ap₂ (λ (x y : List Q). x ++ y) (map-take f k ps)

@@ -18,7 +18,7 @@ use Rattle.postings.specs.Merge.{nonzero}
 use Rattle.state.specs.declared.Partition.{Partition}
 use Rattle.state.specs.declared.State.{State}
 use Rattle.state.specs.Views.{noPartition, noMerge, blocks, finished, bufferOf, partitionsOf, withPartitions, withTaken, withMerge}
-use Rattle.state.specs.Levels.{dueAt, nextLevel, placeOf, replaced}
+use Rattle.state.specs.Levels.{dueAt, nextLevel, oldestAt, replaced}
 use Rattle.state.proofs.Forms.{held}
 use Rattle.state.proofs.Kept.{lengths-kept}
 use Rattle.card.specs.Blocks.{noBlock, isFree}
@@ -69,7 +69,7 @@ module _ (s : State) (W : List ℕ) (e : Lists) (h : Holds s W e) (bs : List ℕ
   qs = finished (s .partitions)
 
   abbrev at : ℕ
-  at = placeOf lv v qs
+  at = oldestAt lv v qs
 
   -- the partitions before the inputs, the inputs, and those after
   abbrev A : List Partition

@@ -22,7 +22,7 @@ use Rattle.partitions.specs.Layout.{lengthOf}
 use Rattle.partitions.specs.Reading.{postingsOf}
 use Rattle.merges.specs.Merging.{dueIn}
 use Rattle.accounts.specs.Account.{dueOf}
-use Rattle.accounts.specs.Lists.{Lists, recordOf, listsRule}
+use Rattle.accounts.specs.Lists.{Lists, recordLike, listsRule}
 use Rattle.decoded.specs.Portions.{portionOn}
 use Rattle.decoded.proofs.Maps.{map-map, count-map}
 use Rattle.decoded.proofs.Holds.{Holds, due-is}
@@ -55,7 +55,7 @@ module _ (s : State) (W : List ℕ) (e : Lists) (h : Holds s W e) (rule : listsR
     windows : windowsRule (e .windows) ≡ true
     listed : listedRule (e .windows) (listedOf (e .listed)) ≡ true
     buffer : bufferRule (e .windows) (bufferOf (e .account .buffer)) ≡ true
-    partitions : partitionsRule (blocks s) (partitionsOf (map recordOf (e .account .partitions))) ≡ true
+    partitions : partitionsRule (blocks s) (partitionsOf (map recordLike (e .account .partitions))) ≡ true
     merge : (eqb (e .account .steps) 0 || not (empty (dueOf (e .account)))) ≡ true
 
   parts : Parts
@@ -68,16 +68,16 @@ module _ (s : State) (W : List ℕ) (e : Lists) (h : Holds s W e) (rule : listsR
         windows = and-left (windowsRule (e .windows)) _ rule;
         listed = and-left (listedRule (e .windows) (listedOf (e .listed))) _ a;
         buffer = and-left (bufferRule (e .windows) (bufferOf (e .account .buffer))) _ b;
-        partitions = and-left (partitionsRule (blocks s) (partitionsOf (map recordOf (e .account .partitions)))) _ c;
-        merge = and-right (partitionsRule (blocks s) (partitionsOf (map recordOf (e .account .partitions)))) _ c;
+        partitions = and-left (partitionsRule (blocks s) (partitionsOf (map recordLike (e .account .partitions)))) _ c;
+        merge = and-right (partitionsRule (blocks s) (partitionsOf (map recordLike (e .account .partitions)))) _ c;
       }
 
   -- the records say what the partitions hold
-  records-are : map recordOf (e .account .partitions) ≡ map blank (finished (s .partitions))
+  records-are : map recordLike (e .account .partitions) ≡ map blank (finished (s .partitions))
   records-are =
-      ap (map recordOf) (sym (h .portions))
-      ∙ map-map recordOf (portionOn W) (finished (s .partitions))
-      ∙ map-where (λ p. eqb (p .length) (lengthOf (postingsOf W p))) (λ p. recordOf (portionOn W p)) blank
+      ap (map recordLike) (sym (h .portions))
+      ∙ map-map recordLike (portionOn W) (finished (s .partitions))
+      ∙ map-where (λ p. eqb (p .length) (lengthOf (postingsOf W p))) (λ p. recordLike (portionOn W p)) blank
       (λ p y. ap (λ n. record { first = 0; level = p .level; length = n }) (sym (eqb-true (p .length) (lengthOf (postingsOf W p)) y)))
       (finished (s .partitions)) (h .sizes)
 

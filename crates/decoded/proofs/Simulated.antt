@@ -13,13 +13,13 @@ use Rattle.lists.proofs.Bools.{and-both}
 use Rattle.lists.proofs.Tests.{every-from, every-keep}
 use Rattle.postings.specs.declared.Posting.{Posting}
 use Rattle.postings.specs.Order.{ordered}
-use Rattle.postings.specs.Merge.{isZero, counts, nonzero, pairs}
+use Rattle.postings.specs.Merge.{isZero, isCounted, nonzero, pairs}
 use Rattle.postings.specs.Sums.{sum}
 use Rattle.answers.specs.Answers.{Outcome, answerOf, stateOf}
 use Rattle.words.specs.Words.{words}
 use Rattle.state.specs.declared.Lengths.{Lengths}
 use Rattle.state.specs.declared.Windows.{Windows}
-use Rattle.state.specs.Views.{blocks, entries}
+use Rattle.state.specs.Views.{blocks, entryCount}
 use Rattle.state.specs.Probe.{Probe}
 use Rattle.partitions.specs.Reading.{stored}
 use Rattle.partitions.specs.Formed.{listRule, inRange, sumsInRange, Writable}
@@ -50,7 +50,7 @@ result-writable : (n m : ℕ) (l : Ledger) (a : Account) → Kept n m l a → em
 result-writable n m l a k some = record {
   some = full (merged a) some;
   formed = unfold listRule in and-both (ordered (merged a)) _ (merged-ordered a)
-      (every-from counts (storedRule (top l)) (λ p. leb 1 (p .window) && not (isZero (p .count)))
+      (every-from isCounted (storedRule (top l)) (λ p. leb 1 (p .window) && not (isZero (p .count)))
       (λ p c r. and-both (leb 1 (p .window)) _ (le-leb _ _ (stored-kept (top l) p r .some)) c) (merged a) (merged-counts a) ranged);
   numbered = every-from (storedRule (top l)) (storedRule (top l)) (λ p. leb (p .id) 1023) (λ p x y. le-leb _ _ (stored-kept (top l) p x .id)) (merged a) ranged ranged;
   fitting = fit;
@@ -67,7 +67,7 @@ result-writable n m l a k some = record {
     all-fit = unfold sumsInRange in sums-in-range (inputsOf a) (inputs-small a (k .shaped .prefixes))
 
     fit : every (λ p. inRange (p .count)) (merged a) ≡ true
-    fit = unfold merged nonzero in every-keep counts (λ p. inRange (p .count)) (pairs (inputsOf a)) all-fit
+    fit = unfold merged nonzero in every-keep isCounted (λ p. inRange (p .count)) (pairs (inputsOf a)) all-fit
 
 module _ (ls : Lengths) where
   abbrev n : ℕ
@@ -86,7 +86,7 @@ module _ (ls : Lengths) where
     })
 
     -- each call, where refusals 1 and 3 have no cause
-    pursued-same : (p : Probe) (e : Lists) → Stored ls p e → Fine (blocks (p .state)) e → (c : Call) → callRule e c ≡ true → Same (Stored ls) (probeCall p c) (pursued (blocks (p .state)) (entries (p .state)) e c)
+    pursued-same : (p : Probe) (e : Lists) → Stored ls p e → Fine (blocks (p .state)) e → (c : Call) → callRule e c ≡ true → Same (Stored ls) (probeCall p c) (pursued (blocks (p .state)) (entryCount (p .state)) e c)
     pursued-same p e k f Open r = open-same p e k f
     pursued-same p e k f (Event x) r = event-same p e k f x
     pursued-same p e k f Close r = close-same p e k f

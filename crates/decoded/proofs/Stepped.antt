@@ -14,7 +14,7 @@ use Rattle.lists.proofs.Same.{eq-same}
 use Rattle.lists.proofs.Sets.{every-elem}
 use Rattle.words.specs.Words.{allOnes}
 use Rattle.postings.specs.declared.Posting.{Posting}
-use Rattle.postings.specs.Merge.{counts, nonzero}
+use Rattle.postings.specs.Merge.{isCounted, nonzero}
 use Rattle.state.specs.declared.Partition.{Partition}
 use Rattle.state.specs.declared.MergeJob.{MergeJob}
 use Rattle.state.specs.declared.State.{State}
@@ -61,7 +61,7 @@ taken-few : (n : ℕ) (l : List Posting) → length (nonzero (take n l)) ≤ len
 unfolding nonzero
 taken-few zero l = omega arith
 taken-few (suc n) [] = omega arith
-taken-few (suc n) (p ∷ l) = let r = taken-few n l in by-test (counts p) (λ y. rw y (omega arith)) (λ z. rw z (omega arith))
+taken-few (suc n) (p ∷ l) = let r = taken-few n l in by-test (isCounted p) (λ y. rw y (omega arith)) (λ z. rw z (omega arith))
 
 pub progress-fits : (ps : List Posting) (j : ℕ) → empty (result ps) ≡ false → length (progress ps j) ≤ 1023 * outputBlocks (result ps)
 unfolding progress lengthOf

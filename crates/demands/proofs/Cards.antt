@@ -17,7 +17,7 @@ use Rattle.windows.specs.Calls.{fresh, openOf, closeOf, eventOf, flushOf}
 use Rattle.queries.specs.Query.{queryOf}
 use Rattle.removals.specs.Removal.{removing, removeOf}
 use Rattle.merges.specs.Step.{stepping, stepOf}
-use Rattle.engine.specs.Calls.{Call, Open, Event, Close, Remove, Flush, Step, Query, storeOf, withStore, withState, noHit, probeCall, afterwards}
+use Rattle.engine.specs.Calls.{Call, Open, Event, Close, Remove, Flush, Step, Query, storeIn, withStore, withState, noHit, probeCall, afterwards}
 use Rattle.demands.proofs.Rows.{state-carry}
 
 -- the bytes of its words are the card
@@ -90,9 +90,9 @@ unfolding probeCall
 call-whole p w Open = carried (withState p) (p .state) (openOf (p .state)) w
 call-whole p w (Event n) = event-whole p n w
 call-whole p w Close = carried (withState p) (p .state) (closeOf (p .state)) w
-call-whole p w (Remove n) = carried (withStore p) (storeOf p) (removeOf (storeOf p) n) (removed-whole (storeOf p) w n)
-call-whole p w Flush = carried (withStore p) (storeOf p) (flushOf (storeOf p)) (flushed-whole (storeOf p) w)
-call-whole p w Step = carried (withStore p) (storeOf p) (stepOf (storeOf p)) (stepped-whole (storeOf p) w)
+call-whole p w (Remove n) = carried (withStore p) (storeIn p) (removeOf (storeIn p) n) (removed-whole (storeIn p) w n)
+call-whole p w Flush = carried (withStore p) (storeIn p) (flushOf (storeIn p)) (flushed-whole (storeIn p) w)
+call-whole p w Step = carried (withStore p) (storeIn p) (stepOf (storeIn p)) (stepped-whole (storeIn p) w)
 call-whole p w (Query k ns) = carried (λ (l : List Hit). p) (replicate k noHit) (queryOf p ns (replicate k noHit)) w
 
 after-whole : (p : Probe) → Whole (p .card) → (cs : List Call) → Whole (afterwards probeCall p cs .card)

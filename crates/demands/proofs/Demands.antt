@@ -54,7 +54,7 @@ use Rattle.decoded.specs.Portions.{portionOn, outputOf, cleanPast}
 use Rattle.decoded.proofs.Simulated.{left-sums}
 use Rattle.histories.specs.Statement.{answers, SameAnswers}
 use Rattle.histories.proofs.Theorem.{entries-most, same-answers, none-malformed, history-left}
-use Rattle.demands.specs.Words.{Sound, Listing, probeAfter, booksAfter, unused}
+use Rattle.demands.specs.Words.{Fit, Listing, probeAfter, booksAfter, unused}
 use Rattle.demands.specs.Promises.{Starts, Opens, Counts, Closes, Removes, Flushes, Steps, Asks, AsksValue, Begun}
 use Rattle.demands.proofs.Granted.{event-bad, query-bad, event-noted, query-answered, answered-listing}
 use Rattle.demands.proofs.Rows.{start-fresh, start-refuses, all-unstarted, begun-run}
@@ -136,11 +136,11 @@ pub bytes-move : (p : Probe) → Below 256 (p .card) → (c : Call) → (length 
 bytes-move p b c = let m = call-moved p b c in (m .long, m .rule)
 
 -- An event whose identifier is empty or longer than 64 bytes is refused with 4 (with 1 to 3 where these come first).
-pub bad-event : (p : Probe) (n : Name) → Sound p → badLength n ≡ true → answerOf (eventOf p n) ≡ refused 4
+pub bad-event : (p : Probe) (n : Name) → Fit p → badLength n ≡ true → answerOf (eventOf p n) ≡ refused 4
 bad-event = event-bad
 
 -- So is a query that names one.
-pub bad-query : (p : Probe) (ns : List Name) (places : List Hit) → Sound p → queryFormed (words (p .card)) (p .state) (p .register) (numbers (p .register) ns) ≡ true
+pub bad-query : (p : Probe) (ns : List Name) (places : List Hit) → Fit p → queryFormed (words (p .card)) (p .state) (p .register) (numbers (p .register) ns) ≡ true
     → any badLength ns ≡ true → answerOf (queryOf p ns places) ≡ refused 4
 bad-query = query-bad
 

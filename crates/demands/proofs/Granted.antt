@@ -13,7 +13,7 @@ use Rattle.words.specs.Words.{words}
 use Rattle.answers.specs.Answers.{Answer, done, number, hits, refused, Outcome, leave, refuseIf, choose, answerOf, stateOf}
 use Rattle.answers.specs.declared.Hit.{Hit}
 use Rattle.state.specs.declared.State.{State}
-use Rattle.state.specs.Views.{entries}
+use Rattle.state.specs.Views.{entryCount}
 use Rattle.state.specs.Probe.{Probe, sameLength}
 use Rattle.identifiers.specs.Names.{Name, badLength, among}
 use Rattle.identifiers.specs.Register.{names, registerRule, added}
@@ -24,7 +24,7 @@ use Rattle.queries.specs.Hits.{ranked}
 use Rattle.queries.specs.Query.{countIn, numbers, takenUp, queryFormed, hitsOf, fill, querying, queryOf}
 use Rattle.accounts.specs.Ledger.{including}
 use Rattle.accounts.proofs.Numbers.{new-is}
-use Rattle.demands.specs.Words.{Sound, Listing}
+use Rattle.demands.specs.Words.{Fit, Listing}
 use Rattle.demands.proofs.Listing.{listed-scores, listed-falls, left-out-only-when-full, all-once}
 
 -- where a is answered, what is left is as G says
@@ -91,13 +91,13 @@ event-where p n =
     }
   where
     room : not (sameLength (p .card) (p .state .lengths .card) && sameLength (p .register) (p .state .lengths .register)) ≡ false
-        → (isNew (p .register) n && leb (entries (p .state)) (length (names (p .register)))) ≡ false
+        → (isNew (p .register) n && leb (entryCount (p .state)) (length (names (p .register)))) ≡ false
         → isNew (p .register) n ≡ true → 65 * length (names (p .register)) + 65 ≤ length (p .register)
     room two eight y =
-        let low : leb (entries (p .state)) (length (names (p .register))) ≡ false = sym (ap (λ t. t && leb (entries (p .state)) (length (names (p .register)))) y) ∙ eight in
+        let low : leb (entryCount (p .state)) (length (names (p .register))) ≡ false = sym (ap (λ t. t && leb (entryCount (p .state)) (length (names (p .register)))) y) ∙ eight in
         let long : length (p .register) ≡ p .state .lengths .register =
         eqb-true _ _ (and-right (sameLength (p .card) (p .state .lengths .card)) _ (not-false _ two)) in
-        omega (arith, leb-false (entries (p .state)) (length (names (p .register))) low, long)
+        omega (arith, leb-false (entryCount (p .state)) (length (names (p .register))) low, long)
 
 pub event-noted : (p : Probe) (n : Name) → answerOf (eventOf p n) ≡ done → Noted p n (stateOf p (eventOf p n))
 event-noted p n e = event-where p n .holds e
@@ -173,7 +173,7 @@ unfolding refuseIf
 refuse-later true n o a e f = f
 refuse-later false n o a e f = absurd (let z : _≡_ {A = ℕ} 0 1 = cc in omega arith)
 
-pub event-bad : (p : Probe) (n : Name) → Sound p → badLength n ≡ true → answerOf (eventOf p n) ≡ refused 4
+pub event-bad : (p : Probe) (n : Name) → Fit p → badLength n ≡ true → answerOf (eventOf p n) ≡ refused 4
 unfolding eventOf
 event-bad p n s bad =
     refuse-later _ 1 _ (refused 4) (s .state)
@@ -181,7 +181,7 @@ event-bad p n s bad =
     (refuse-later _ 3 _ (refused 4) (s .entries)
     (refuse-now _ 4 _ bad)))
 
-pub query-bad : (p : Probe) (ns : List Name) (places : List Hit) → Sound p → queryFormed (words (p .card)) (p .state) (p .register) (numbers (p .register) ns) ≡ true
+pub query-bad : (p : Probe) (ns : List Name) (places : List Hit) → Fit p → queryFormed (words (p .card)) (p .state) (p .register) (numbers (p .register) ns) ≡ true
     → any badLength ns ≡ true → answerOf (queryOf p ns places) ≡ refused 4
 unfolding queryOf querying
 query-bad p ns places s formed bad =

@@ -20,7 +20,7 @@ use Rattle.accounts.specs.Books.{Books, booksCall}
 use Rattle.decoded.specs.Portions.{occupied}
 
 -- nothing for refusals 1 to 3 in what an event reads
-pub record Sound (p : Probe) : Type 0 where
+pub record Fit (p : Probe) : Type 0 where
   pub state : stateRule (p .state) ≡ true
   pub card : sameLength (p .card) (p .state .lengths .card) ≡ true
   pub register : sameLength (p .register) (p .state .lengths .register) ≡ true

@@ -12,7 +12,7 @@ use Rattle.lists.proofs.Runs.{eqb-swap}
 use Rattle.lists.proofs.Same.{same-swap}
 use Rattle.words.specs.Words.{allOnes}
 use Rattle.postings.specs.declared.Posting.{Posting}
-use Rattle.postings.specs.Merge.{nonzero, counts}
+use Rattle.postings.specs.Merge.{nonzero, isCounted}
 use Rattle.lists.proofs.Tests.{keep-append}
 use Rattle.card.specs.Blocks.{block, contentOf}
 use Rattle.card.specs.Chains.{chain, content}
@@ -70,7 +70,7 @@ nonzero-most m ps =
     omega (
       arith,
       ap (λ (l : List Posting). length (nonzero l)) (take-append-drop m ps),
-      ap length (keep-append counts (take m ps) (drop m ps)),
+      ap length (keep-append isCounted (take m ps) (drop m ps)),
       length-append (nonzero (take m ps)) (nonzero (drop m ps)),
     )
 

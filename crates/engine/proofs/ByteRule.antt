@@ -33,7 +33,7 @@ use Rattle.removals.specs.Removal.{removing, removeOf}
 use Rattle.merges.specs.Merging.{taking}
 use Rattle.merges.specs.Step.{stepFormed, outputOn, writtenOn, stepping, stepOf}
 use Rattle.merges.proofs.Filling.{step-moves, step-length}
-use Rattle.engine.specs.Calls.{Call, Open, Event, Close, Remove, Flush, Step, Query, storeOf, withStore, withState, noHit, probeCall}
+use Rattle.engine.specs.Calls.{Call, Open, Event, Close, Remove, Flush, Step, Query, storeIn, withStore, withState, noHit, probeCall}
 
 -- The rule ---------------------------------------------------------------------------------------------------------------
 
@@ -201,7 +201,7 @@ call-moved p small c = go c
     go Open = after-carry P (withState p) (p .state) p (openOf (p .state)) here here
     go (Event n) = event-moved p n small
     go Close = after-carry P (withState p) (p .state) p (closeOf (p .state)) here here
-    go (Remove w) = after-carry P (withStore p) (storeOf p) p (removeOf (storeOf p) w) here (removal-moved (storeOf p) small w)
-    go Flush = after-carry P (withStore p) (storeOf p) p (flushOf (storeOf p)) here (flush-moved (storeOf p) small)
-    go Step = after-carry P (withStore p) (storeOf p) p (stepOf (storeOf p)) here (step-moved (storeOf p) small)
+    go (Remove w) = after-carry P (withStore p) (storeIn p) p (removeOf (storeIn p) w) here (removal-moved (storeIn p) small w)
+    go Flush = after-carry P (withStore p) (storeIn p) p (flushOf (storeIn p)) here (flush-moved (storeIn p) small)
+    go Step = after-carry P (withStore p) (storeIn p) p (stepOf (storeIn p)) here (step-moved (storeIn p) small)
     go (Query k ns) = after-carry P (λ (l : List Hit). p) (replicate k noHit) p (queryOf p ns (replicate k noHit)) here here

@@ -15,15 +15,15 @@ use Rattle.removals.specs.Removal.{removeOf}
 use Rattle.removals.proofs.Refused.{removal-unchanged}
 use Rattle.merges.specs.Step.{stepOf}
 use Rattle.merges.proofs.Refused.{step-unchanged}
-use Rattle.engine.specs.Calls.{Call, Open, Event, Close, Remove, Flush, Step, Query, storeOf, withStore, withState, noHit, probeCall}
+use Rattle.engine.specs.Calls.{Call, Open, Event, Close, Remove, Flush, Step, Query, storeIn, withStore, withState, noHit, probeCall}
 
 pub call-unchanged : (p : Probe) (c : Call) → Unchanged p (probeCall p c)
 unfolding probeCall
 call-unchanged p Open = unchanged-carry (withState p) (p .state) p (openOf (p .state)) refl (open-unchanged (p .state))
 call-unchanged p (Event n) = event-unchanged p n
 call-unchanged p Close = unchanged-carry (withState p) (p .state) p (closeOf (p .state)) refl (close-unchanged (p .state))
-call-unchanged p (Remove w) = unchanged-carry (withStore p) (storeOf p) p (removeOf (storeOf p) w) refl (removal-unchanged (storeOf p) w)
-call-unchanged p Flush = unchanged-carry (withStore p) (storeOf p) p (flushOf (storeOf p)) refl (flush-unchanged (storeOf p))
-call-unchanged p Step = unchanged-carry (withStore p) (storeOf p) p (stepOf (storeOf p)) refl (step-unchanged (storeOf p))
+call-unchanged p (Remove w) = unchanged-carry (withStore p) (storeIn p) p (removeOf (storeIn p) w) refl (removal-unchanged (storeIn p) w)
+call-unchanged p Flush = unchanged-carry (withStore p) (storeIn p) p (flushOf (storeIn p)) refl (flush-unchanged (storeIn p))
+call-unchanged p Step = unchanged-carry (withStore p) (storeIn p) p (stepOf (storeIn p)) refl (step-unchanged (storeIn p))
 call-unchanged p (Query k ns) =
     unchanged-carry (λ (l : List Hit). p) (replicate k noHit) p (queryOf p ns (replicate k noHit)) refl (query-unchanged p ns (replicate k noHit))

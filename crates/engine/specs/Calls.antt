@@ -24,8 +24,8 @@ pub data Call : Type 0 where
   Query : ℕ → List Name → Call
 
 -- the parts of a probe that a call is lent, and the probe with them put back
-abbrev pub storeOf : Probe → Store
-storeOf p = record { state = p .state; card = p .card }
+abbrev pub storeIn : Probe → Store
+storeIn p = record { state = p .state; card = p .card }
 
 abbrev pub withStore : Probe → Store → Probe
 withStore p s = record { state = s .state; card = s .card; register = p .register }
@@ -38,9 +38,9 @@ unfoldable pub probeCall : Probe → Call → Outcome Probe
 probeCall p Open = carry (withState p) (openOf (p .state))
 probeCall p (Event n) = eventOf p n
 probeCall p Close = carry (withState p) (closeOf (p .state))
-probeCall p (Remove w) = carry (withStore p) (removeOf (storeOf p) w)
-probeCall p Flush = carry (withStore p) (flushOf (storeOf p))
-probeCall p Step = carry (withStore p) (stepOf (storeOf p))
+probeCall p (Remove w) = carry (withStore p) (removeOf (storeIn p) w)
+probeCall p Flush = carry (withStore p) (flushOf (storeIn p))
+probeCall p Step = carry (withStore p) (stepOf (storeIn p))
 probeCall p (Query k ns) = carry (λ (l : List Hit). p) (queryOf p ns (replicate k noHit))
 
 -- the answers to a list of calls, each made on what the one before left

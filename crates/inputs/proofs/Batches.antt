@@ -11,14 +11,14 @@ use Rattle.lists.specs.Lists.{same}
 use Rattle.lists.proofs.Bools.{by-test}
 use Rattle.lists.proofs.Tests.{keep-append}
 use Rattle.postings.specs.declared.Posting.{Posting}
-use Rattle.postings.specs.Merge.{counts, nonzero}
+use Rattle.postings.specs.Merge.{isCounted, nonzero}
 use Rattle.partitions.specs.Layout.{wordOf}
 use Rattle.inputs.specs.Ahead.{outWords, Matched}
 
 -- the first pair, and the others
 nonzero-first : (p : Posting) (l : List Posting) → nonzero (p ∷ l) ≡ nonzero (p ∷ []) ++ nonzero l
 unfolding nonzero
-nonzero-first p l = keep-append counts (p ∷ []) l
+nonzero-first p l = keep-append isCounted (p ∷ []) l
 
 module _ (n i : ℕ) (ps rest : List Posting) (p : Posting) (h : i < n) (e : ps ≡ p ∷ rest) where
   less : n - i ≡ suc (n - (i + 1))

@@ -10,7 +10,7 @@ use borrow.Author.Tests.{leb-true, ltb-true, lt-ltb}
 use Rattle.lists.specs.All.{AllOf}
 use Rattle.lists.specs.Lists.{every}
 use Rattle.lists.proofs.Bools.{and-left, and-right, and-both}
-use Rattle.keyed.specs.Keys.{Item, falls, allFall, pairs as keyedPairs, topFrom, rest, headVals, headsFine}
+use Rattle.keyed.specs.Keys.{Item, falls, allFall, keyPairs as keyedPairs, topFrom, rest, headVals, headsFine}
 use Rattle.keyed.proofs.Walk.{under-top, top-falls, under, step-falls, pairs-none, pairs-step}
 use Rattle.keyed.proofs.Collected.{pairs-collect}
 use Rattle.words.specs.Words.{Below}

@@ -10,15 +10,15 @@ use Rattle.lists.specs.Lists.{every}
 use Rattle.lists.proofs.Bools.{by-test, and-left, and-right}
 use Rattle.lists.proofs.Tests.{keep-append}
 use Rattle.postings.specs.declared.Posting.{Posting}
-use Rattle.postings.specs.Merge.{isZero, counts, nonzero}
+use Rattle.postings.specs.Merge.{isZero, isCounted, nonzero}
 use Rattle.partitions.proofs.Counts.{numbers-more, numbers-none, terms-more}
 use Rattle.inputs.specs.Judging.{Tally, totalsOf, countsOf, totalsMore, countsMore, tallyOf, tallied, untold}
 
 -- ---- a pair more
 
-nonzero-more : (l : List Posting) (p : Posting) → nonzero (l ++ (p ∷ [])) ≡ nonzero l ++ cond (counts p) (p ∷ []) []
+nonzero-more : (l : List Posting) (p : Posting) → nonzero (l ++ (p ∷ [])) ≡ nonzero l ++ cond (isCounted p) (p ∷ []) []
 unfolding nonzero
-nonzero-more l p = keep-append counts l (p ∷ [])
+nonzero-more l p = keep-append isCounted l (p ∷ [])
 
 -- what is told of all pairs of a list
 abbrev pub toldOf : List Posting → Tally

@@ -6,7 +6,7 @@ use Prim.Native.Nat.{ℕ, _+_, _≤_}
 use lib.Dec.{eqb}
 use lib.ListN.{length, getD, set, replicate}
 use Rattle.lists.specs.Lists.{every, upTo}
-use Rattle.keyed.specs.Keys.{Item, allFall, pairs as keyedPairs}
+use Rattle.keyed.specs.Keys.{Item, allFall, keyPairs as keyedPairs}
 use Rattle.postings.specs.declared.Posting.{Posting}
 use Rattle.postings.specs.Merge.{isZero, nonzero, pairs}
 use Rattle.postings.specs.Sums.{under}

@@ -7,8 +7,8 @@ use native.Mathlib.Omega.{arith}
 use lib.Dec.{ltb, eqb}
 use lib.IntN.{ℤ, pos, _+ℤ_, +ℤ-idl, +ℤ-idr, +ℤ-assoc}
 use borrow.Author.Tests.{ltb-true, ltb-false, eqb-true, eqb-false, eq-eqb, ne-eqb}
-use Rattle.keyed.specs.Keys.{Item, falls, allFall, sumOf, sums, heldIn, held, overKeys, Pair, addPair, pairs}
-use Rattle.keyed.specs.Collect.{put, putAll, collect}
+use Rattle.keyed.specs.Keys.{Item, falls, allFall, sumOf, sums, heldIn, held, overKeys, Pair, addPair, keyPairs}
+use Rattle.keyed.specs.Collect.{putItem, putAll, collect}
 use Rattle.lists.proofs.Bools.{by-test, and-left, and-right, or-none, or-swap}
 use Rattle.lists.proofs.Ints.{sum-swap}
 use Rattle.keyed.proofs.Walk.{over-same, over-none, over-step}
@@ -53,7 +53,7 @@ rebuild m (p ∷ ps) (more l s) =
 -- ---- one item put in
 
 module _ (k : ℕ) (x : Item) where
-  put-held : (ps : List Pair) → heldP k (put x ps) ≡ (eqb (x .key) k || heldP k ps)
+  put-held : (ps : List Pair) → heldP k (putItem x ps) ≡ (eqb (x .key) k || heldP k ps)
   unfolding heldP
   put-held [] = refl
   put-held (p ∷ ps) =
@@ -66,7 +66,7 @@ module _ (k : ℕ) (x : Item) where
       same true b = refl
       same false b = refl
 
-  put-sum : (ps : List Pair) → sumP k (put x ps) ≡ cond (eqb (x .key) k) (x .val) (pos 0) +ℤ sumP k ps
+  put-sum : (ps : List Pair) → sumP k (putItem x ps) ≡ cond (eqb (x .key) k) (x .val) (pos 0) +ℤ sumP k ps
   unfolding sumP
   put-sum [] = refl
   put-sum (p ∷ ps) =
@@ -79,7 +79,7 @@ module _ (k : ℕ) (x : Item) where
       both true = +ℤ-assoc (x .val) (p .sum) (sumP k ps)
       both false = sym (+ℤ-idl _)
 
-put-sorted : (m : ℕ) (x : Item) (ps : List Pair) → x .key < m → Sorted m ps → Sorted m (put x ps)
+put-sorted : (m : ℕ) (x : Item) (ps : List Pair) → x .key < m → Sorted m ps → Sorted m (putItem x ps)
 put-sorted m x [] h s = more h none
 put-sorted m x (p ∷ ps) h (more l s) =
     by-test (ltb (p .key) (x .key)) (λ e. rw e (more h (more (ltb-true (p .key) (x .key) e) s)))
@@ -119,7 +119,7 @@ collect-sorted : (m : ℕ) (ls : List (List Item)) → allFall m ls ≡ true →
 collect-sorted m [] e = none
 collect-sorted m (l ∷ ls) e = list-sorted m m l (collect ls) (omega arith) (and-left _ _ e) (collect-sorted m ls (and-right (falls m l) _ e))
 
-pub pairs-collect : (m : ℕ) (ls : List (List Item)) → allFall m ls ≡ true → pairs m ls ≡ collect ls
+pub pairs-collect : (m : ℕ) (ls : List (List Item)) → allFall m ls ≡ true → keyPairs m ls ≡ collect ls
 pairs-collect m ls e =
     over-same addPair [] m (λ k. (held k ls, sums k ls)) (λ k. (heldP k (collect ls), sumP k (collect ls))) (λ j h. rw (held-collect j ls, sum-collect j ls))
     ∙ rebuild m (collect ls) (collect-sorted m ls e)
@@ -139,7 +139,7 @@ overPairs f a [] = a
 overPairs f a (p ∷ ps) = f (p .key) (p .sum) (overPairs f a ps)
 
 module _ {A : Type 0} (f : ℕ → ℤ → A → A) (a : A) (still : (k : ℕ) (r : A) → f k (pos 0) r ≡ r) where
-  over-pairs : (m : ℕ) (ls : List (List Item)) → overKeys f a m (λ k. sums k ls) ≡ overPairs f a (pairs m ls)
+  over-pairs : (m : ℕ) (ls : List (List Item)) → overKeys f a m (λ k. sums k ls) ≡ overPairs f a (keyPairs m ls)
   unfolding overKeys
   over-pairs zero ls = refl
   over-pairs (suc m) ls =

@@ -10,7 +10,7 @@ use lib.Dec.{ltb, eqb}
 use lib.IntN.{ℤ, pos, _+ℤ_, +ℤ-idl, +ℤ-idr, +ℤ-assoc, +ℤ-comm}
 use borrow.Author.Tests.{ltb-true, ltb-false, eqb-true, eqb-false, lt-ltb, le-ltb, eq-eqb, ne-eqb}
 use Rattle.lists.proofs.Bools.{by-test, and-left, and-right, and-swap, or-right}
-use Rattle.keyed.specs.Keys.{Item, falls, allFall, sumOf, sums, heldIn, held, overKeys, Pair, addPair, pairs, reach, larger, topFrom, rest, headVal, headFine, headVals, headsFine}
+use Rattle.keyed.specs.Keys.{Item, falls, allFall, sumOf, sums, heldIn, held, overKeys, Pair, addPair, keyPairs, reach, larger, topFrom, rest, headVal, headFine, headVals, headsFine}
 
 sum-swap : (a b c d : ℤ) → (a +ℤ b) +ℤ (c +ℤ d) ≡ (a +ℤ c) +ℤ (b +ℤ d)
 sum-swap a b c d =
@@ -234,11 +234,11 @@ module _ {A : Type 0} (f : ℕ → ℤ → A → A) (a : A) (still : (k : ℕ) (
 
 -- ---- the pairs of a merge
 
-pub pairs-none : (m : ℕ) (ls : List (List Item)) → Under 0 ls → pairs m ls ≡ []
+pub pairs-none : (m : ℕ) (ls : List (List Item)) → Under 0 ls → keyPairs m ls ≡ []
 pairs-none m ls u = over-none addPair [] m (λ j. (held j ls, sums j ls)) (λ j r. rw (holds-none j ls u))
 
 pub pairs-step : (m k : ℕ) (ls : List (List Item)) → topFrom 0 ls ≡ suc k → k < m → allFall m ls ≡ true
-    → pairs m ls ≡ record { key = k; sum = headVals k ls } ∷ pairs k (map (rest k) ls)
+    → keyPairs m ls ≡ record { key = k; sum = headVals k ls } ∷ keyPairs k (map (rest k) ls)
 pairs-step m k ls top low e =
     let s = stepped m k ls (under k ls top) low e in
     over-step addPair [] k m low (λ j. (held j ls, sums j ls)) (λ j. (held j (map (rest k) ls), sums j (map (rest k) ls))) (true, headVals k ls)

@@ -10,7 +10,7 @@ use lib.Seq.{take-add, drop-at, length-take-le}
 use Rattle.state.specs.declared.Partition.{Partition}
 use Rattle.state.specs.declared.Due.{Due}
 use Rattle.state.specs.Views.{finished, partitionsOf, noPartition}
-use Rattle.state.specs.Levels.{dueAt, nextLevel, dueLevels, placeOf, oldest, replaced}
+use Rattle.state.specs.Levels.{dueAt, nextLevel, dueLevels, oldestAt, oldest, replaced}
 use Rattle.state.specs.Due.{dueOf}
 use Rattle.state.proofs.Forms.{held}
 use Rattle.state.proofs.Runs.{due-first, place-within}
@@ -41,17 +41,17 @@ module _ (ps : List Partition) (v : ℕ) (d : DueIs ps v) where
   pub due-low : v ≤ 5
   due-low = due-first levelOf ps v (d .others) (d .first) .0
 
-  pub due-within : placeOf levelOf v ps + dueAt v ≤ length ps
+  pub due-within : oldestAt levelOf v ps + dueAt v ≤ length ps
   due-within = omega (arith, due-first levelOf ps v (d .others) (d .first) .1, place-within levelOf v ps)
 
-  pub due-inputs : oldest levelOf (dueLevels levelOf ps) ps ≡ take (dueAt v) (drop (placeOf levelOf v ps) ps)
+  pub due-inputs : oldest levelOf (dueLevels levelOf ps) ps ≡ take (dueAt v) (drop (oldestAt levelOf v ps) ps)
   due-inputs = rw (d .first)
 
   pub due-level : nextLevel (getD (dueLevels levelOf ps) 0 0) ≡ nextLevel v
   due-level = rw (d .first)
 
   pub due-replaced : (result : List Partition) → replaced levelOf (dueLevels levelOf ps) ps result
-      ≡ take (placeOf levelOf v ps) ps ++ (result ++ drop (dueAt v) (drop (placeOf levelOf v ps) ps))
+      ≡ take (oldestAt levelOf v ps) ps ++ (result ++ drop (dueAt v) (drop (oldestAt levelOf v ps) ps))
   due-replaced result = rw (d .first)
 
 -- at least one is merged

@@ -15,7 +15,7 @@ use Rattle.lists.proofs.Tests.{every-take, every-drop, every-keep}
 use Rattle.lists.proofs.Ranges.{length-joined, length-rising}
 use Rattle.postings.specs.declared.Posting.{Posting}
 use Rattle.postings.specs.Order.{ordered}
-use Rattle.postings.specs.Merge.{counts, nonzero, pairs}
+use Rattle.postings.specs.Merge.{isCounted, nonzero, pairs}
 use Rattle.postings.specs.Sums.{under}
 use Rattle.postings.proofs.Merge.{pairs-ordered, nonzero-ordered}
 use Rattle.state.specs.declared.Partition.{Partition}
@@ -125,7 +125,7 @@ module _ (W : List ℕ) (s : State) (is : Partitions) (t : Totals) (g : Judged W
     unfolding nonzero
     batch-range =
         rw (a .batch)
-        (every-keep counts (λ p. inRange (p .count)) (take 16 (drop (16 * j) ps)) (every-take (λ p. inRange (p .count)) 16 (drop (16 * j) ps) (every-drop (λ p. inRange (p .count)) (16 * j) ps (g .range))))
+        (every-keep isCounted (λ p. inRange (p .count)) (take 16 (drop (16 * j) ps)) (every-take (λ p. inRange (p .count)) 16 (drop (16 * j) ps) (every-drop (λ p. inRange (p .count)) (16 * j) ps (g .range))))
 
     module _ (h : 0 < o .blocks) where
       d : Drafted W s ps (o .first) (o .blocks)

@@ -13,10 +13,10 @@ use Rattle.lists.proofs.Stores.{joined-append}
 use Rattle.lists.proofs.Tests.{every-append, every-take, every-drop, every-keep}
 use Rattle.postings.specs.declared.Posting.{Posting}
 use Rattle.postings.specs.Pack.{posted}
-use Rattle.postings.specs.Merge.{counts, nonzero, pairs}
+use Rattle.postings.specs.Merge.{isCounted, nonzero, pairs}
 use Rattle.postings.proofs.Merge.{every-puts}
 use Rattle.state.specs.declared.Partition.{Partition}
-use Rattle.state.specs.Levels.{dueAt, placeOf, oldest}
+use Rattle.state.specs.Levels.{dueAt, oldestAt, oldest}
 use Rattle.card.specs.Chains.{blocksFor, content}
 use Rattle.card.specs.Cursors.{InCard, Chained}
 use Rattle.card.proofs.Stores.{chain-agree}
@@ -39,12 +39,12 @@ pub record Part (is ps : List Partition) : Type 0 where
 -- the oldest partitions of a level are one
 pub oldest-part : (vs : List ℕ) (ps : List Partition) → Part (oldest levelOf vs ps) ps
 oldest-part [] ps = record { from = 0; count = 0; same = refl }
-oldest-part (v ∷ vs) ps = record { from = placeOf levelOf v ps; count = dueAt v; same = refl }
+oldest-part (v ∷ vs) ps = record { from = oldestAt levelOf v ps; count = dueAt v; same = refl }
 
 -- and at most eight
 pub oldest-few : (vs : List ℕ) (ps : List Partition) → length (oldest levelOf vs ps) ≤ 8
 oldest-few [] ps = omega arith
-oldest-few (v ∷ vs) ps = let l = length-take (dueAt v) (drop (placeOf levelOf v ps) ps) in let m = most (eqb v 5) in omega arith
+oldest-few (v ∷ vs) ps = let l = length-take (dueAt v) (drop (oldestAt levelOf v ps) ps) in let m = most (eqb v 5) in omega arith
   where
     most : (t : Bool) → cond t 3 8 ≤ 8
     most true = omega arith
@@ -155,4 +155,4 @@ module _ (W : List ℕ) where
   pub pairs-numbered : (ps : List Partition) → AllOf (Readable W) ps → every numbered (nonzero (pairs (inPartitions W ps))) ≡ true
   unfolding nonzero pairs inPartitions
   pairs-numbered ps g =
-      every-keep counts numbered (pairs (inPartitions W ps)) (every-puts numbered (λ q c e. e) (inPartitions W ps) [] (every-joined (postingsOf W) ps (all-numbered ps g)) refl)
+      every-keep isCounted numbered (pairs (inPartitions W ps)) (every-puts numbered (λ q c e. e) (inPartitions W ps) [] (every-joined (postingsOf W) ps (all-numbered ps g)) refl)

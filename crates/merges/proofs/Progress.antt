@@ -15,7 +15,7 @@ use Rattle.lists.proofs.Ranges.{length-joined}
 use Rattle.lists.proofs.Stores.{sets-append}
 use Rattle.words.specs.Words.{allOnes}
 use Rattle.postings.specs.declared.Posting.{Posting}
-use Rattle.postings.specs.Merge.{counts, nonzero}
+use Rattle.postings.specs.Merge.{isCounted, nonzero}
 use Rattle.card.specs.Chains.{blocksFor}
 use Rattle.partitions.specs.Layout.{identifiersOf, termCount, lengthOf, header, entryOf, wordOf, encode}
 use Rattle.merges.specs.Merging.{result, outputBlocks, progress, isLast}
@@ -24,7 +24,7 @@ use Rattle.merges.specs.Merging.{result, outputBlocks, progress, isLast}
 
 pub nonzero-append : (a b : List Posting) → nonzero (a ++ b) ≡ nonzero a ++ nonzero b
 unfolding nonzero
-nonzero-append a b = keep-append counts a b
+nonzero-append a b = keep-append isCounted a b
 
 pub map-append : (a b : List Posting) → map wordOf (a ++ b) ≡ map wordOf a ++ map wordOf b
 map-append [] b = refl

@@ -11,7 +11,7 @@ use lib.Seq.{getD-take, getD-drop}
 use borrow.Author.Tests.{le-leb, eq-eqb}
 use Rattle.state.specs.declared.Partition.{Partition}
 use Rattle.card.specs.Chains.{blocksFor, chain, content}
-use Rattle.card.specs.Cursors.{wordOf, InCard, Chained, aheadAt}
+use Rattle.card.specs.Cursors.{wordIn, InCard, Chained, aheadAt}
 use Rattle.card.proofs.Cursors.{length-ahead}
 use Rattle.card.proofs.Chains.{chained-more}
 use Rattle.card.proofs.Seeking.{ahead-chain}
@@ -43,7 +43,7 @@ module _ (W : List ℕ) (b n : ℕ) (g : Chained W b n) where
   first-block h = chained-more W b n h g .0
 
   -- a word of the first block
-  pub first-word : (j : ℕ) → 0 < n → j < 1023 → getD (content W (chain W b n)) j 0 ≡ wordOf W b j
+  pub first-word : (j : ℕ) → 0 < n → j < 1023 → getD (content W (chain W b n)) j 0 ≡ wordIn W b j
   unfolding aheadAt
   first-word j h l =
       let c = content W (chain W b n) in
@@ -62,7 +62,7 @@ module _ (W : List ℕ) (b n : ℕ) (g : Chained W b n) where
 pub header-in : (W : List ℕ) (p : Partition) → Chained W (p .first) (blocksFor (p .length)) → 0 < blocksFor (p .length)
     → headerRule p (headerWords (headerIn W (p .first))) ≡ headerRule p (content W (chainOf W p))
 header-in W p g h =
-    let w : (j : ℕ) → j < 1023 → getD (content W (chainOf W p)) j 0 ≡ wordOf W (p .first) j = λ j l. first-word W (p .first) (blocksFor (p .length)) g j h l in
+    let w : (j : ℕ) → j < 1023 → getD (content W (chainOf W p)) j 0 ≡ wordIn W (p .first) j = λ j l. first-word W (p .first) (blocksFor (p .length)) g j h l in
     rw (w 0 (omega arith), w 1 (omega arith), w 2 (omega arith), w 3 (omega arith), w 4 (omega arith), w 5 (omega arith), w 6 (omega arith), w 7 (omega arith))
 
 -- what a readable header says of the space that entries and postings take

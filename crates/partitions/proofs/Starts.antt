@@ -12,7 +12,7 @@ use Rattle.postings.specs.Sums.{under}
 use Rattle.state.specs.declared.Partition.{Partition}
 use Rattle.card.specs.declared.Cursor.{Cursor}
 use Rattle.card.specs.Chains.{blocksFor, chain, chainRule, content}
-use Rattle.card.specs.Cursors.{wordOf, Chained, ahead, Good}
+use Rattle.card.specs.Cursors.{wordIn, Chained, ahead, Good}
 use Rattle.card.proofs.Cursors.{length-ahead}
 use Rattle.card.proofs.Seeking.{rule-chained}
 use Rattle.partitions.specs.declared.Entry.{Entry}
@@ -61,11 +61,11 @@ module _ (W : List ℕ) (p : Partition) (g : Chained W (p .first) (blocksFor (p 
   held = content W (chainOf W p)
 
   -- a word of the header, as the card has it
-  pub header-word : (j x : ℕ) → j < 1023 → x ≡ wordOf W (p .first) j → x ≡ field held j
+  pub header-word : (j x : ℕ) → j < 1023 → x ≡ wordIn W (p .first) j → x ≡ field held j
   header-word j x l q = q ∙ sym (first-word W (p .first) (blocksFor (p .length)) g j (header-room W p g h .some) l)
 
   -- the cursor sought at the entries
-  pub entries-at : (terms n : ℕ) → terms ≡ wordOf W (p .first) 0 → n ≡ blocksFor (p .length) → (e : Cursor)
+  pub entries-at : (terms n : ℕ) → terms ≡ wordIn W (p .first) 0 → n ≡ blocksFor (p .length) → (e : Cursor)
       → ahead W e ≡ take (3 * terms) (drop 8 (content W (chain W (p .first) n))) → Good W e → EntriesAt W p e
   entries-at terms n t m e a k =
       let r = header-room W p g h in
@@ -76,7 +76,7 @@ module _ (W : List ℕ) (p : Partition) (g : Chained W (p .first) (blocksFor (p 
       record { good = k; terms = sym (length-ahead W e) ∙ ap length q ∙ len; entries = q }
 
   -- the rule of the entries is the rule resumed at that cursor
-  pub entries-start : (e : Cursor) → EntriesAt W p e → (count : ℕ) → count ≡ wordOf W (p .first) 1 → entriesRule held ≡ resumed count 0 0 (ahead W e)
+  pub entries-start : (e : Cursor) → EntriesAt W p e → (count : ℕ) → count ≡ wordIn W (p .first) 1 → entriesRule held ≡ resumed count 0 0 (ahead W e)
   entries-start e a count q =
       let w = header-room W p g h .words in
       entries-resumed held (omega arith)
@@ -114,7 +114,7 @@ module _ (W : List ℕ) (p : Partition) (ok : Readable W p) where
 
     -- the cursor sought at the list of the identifier has all its postings
     pub list-found : (id : ℕ) → x .number ≡ id → under id (listsBy (postingWords kept) (ahead W e)) ≡ under id (postingsOf W p)
-        → (terms n : ℕ) → terms ≡ wordOf W (p .first) 0 → n ≡ blocksFor (p .length) → (l : List ℕ)
+        → (terms n : ℕ) → terms ≡ wordIn W (p .first) 0 → n ≡ blocksFor (p .length) → (l : List ℕ)
         → l ≡ take (x .count) (drop (8 + 3 * terms + x .first) (content W (chain W (p .first) n))) → map (posted id) l ≡ under id (postingsOf W p)
     list-found id i u terms n t m l a =
         let c = ap₂ (λ (y z : ℕ). take (x .count) (drop (8 + 3 * y + x .first) (content W (chain W (p .first) z)))) (header-word W p (ok .chained) (ok .header) 0 terms (omega arith) t) m in
@@ -132,7 +132,7 @@ module _ (W : List ℕ) (p : Partition) (ok : Readable W p) where
     first-small = resumed-more (field kept 1) 0 0 (x .number) (x .count) (x .first) (ahead W (x .rest)) rule-first .0 .small
 
     pub reader-opened : (r : Reader) → r .entries ≡ x .rest → r .id ≡ x .number → r .here ≡ x .count
-        → (terms count n : ℕ) → terms ≡ wordOf W (p .first) 0 → count ≡ wordOf W (p .first) 1 → n ≡ blocksFor (p .length)
+        → (terms count n : ℕ) → terms ≡ wordIn W (p .first) 0 → count ≡ wordIn W (p .first) 1 → n ≡ blocksFor (p .length)
         → ahead W (r .postings) ≡ take count (drop (8 + 3 * terms) (content W (chain W (p .first) n))) → Good W (r .postings)
         → (postingsAhead W r ≡ postingsOf W p) × GoodReader W r
     unfolding postingsAhead

@@ -1,7 +1,7 @@
 -- A header as a struct, and as the words that its rule is about.
 use mathlib.Core.List.{List, [], _∷_}
 use Prim.Native.Nat.{ℕ}
-use Rattle.card.specs.Cursors.{wordOf}
+use Rattle.card.specs.Cursors.{wordIn}
 use Rattle.partitions.specs.declared.Header.{Header}
 
 -- its eight words
@@ -11,12 +11,12 @@ headerWords h = h .terms ∷ h .count ∷ h .entries ∷ h .postings ∷ h .tota
 -- the header in block b
 abbrev pub headerIn : List ℕ → ℕ → Header
 headerIn W b = record {
-  terms = wordOf W b 0;
-  count = wordOf W b 1;
-  entries = wordOf W b 2;
-  postings = wordOf W b 3;
-  total = wordOf W b 4;
-  level = wordOf W b 5;
-  spare = wordOf W b 6;
-  last = wordOf W b 7;
+  terms = wordIn W b 0;
+  count = wordIn W b 1;
+  entries = wordIn W b 2;
+  postings = wordIn W b 3;
+  total = wordIn W b 4;
+  level = wordIn W b 5;
+  spare = wordIn W b 6;
+  last = wordIn W b 7;
 }

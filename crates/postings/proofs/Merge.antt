@@ -13,7 +13,7 @@ use Rattle.lists.proofs.Bools.{by-test, and-left, and-right, and-both, or-none}
 use Rattle.lists.proofs.Ints.{sum-cancel}
 use Rattle.lists.proofs.Tests.{every-mem, every-kept, keep-all}
 use Rattle.postings.specs.Order.{precedes, samePair, ordered}
-use Rattle.postings.specs.Merge.{counting, put, isZero, counts, nonzero, pairs}
+use Rattle.postings.specs.Merge.{counting, put, isZero, isCounted, nonzero, pairs}
 use Rattle.postings.specs.Sums.{share, sum}
 use Rattle.postings.specs.declared.Posting.{Posting}
 use Rattle.postings.proofs.Order.{precedes-total, precedes-apart, same-pair, before-all, any-before, same-swap, keep-ordered}
@@ -59,12 +59,12 @@ pairs-ordered l = puts-ordered l [] refl
 -- the order stays where counts of 0 go
 pub nonzero-ordered : (l : List Posting) → ordered l ≡ true → ordered (nonzero l) ≡ true
 unfolding nonzero
-nonzero-ordered l e = keep-ordered counts l e
+nonzero-ordered l e = keep-ordered isCounted l e
 
 -- no count of 0 is left
-pub nonzero-counts : (l : List Posting) → every counts (nonzero l) ≡ true
+pub nonzero-counts : (l : List Posting) → every isCounted (nonzero l) ≡ true
 unfolding nonzero
-nonzero-counts l = every-kept counts l
+nonzero-counts l = every-kept isCounted l
 
 -- ---- lengths
 
@@ -133,26 +133,26 @@ pairs-self [] e = refl
 pairs-self (p ∷ l) e = rw (pairs-self l (and-right (every (precedes p) l) _ e)) (put-first p l (and-left _ _ e))
 
 -- a list that is merged already is as it was
-pub merge-self : (l : List Posting) → ordered l ≡ true → every counts l ≡ true → nonzero (pairs l) ≡ l
+pub merge-self : (l : List Posting) → ordered l ≡ true → every isCounted l ≡ true → nonzero (pairs l) ≡ l
 unfolding nonzero
-merge-self l e f = rw (pairs-self l e) (keep-all counts l f)
+merge-self l e f = rw (pairs-self l e) (keep-all isCounted l f)
 
 -- a posting that counts, and stands before all of a list, has a sum that the list does not have
-missed : (p : Posting) (l m : List Posting) → ordered (p ∷ l) ≡ true → counts p ≡ true → every (precedes p) m ≡ true → sum (p ∷ l) (p .id) (p .window) ≡ sum m (p .id) (p .window) → ⊥
+missed : (p : Posting) (l m : List Posting) → ordered (p ∷ l) ≡ true → isCounted p ≡ true → every (precedes p) m ≡ true → sum (p ∷ l) (p .id) (p .window) ≡ sum m (p .id) (p .window) → ⊥
 missed p l m o f b e =
     let z : p .count ≡ pos 0 = sym (first-sum p l (and-left _ _ o)) ∙ e ∙ sum-none p m (any-before p m b) in
     true≢false (sym f ∙ ap (λ (c : ℤ). not (isZero c)) z)
 
 -- two ordered lists without a count of 0 that have the same sums are the same
-pub same-sums : (l m : List Posting) → ordered l ≡ true → ordered m ≡ true → every counts l ≡ true → every counts m ≡ true → ((i w : ℕ) → sum l i w ≡ sum m i w) → l ≡ m
+pub same-sums : (l m : List Posting) → ordered l ≡ true → ordered m ≡ true → every isCounted l ≡ true → every isCounted m ≡ true → ((i w : ℕ) → sum l i w ≡ sum m i w) → l ≡ m
 same-sums [] [] o r f g e = refl
-same-sums [] (q ∷ m) o r f g e = absurd (missed q m [] r (and-left (counts q) _ g) refl (sym (e (q .id) (q .window))))
-same-sums (p ∷ l) [] o r f g e = absurd (missed p l [] o (and-left (counts p) _ f) refl (e (p .id) (p .window)))
+same-sums [] (q ∷ m) o r f g e = absurd (missed q m [] r (and-left (isCounted q) _ g) refl (sym (e (q .id) (q .window))))
+same-sums (p ∷ l) [] o r f g e = absurd (missed p l [] o (and-left (isCounted p) _ f) refl (e (p .id) (p .window)))
 same-sums (p ∷ l) (q ∷ m) o r f g e =
-    by-test (samePair p q) (λ y. let i = one y in ap₂ _∷_ i (same-sums l m (and-right (every (precedes p) l) _ o) (and-right (every (precedes q) m) _ r) (and-right (counts p) _ f) (and-right (counts q) _ g) (rest i)))
+    by-test (samePair p q) (λ y. let i = one y in ap₂ _∷_ i (same-sums l m (and-right (every (precedes p) l) _ o) (and-right (every (precedes q) m) _ r) (and-right (isCounted p) _ f) (and-right (isCounted q) _ g) (rest i)))
     (λ n. by-test (precedes p q)
-    (λ y. absurd (missed p l (q ∷ m) o (and-left (counts p) _ f) (before-all p q m y r) (e (p .id) (p .window))))
-    (λ k. absurd (missed q m (p ∷ l) r (and-left (counts q) _ g) (before-all q p l (precedes-total p q n k) o) (sym (e (q .id) (q .window))))))
+    (λ y. absurd (missed p l (q ∷ m) o (and-left (isCounted p) _ f) (before-all p q m y r) (e (p .id) (p .window))))
+    (λ k. absurd (missed q m (p ∷ l) r (and-left (isCounted q) _ g) (before-all q p l (precedes-total p q n k) o) (sym (e (q .id) (q .window))))))
   where
     one : samePair p q ≡ true → p ≡ q
     one y =

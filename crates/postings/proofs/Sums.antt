@@ -9,7 +9,7 @@ use Rattle.lists.specs.Lists.{keep}
 use Rattle.lists.proofs.Bools.{by-test}
 use Rattle.lists.proofs.Ints.{sum-swap}
 use Rattle.postings.specs.Order.{precedes, samePair}
-use Rattle.postings.specs.Merge.{counting, put, isZero, counts, nonzero, pairs, negated}
+use Rattle.postings.specs.Merge.{counting, put, isZero, isCounted, nonzero, pairs, negated}
 use Rattle.postings.specs.Sums.{share, sum, under}
 use Rattle.postings.specs.declared.Posting.{Posting}
 use Rattle.postings.proofs.Order.{same-pair}
@@ -67,7 +67,7 @@ module _ (i w : ℕ) where
   -- counts of 0 add nothing
   pub sum-nonzero : (l : List Posting) → sum (nonzero l) i w ≡ sum l i w
   unfolding nonzero
-  sum-nonzero l = sum-keep counts (λ p n. none (p .count) n (eqb (p .id) i && eqb (p .window) w)) l
+  sum-nonzero l = sum-keep isCounted (λ p n. none (p .count) n (eqb (p .id) i && eqb (p .window) w)) l
     where
       none : (c : ℤ) → not (isZero c) ≡ false → (t : Bool) → cond t c (pos 0) ≡ pos 0
       none c n true = by-test (isZero c) (is-zero c) (λ m. let z : true ≡ false = rw m at n in cc)

@@ -11,7 +11,7 @@ use Rattle.postings.specs.declared.Posting.{Posting}
 abbrev pub counting : Posting → ℤ → Posting
 counting q c = record { id = q .id; window = q .window; count = c }
 
--- p put in at its place; where its pair is there already, the counts add up, and a sum of 0 stays
+-- p put in at its place; where its pair is there already, the isCounted add up, and a sum of 0 stays
 abbrev pub put : Posting → List Posting → List Posting
 put p [] = p ∷ []
 put p (q ∷ qs) = cond (samePair p q) (counting q (p .count +ℤ q .count) ∷ qs) (cond (precedes p q) (p ∷ q ∷ qs) (q ∷ put p qs))
@@ -23,12 +23,12 @@ isZero (pos (suc n)) = false
 isZero (negsuc n) = false
 
 -- is a posting's count other than 0
-abbrev pub counts : Posting → Bool
-counts p = not (isZero (p .count))
+abbrev pub isCounted : Posting → Bool
+isCounted p = not (isZero (p .count))
 
 -- the postings without those of count 0
 unfoldable pub nonzero : List Posting → List Posting
-nonzero l = keep counts l
+nonzero l = keep isCounted l
 
 -- every pair of a list once, in order, with its sum, also where that is 0
 unfoldable pub pairs : List Posting → List Posting

@@ -13,7 +13,7 @@ use Rattle.lists.proofs.Bools.{by-test, and-left, and-right, and-both}
 use Rattle.words.specs.Words.{words}
 use Rattle.postings.specs.declared.Posting.{Posting}
 use Rattle.postings.specs.Order.{ordered}
-use Rattle.postings.specs.Merge.{counts}
+use Rattle.postings.specs.Merge.{isCounted}
 use Rattle.postings.specs.Sums.{sum}
 use Rattle.postings.proofs.Sums.{sum-append}
 use Rattle.state.specs.declared.State.{State}
@@ -70,7 +70,7 @@ module _ (s : State) (card : List ℕ) (w : ℕ) (c : Counts) (j : Removable s c
   in-order : ordered (countsIn c) ≡ true
   in-order = rw (j .counts) (counts-ordered w all)
 
-  some : every counts (countsIn c) ≡ true
+  some : every isCounted (countsIn c) ≡ true
   some = rw (j .counts) (counts-some w all)
 
   short : length (countsIn c) ≤ 64

@@ -15,7 +15,7 @@ use Rattle.lists.proofs.Bools.{and-left, and-right}
 use Rattle.lists.proofs.Tests.{every-at}
 use Rattle.postings.specs.declared.Posting.{Posting}
 use Rattle.postings.specs.Order.{precedes, samePair, ordered}
-use Rattle.postings.specs.Merge.{isZero, put, counts, nonzero, negated}
+use Rattle.postings.specs.Merge.{isZero, put, isCounted, nonzero, negated}
 use Rattle.postings.proofs.Order.{any-before}
 use Rattle.postings.proofs.Merge.{puts-ordered, nonzero-ordered}
 use Rattle.state.specs.declared.Buffer.{Buffer}
@@ -30,7 +30,7 @@ use Rattle.removals.specs.Taking.{opposite, takenBack, takeable, Takeabl
 -- ---- an ordered list without a count of 0
 
 -- loses nothing
-pub nonzero-all : (l : List Posting) → ordered l ≡ true → every counts l ≡ true → nonzero l ≡ l
+pub nonzero-all : (l : List Posting) → ordered l ≡ true → every isCounted l ≡ true → nonzero l ≡ l
 nonzero-all l o c = sym (added-back l o [] c)
 
 -- what is ordered is ordered from any place on
@@ -45,7 +45,7 @@ any-opposite q [] = refl
 any-opposite q (p ∷ l) = rw (any-opposite q l)
 
 -- no count of 0 becomes one
-pub opposite-counts : (p : Posting) → counts p ≡ true → counts (opposite p) ≡ true
+pub opposite-counts : (p : Posting) → isCounted p ≡ true → isCounted (opposite p) ≡ true
 opposite-counts p e = cases (p .count) e
   where
     cases : (z : ℤ) → not (isZero z) ≡ true → not (isZero (negℤ z)) ≡ true
@@ -57,7 +57,7 @@ opposite-counts p e = cases (p .count) e
 
 module _ (l cs : List Posting) (o : ordered l ≡ true) where
   -- nothing is taken back yet
-  pub none-back : (i : ℕ) → every counts l ≡ true → length cs ≤ i → l ≡ takenBack l cs i
+  pub none-back : (i : ℕ) → every isCounted l ≡ true → length cs ≤ i → l ≡ takenBack l cs i
   unfolding takenBack
   none-back i c h = rw (drop-of-length-le cs {i = i} h) (sym (nonzero-all l o c))
 
@@ -69,7 +69,7 @@ module _ (l cs : List Posting) (o : ordered l ≡ true) where
       (added-nonzero (opposite (getD cs i d)) (foldr put l (map opposite (drop (suc i) cs))) (puts-ordered (map opposite (drop (suc i) cs)) l o))
 
   -- all
-  pub all-back : ordered cs ≡ true → every counts cs ≡ true → takenBack l cs 0 ≡ nonzero (foldr put l (negated cs))
+  pub all-back : ordered cs ≡ true → every isCounted cs ≡ true → takenBack l cs 0 ≡ nonzero (foldr put l (negated cs))
   unfolding takenBack negated
   all-back r c = rw (nonzero-all cs r c)
 
@@ -86,7 +86,7 @@ module _ (l cs : List Posting) (o : ordered l ≡ true) where
   canonical-back i h = canonical-of (takenBack l cs i) (order-back i) (omega (arith, short-back i, length-drop i cs))
 
   -- and the next count can be taken back
-  pub addable-back : (i : ℕ) (d : Posting) → i < length cs → ordered cs ≡ true → every counts cs ≡ true → every (takeable l) cs ≡ true → length cs + length l ≤ 128
+  pub addable-back : (i : ℕ) (d : Posting) → i < length cs → ordered cs ≡ true → every isCounted cs ≡ true → every (takeable l) cs ≡ true → length cs + length l ≤ 128
       → Addable (bufferOf (takenBack l cs (i + 1))) (opposite (getD cs i d))
   unfolding takenBack
   addable-back i d h r c t n =
@@ -97,7 +97,7 @@ module _ (l cs : List Posting) (o : ordered l ≡ true) where
       let m = length-drop (i + 1) cs in
       addable-after l (map opposite (drop (i + 1) cs)) (opposite p) o
       (any-opposite p (drop (i + 1) cs) ∙ rw (add-one i) (any-before p (drop (suc i) cs) (and-left (every (precedes p) (drop (suc i) cs)) _ s)))
-      (opposite-counts p (every-at counts cs d c i h))
+      (opposite-counts p (every-at isCounted cs d c i h))
       (omega arith)
       (leb-true _ _ (and-right (leb (natAbs (p .count)) 32767) _ f))
 

@@ -11,7 +11,7 @@ use Rattle.postings.specs.Merge.{put, nonzero, negated}
 use Rattle.postings.specs.Sums.{isAbove}
 use Rattle.answers.specs.Answers.{Outcome, leave, done}
 use Rattle.answers.specs.Order as order
-use Rattle.answers.specs.Order.{upTo, past, admit}
+use Rattle.answers.specs.Order.{until, past, admit}
 use Rattle.state.specs.declared.Windows.{Windows}
 use Rattle.state.specs.declared.State.{State}
 use Rattle.state.specs.Views.{blocks, buffered, finished, bufferOf, withWindows, withBuffer}
@@ -59,7 +59,7 @@ removing s card w counts =
 
 unfoldable pub removeOf : Store → ℕ → Outcome Store
 removeOf p w =
-    admit (upTo 3 order.removal)
+    admit (until 3 order.removal)
     (not (stateRule (p .state))
     ∷ not (sameLength (p .card) (p .state .lengths .card))
     ∷ not (removalFormed (words (p .card)) (p .state) w)

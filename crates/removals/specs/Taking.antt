@@ -9,7 +9,7 @@ use lib.ListN.{length, drop}
 use Rattle.lists.specs.Lists.{every}
 use Rattle.postings.specs.declared.Posting.{Posting}
 use Rattle.postings.specs.Order.{ordered}
-use Rattle.postings.specs.Merge.{counting, put, counts, nonzero}
+use Rattle.postings.specs.Merge.{counting, put, isCounted, nonzero}
 use Rattle.postings.specs.Sums.{sum}
 use Rattle.words.specs.Words.{words}
 use Rattle.state.specs.declared.Buffer.{Buffer}
@@ -37,10 +37,10 @@ takeable l p = leb (natAbs (p .count)) 32767 && leb (natAbs (negℤ (p .count) +
 -- counts that can be taken back from a buffer: both in order and without a count of 0, sums in range, and room for all
 pub record Takeable (b : Buffer) (c : Counts) : Type 0 where
   pub canonical : length (b .postings) ≡ 128 → Canonical b
-  pub counted : every counts (buffered b) ≡ true
+  pub counted : every isCounted (buffered b) ≡ true
   pub few : c .used ≤ 64
   pub inOrder : ordered (countsIn c) ≡ true
-  pub some : every counts (countsIn c) ≡ true
+  pub some : every isCounted (countsIn c) ≡ true
   pub within : every (takeable (buffered b)) (countsIn c) ≡ true
   pub room : length (countsIn c) + length (buffered b) ≤ 128
 

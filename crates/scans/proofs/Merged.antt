@@ -5,8 +5,8 @@ use mathlib.Core.Path.{_≡_, refl, sym, ap, _∙_}
 use Rattle.lists.specs.Lists.{every, joined}
 use Rattle.lists.proofs.Bools.{by-test, and-left, and-right, and-both}
 use Rattle.lists.proofs.Tests.{every-append}
-use Rattle.keyed.specs.Keys.{Pair, allFall, pairs as keyedPairs}
-use Rattle.keyed.specs.Collect.{put as putKeyed, putAll, collect}
+use Rattle.keyed.specs.Keys.{Pair, allFall, keyPairs as keyedPairs}
+use Rattle.keyed.specs.Collect.{putItem as putKeyed, putAll, collect}
 use Rattle.keyed.proofs.Collected.{pairs-collect}
 use Rattle.postings.specs.declared.Posting.{Posting}
 use Rattle.postings.specs.Order.{precedes, samePair}

@@ -14,11 +14,11 @@ use Rattle.removals.specs.Removal.{removeOf}
 use Rattle.merges.specs.Step.{stepOf}
 use Rattle.answers.specs.declared.Hit.{Hit}
 use lib.ListN.{replicate}
-use Rattle.engine.specs.Calls.{Call, Open, Event, Close, Remove, Flush, Step, Query, storeOf, withStore, withState, noHit, probeCall}
+use Rattle.engine.specs.Calls.{Call, Open, Event, Close, Remove, Flush, Step, Query, storeIn, withStore, withState, noHit, probeCall}
 use Rattle.texts.specs.Texts.{answerText, Says}
 use Rattle.commands.specs.Answering.{textOf, leftOf, Tells, Told, Obeys}
 use Rattle.commands.proofs.Telling.{answer-carry}
-use Rattle.sessions.specs.Arms.{Ignores, Finds}
+use Rattle.sessions.specs.Arms.{Ignores, Asked}
 
 state-carry : {S T : Type 0} (f : S → T) (s : S) (t : T) (o : Outcome S) → f s ≡ t → stateOf t (carry f o) ≡ f (stateOf s o)
 state-carry f s t (refuse n) e = sym e
@@ -49,7 +49,7 @@ module _ {s after : State} {card register buffer : List ℕ} {n : ℕ} where
   unfolding textOf leftOf
   obeyed-none t = record { says = t .says; left = ap (λ (r : State). probeOf r card register) (t .left) }
 
-  pub obeyed-query : (k : ℕ) (ids : List Name) → Finds (probeOf s card register) ids k buffer n s after → Obeys (probeOf s card register) (some (Query k ids)) buffer n (probeOf after card register)
+  pub obeyed-query : (k : ℕ) (ids : List Name) → Asked (probeOf s card register) ids k buffer n s after → Obeys (probeOf s card register) (some (Query k ids)) buffer n (probeOf after card register)
   unfolding textOf leftOf probeCall
   obeyed-query k ids t = record { says = t .told .says; left = ap (λ (r : State). probeOf r card register) (t .left) ∙ sym (kept (queryOf (probeOf s card register) ids (replicate k noHit))) }
     where
@@ -58,17 +58,17 @@ module _ {s after : State} {card register buffer : List ℕ} {n : ℕ} where
       kept (leave x l) = refl
 
 module _ {p : Probe} {after : Store} {buffer : List ℕ} {n : ℕ} where
-  pub obeyed-remove : (w : ℕ) → Tells (storeOf p) (removeOf (storeOf p) w) buffer n after → Obeys p (some (Remove w)) buffer n (withStore p after)
+  pub obeyed-remove : (w : ℕ) → Tells (storeIn p) (removeOf (storeIn p) w) buffer n after → Obeys p (some (Remove w)) buffer n (withStore p after)
   unfolding probeCall
-  obeyed-remove w t = obeyed p (Remove w) buffer n _ (carried (withStore p) (storeOf p) p (removeOf (storeOf p) w) buffer n after refl t)
+  obeyed-remove w t = obeyed p (Remove w) buffer n _ (carried (withStore p) (storeIn p) p (removeOf (storeIn p) w) buffer n after refl t)
 
-  pub obeyed-flush : Tells (storeOf p) (flushOf (storeOf p)) buffer n after → Obeys p (some Flush) buffer n (withStore p after)
+  pub obeyed-flush : Tells (storeIn p) (flushOf (storeIn p)) buffer n after → Obeys p (some Flush) buffer n (withStore p after)
   unfolding probeCall
-  obeyed-flush t = obeyed p Flush buffer n _ (carried (withStore p) (storeOf p) p (flushOf (storeOf p)) buffer n after refl t)
+  obeyed-flush t = obeyed p Flush buffer n _ (carried (withStore p) (storeIn p) p (flushOf (storeIn p)) buffer n after refl t)
 
-  pub obeyed-step : Tells (storeOf p) (stepOf (storeOf p)) buffer n after → Obeys p (some Step) buffer n (withStore p after)
+  pub obeyed-step : Tells (storeIn p) (stepOf (storeIn p)) buffer n after → Obeys p (some Step) buffer n (withStore p after)
   unfolding probeCall
-  obeyed-step t = obeyed p Step buffer n _ (carried (withStore p) (storeOf p) p (stepOf (storeOf p)) buffer n after refl t)
+  obeyed-step t = obeyed p Step buffer n _ (carried (withStore p) (storeIn p) p (stepOf (storeIn p)) buffer n after refl t)
 
 pub obeyed-event : {p after : Probe} {id : Name} {buffer : List ℕ} {n : ℕ} → Tells p (eventOf p id) buffer n after → Obeys p (some (Event id)) buffer n after
 unfolding probeCall

@@ -14,6 +14,6 @@ pub record Ignores (s : State) (buffer : List ℕ) (n : ℕ) (after : State) : T
   pub left : after ≡ s
 
 -- the text of a query, and the state as it was
-pub record Finds (p : Probe) (ids : List Name) (places : ℕ) (buffer : List ℕ) (n : ℕ) (s after : State) : Type 0 where
+pub record Asked (p : Probe) (ids : List Name) (places : ℕ) (buffer : List ℕ) (n : ℕ) (s after : State) : Type 0 where
   pub told : Told p ids places buffer n
   pub left : after ≡ s

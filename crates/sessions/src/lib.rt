@@ -10,7 +10,7 @@ ghost use lib.ListN.{length};
 ghost use Rattle.windows.specs.Promises.{probeOf};
 ghost use Rattle.commands.specs.Commands.{callIn, commandOf};
 ghost use Rattle.commands.specs.Answering.{Obeys};
-ghost use Rattle.sessions.specs.Arms.{Ignores, Finds};
+ghost use Rattle.sessions.specs.Arms.{Ignores, Asked};
 
 // No command: nothing but the mark is written.
 fn unknown(s: State, out: &mut [u8]) -> Done
@@ -27,7 +27,7 @@ fn unknown(s: State, out: &mut [u8]) -> Done
 // A query, with the state as it was.
 fn asked(s: State, card: &[u8], register: &[u8], ids: &[&[u8]], places: u32, out: &mut [u8]) -> Done
     requires { ⌜ 1024 ≤ length (now out) ⌝ }
-    ensures { λ r. ⌜ Finds (probeOf s (now (card .entry)) (now (register .entry))) (map now (now (ids .entry))) places (now (out .exit)) (r .used) s (r .state) ⌝ }
+    ensures { λ r. ⌜ Asked (probeOf s (now (card .entry)) (now (register .entry))) (map now (now (ids .entry))) places (now (out .exit)) (r .used) s (r .state) ⌝ }
 {
     let used = commands::calls::query(s, card, register, ids, places, out);
     Done {

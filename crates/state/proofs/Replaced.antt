@@ -11,7 +11,7 @@ use Rattle.lists.specs.Lists.{keep, every, below}
 use Rattle.lists.proofs.Bools.{by-test, and-left, and-right, and-both}
 use Rattle.lists.proofs.Tests.{every-from, keep-append, keep-all}
 use Rattle.lists.proofs.Tests.{every-append, every-take, every-drop}
-use Rattle.state.specs.Levels.{dueAt, nextLevel, levelLimit, levels, ofLevel, dueLevels, placeOf, oldest, replaced}
+use Rattle.state.specs.Levels.{dueAt, nextLevel, levelLimit, levels, ofLevel, dueLevels, oldestAt, oldest, replaced}
 use Rattle.state.proofs.Runs.{falls, due-first, before-run, oldest-length, oldest-level}
 
 -- what a test over the levels says of each of 0 to 5
@@ -92,7 +92,7 @@ module _ {P : Type 0} (level : P → ℕ) where
       all (p ∷ l) = and-both _ _ (le-leb 0 (level p) (omega arith)) (all l)
 
   -- from the place of a level on none is of a higher level
-  from-place : (v : ℕ) (ps : List P) → falls level ps ≡ true → every (λ q. leb (level q) v) (drop (placeOf level v ps) ps) ≡ true
+  from-place : (v : ℕ) (ps : List P) → falls level ps ≡ true → every (λ q. leb (level q) v) (drop (oldestAt level v ps) ps) ≡ true
   from-place v [] f = refl
   from-place v (p ∷ ps) f =
       let e = every (λ q. leb (level q) (level p)) ps in
@@ -119,7 +119,7 @@ module _ {P : Type 0} (level : P → ℕ) where
   pub replaced-count : (u v : ℕ) (vs : List ℕ) (ps result : List P)
       → ofLevel level u (replaced level (v ∷ vs) ps result) + ofLevel level u (oldest level (v ∷ vs) ps) ≡ ofLevel level u ps + ofLevel level u result
   replaced-count u v vs ps result =
-      let k = placeOf level v ps in
+      let k = oldestAt level v ps in
       let back = drop k ps in
       let a = count-append u (take k ps) (result ++ drop (dueAt v) back) in
       let b = count-append u result (drop (dueAt v) back) in
@@ -137,7 +137,7 @@ module _ {P : Type 0} (level : P → ℕ) where
       front (every-append (λ q. leb (level q) (nextLevel v)) result (drop (dueAt v) (drop k ps)) ∙ ap₂ _&&_ equal low)
     where
       k : ℕ
-      k = placeOf level v ps
+      k = oldestAt level v ps
 
       some : 1 ≤ ofLevel level v ps
       some = by-test (eqb v 5) (λ y. let h : 3 ≤ ofLevel level v ps = rw y at enough in omega arith) (λ n. let h : 8 ≤ ofLevel level v ps = rw n at enough in omega arith)

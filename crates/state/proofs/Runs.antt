@@ -13,7 +13,7 @@ use Rattle.lists.proofs.Bools.{by-test, and-left, and-right, and-both}
 use Rattle.lists.proofs.Tests.{every-from, every-kept, keep-none, length-keep}
 use Rattle.lists.proofs.Tests.{every-take}
 use Rattle.state.specs.declared.Partition.{Partition}
-use Rattle.state.specs.Levels.{dueAt, ofLevel, dueLevels, placeOf, oldest}
+use Rattle.state.specs.Levels.{dueAt, ofLevel, dueLevels, oldestAt, oldest}
 use Rattle.state.specs.Rules.{neverRise}
 use Rattle.state.proofs.Counts.{levels-below}
 
@@ -46,7 +46,7 @@ module _ {P : Type 0} (level : P → ℕ) where
       (omega arith, leb-true _ _ (k .1), λ u a b. leb-false _ _ (k .2 u a (omega arith)))
 
   -- a level's partitions and those before them are within the list
-  pub place-within : (v : ℕ) (ps : List P) → placeOf level v ps + ofLevel level v ps ≤ length ps
+  pub place-within : (v : ℕ) (ps : List P) → oldestAt level v ps + ofLevel level v ps ≤ length ps
   place-within v [] = omega arith
   place-within v (p ∷ ps) =
       let k = length-keep (λ q. eqb (level q) v) ps in
@@ -82,8 +82,8 @@ module _ {P : Type 0} (level : P → ℕ) where
 
   -- the partitions of a level stand in one run from its place on, and those after the run are of lower levels
   pub run : (v : ℕ) (ps : List P) → falls ps ≡ true
-      → (keep (λ q. eqb (level q) v) ps ≡ take (ofLevel level v ps) (drop (placeOf level v ps) ps))
-      × (1 ≤ ofLevel level v ps → every (λ q. ltb (level q) v) (drop (ofLevel level v ps) (drop (placeOf level v ps) ps)) ≡ true)
+      → (keep (λ q. eqb (level q) v) ps ≡ take (ofLevel level v ps) (drop (oldestAt level v ps) ps))
+      × (1 ≤ ofLevel level v ps → every (λ q. ltb (level q) v) (drop (ofLevel level v ps) (drop (oldestAt level v ps) ps)) ≡ true)
   run v [] f = (refl, λ h. refl)
   run v (p ∷ ps) f =
       let fall = and-left (every (λ q. leb (level q) (level p)) ps) _ f in
@@ -106,7 +106,7 @@ module _ {P : Type 0} (level : P → ℕ) where
       (λ d. at-most v n ps (and-right (leb (level p) n) _ e) (rw d at h))
 
   -- those before the run are of higher levels
-  pub before-run : (v : ℕ) (ps : List P) → falls ps ≡ true → 1 ≤ ofLevel level v ps → every (λ q. ltb v (level q)) (take (placeOf level v ps) ps) ≡ true
+  pub before-run : (v : ℕ) (ps : List P) → falls ps ≡ true → 1 ≤ ofLevel level v ps → every (λ q. ltb v (level q)) (take (oldestAt level v ps) ps) ≡ true
   before-run v [] f h = refl
   before-run v (p ∷ ps) f h =
       by-test (eqb (level p) v) (λ y. rw y)
@@ -119,12 +119,12 @@ module _ {P : Type 0} (level : P → ℕ) where
   pub oldest-length : (ps : List P) (v : ℕ) (vs : List ℕ) → dueAt v ≤ ofLevel level v ps → length (oldest level (v ∷ vs) ps) ≡ dueAt v
   oldest-length ps v vs h =
       let w = place-within v ps in
-      length-take-le (dueAt v) (drop (placeOf level v ps) ps) (rw (length-drop (placeOf level v ps) ps) (omega arith))
+      length-take-le (dueAt v) (drop (oldestAt level v ps) ps) (rw (length-drop (oldestAt level v ps) ps) (omega arith))
 
   -- and all of that level
   pub oldest-level : (ps : List P) (v : ℕ) (vs : List ℕ) → falls ps ≡ true → dueAt v ≤ ofLevel level v ps → every (λ q. eqb (level q) v) (oldest level (v ∷ vs) ps) ≡ true
   oldest-level ps v vs f h =
-      rw (← take-take (dueAt v) (ofLevel level v ps) (drop (placeOf level v ps) ps) h, ← run v ps f .0)
+      rw (← take-take (dueAt v) (ofLevel level v ps) (drop (oldestAt level v ps) ps) h, ← run v ps f .0)
       (every-take (λ q. eqb (level q) v) (dueAt v) (keep (λ q. eqb (level q) v) ps) (every-kept (λ q. eqb (level q) v) ps))
 
 -- of a state's partitions

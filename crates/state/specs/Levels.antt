@@ -32,16 +32,16 @@ module _ {P : Type 0} (level : P → ℕ) where
   dueLevels ps = keep (λ v. leb (dueAt v) (ofLevel v ps)) levels
 
   -- the place of the oldest partition of level v
-  abbrev pub placeOf : ℕ → List P → ℕ
-  placeOf v [] = 0
-  placeOf v (p ∷ ps) = cond (eqb (level p) v) 0 (suc (placeOf v ps))
+  abbrev pub oldestAt : ℕ → List P → ℕ
+  oldestAt v [] = 0
+  oldestAt v (p ∷ ps) = cond (eqb (level p) v) 0 (suc (oldestAt v ps))
 
   -- the inputs of a merge, where vs are the due levels: the oldest 8 (or 3) of the first of vs, and none where none is due
   abbrev pub oldest : List ℕ → List P → List P
   oldest [] ps = []
-  oldest (v ∷ vs) ps = take (dueAt v) (drop (placeOf v ps) ps)
+  oldest (v ∷ vs) ps = take (dueAt v) (drop (oldestAt v ps) ps)
 
   -- the partitions with the inputs' place taken by the result, which is one partition or none
   abbrev pub replaced : List ℕ → List P → List P → List P
   replaced [] ps result = ps
-  replaced (v ∷ vs) ps result = take (placeOf v ps) ps ++ (result ++ drop (dueAt v) (drop (placeOf v ps) ps))
+  replaced (v ∷ vs) ps result = take (oldestAt v ps) ps ++ (result ++ drop (dueAt v) (drop (oldestAt v ps) ps))

@@ -34,9 +34,9 @@ noMerge = record { first = 0; length = 0; steps = 0 }
 abbrev pub blocks : State → ℕ
 blocks s = s .lengths .card / 4096
 
--- the register's entries
-abbrev pub entries : State → ℕ
-entries s = s .lengths .register / 65
+-- the register's entryCount
+abbrev pub entryCount : State → ℕ
+entryCount s = s .lengths .register / 65
 
 -- the numbers of the open window's identifiers, in order of first count
 abbrev pub listed : Listed → List ℕ

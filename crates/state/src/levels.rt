@@ -6,7 +6,7 @@ ghost use Prim.Native.Nat.{_≤_};
 ghost use lib.Dec.{leb};
 ghost use Rattle.lists.specs.Lists.{every};
 ghost use Rattle.state.specs.Views.{finished};
-ghost use Rattle.state.specs.Levels.{dueAt, levelLimit, levels, ofLevel, dueLevels, placeOf};
+ghost use Rattle.state.specs.Levels.{dueAt, levelLimit, levels, ofLevel, dueLevels, oldestAt};
 ghost use Rattle.state.specs.Due.{dueOf};
 
 // How many partitions are of the level.
@@ -30,7 +30,7 @@ pub fn of_level(p: Partitions, level: u16) -> u16
 // The place of the oldest partition of the level; all are passed where there is none.
 pub fn place_of(p: Partitions, level: u16) -> u16
     requires { ⌜ p .used ≤ 51 ⌝ }
-    ensures { λ r. ⌜ r ≡ placeOf (λ q. q .level) level (finished p) ⌝ }
+    ensures { λ r. ⌜ r ≡ oldestAt (λ q. q .level) level (finished p) ⌝ }
 {
     let mut i: u16 = 0;
     while i < p.used {

@@ -14,7 +14,7 @@ use Rattle.keyed.specs.Keys.{sumOf, sums, overKeys}
 use Rattle.keyed.specs.Groups.{Group, allFallAll}
 use Rattle.postings.specs.declared.Posting.{Posting}
 use Rattle.postings.specs.Order.{precedes, ordered}
-use Rattle.postings.specs.Merge.{isZero, counts, pairs}
+use Rattle.postings.specs.Merge.{isZero, isCounted, pairs}
 use Rattle.postings.specs.Sums.{share, sum}
 use Rattle.postings.proofs.Sums.{is-zero, sum-append, sum-pairs}
 use Rattle.postings.proofs.Merge.{every-puts, pairs-ordered, ordered-sum, same-sums}
@@ -100,13 +100,13 @@ module _ (w : ℕ) (S : ℕ → List ℤ) where
       (gather-ordered m (omega arith)))
       (λ n. ap ordered (gather-none m n) ∙ gather-ordered m (omega arith))
 
-  gather-counts : (m : ℕ) → every counts (gather m) ≡ true
+  gather-counts : (m : ℕ) → every isCounted (gather m) ≡ true
   unfolding overKeys
   gather-counts zero = refl
   gather-counts (suc m) =
       by-test (found m)
-      (λ y. ap (every counts) (gather-more m y) ∙ and-both (counts (totalAt m (totalZ (S m)))) _ (and-right (eqb (keyWindow m) w) _ y) (gather-counts m))
-      (λ n. ap (every counts) (gather-none m n) ∙ gather-counts m)
+      (λ y. ap (every isCounted) (gather-more m y) ∙ and-both (isCounted (totalAt m (totalZ (S m)))) _ (and-right (eqb (keyWindow m) w) _ y) (gather-counts m))
+      (λ n. ap (every isCounted) (gather-none m n) ∙ gather-counts m)
 
   -- the sum of a pair is the total under its key, where that is below m and of the window
   module _ (i v : ℕ) (a : i ≤ 1023) (b : v ≤ 65535) where

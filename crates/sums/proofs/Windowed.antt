@@ -12,7 +12,7 @@ use Rattle.lists.proofs.Bools.{by-test, and-left, and-right}
 use Rattle.lists.proofs.Tests.{every-kept, every-keep, every-mem}
 use Rattle.postings.specs.declared.Posting.{Posting}
 use Rattle.postings.specs.Order.{precedes, ordered}
-use Rattle.postings.specs.Merge.{counting, counts, pairs, nonzero}
+use Rattle.postings.specs.Merge.{counting, isCounted, pairs, nonzero}
 use Rattle.postings.specs.Sums.{sum}
 use Rattle.postings.proofs.Order.{any-before}
 use Rattle.postings.proofs.Sums.{sum-pairs, sum-merge}
@@ -77,14 +77,14 @@ module _ (w : ℕ) (l : List Posting) where
   counts-ordered = nonzero-ordered _ (pairs-ordered (ofWindow w l))
 
   -- and not 0
-  pub counts-some : every counts (countsOf w l) ≡ true
+  pub counts-some : every isCounted (countsOf w l) ≡ true
   unfolding countsOf
   counts-some = nonzero-counts _
 
   counts-window : every (λ p. eqb (p .window) w) (countsOf w l) ≡ true
   unfolding countsOf nonzero pairs
   counts-window =
-      every-keep counts (λ p. eqb (p .window) w) (pairs (ofWindow w l)) (every-puts (λ p. eqb (p .window) w) (λ q c e. e) (ofWindow w l) [] (every-kept (λ p. eqb (p .window) w) l) refl)
+      every-keep isCounted (λ p. eqb (p .window) w) (pairs (ofWindow w l)) (every-puts (λ p. eqb (p .window) w) (λ q c e. e) (ofWindow w l) [] (every-kept (λ p. eqb (p .window) w) l) refl)
 
   counts-sum : (i v : ℕ) → sum (countsOf w l) i v ≡ sum (ofWindow w l) i v
   unfolding countsOf
@@ -107,4 +107,4 @@ module _ (w : ℕ) (l : List Posting) where
   -- what all postings pass by their pairs alone, the counts pass
   pub counts-pass : (t : Posting → Bool) → ((q : Posting) (c : ℤ) → t q ≡ true → t (counting q c) ≡ true) → every t l ≡ true → every t (countsOf w l) ≡ true
   unfolding countsOf nonzero pairs
-  counts-pass t h e = every-keep counts t (pairs (ofWindow w l)) (every-puts t h (ofWindow w l) [] (every-keep (λ p. eqb (p .window) w) t l e) refl)
+  counts-pass t h e = every-keep isCounted t (pairs (ofWindow w l)) (every-puts t h (ofWindow w l) [] (every-keep (λ p. eqb (p .window) w) t l e) refl)

@@ -17,7 +17,7 @@ use Rattle.state.specs.declared.Buffer.{Buffer}
 use Rattle.state.specs.Views.{buffered, noPosting}
 use Rattle.state.specs.Rules.{postingRule, bufferRule}
 use Rattle.state.proofs.Kept.{posting-kept, buffer-kept}
-use Rattle.buffer.specs.Places.{pair, rank, postingAt}
+use Rattle.buffer.specs.Places.{pair, placesBefore, postingAt}
 use Rattle.buffer.specs.Canonical.{Addable}
 use Rattle.buffer.proofs.Canonical.{rule-counts}
 use Rattle.buffer.proofs.Ranks.{rank-there}
@@ -48,8 +48,8 @@ module _ (w : Windows) (b : Buffer) (i : ℕ) (rule : bufferRule w b ≡ true) w
       let k = buffer-kept w b rule in
       by-test (any (samePair p) l)
       (λ y. let t = rank-there p l noPosting (k .order) y in
-      let q = postingAt (rank p l) l in
-      let f = posting-kept w q (every-at (postingRule w) l noPosting (k .rules) (rank p l) (t .0)) in
+      let q = postingAt (placesBefore p l) l in
+      let f = posting-kept w q (every-at (postingRule w) l noPosting (k .rules) (placesBefore p l) (t .0)) in
       let o = f .own (sym (same-pair p q (t .1) .1)) in
       record { size = above (q .count); is = sum-there p l (k .order) y ∙ positive (q .count) (o .0); most = o .1 })
       (λ n. record { size = 0; is = sum-none p l n; most = omega arith })

@@ -14,7 +14,7 @@ use Rattle.answers.specs.Order as order
 use Rattle.answers.specs.Order.{admit}
 use Rattle.state.specs.declared.Windows.{Windows}
 use Rattle.state.specs.declared.State.{State}
-use Rattle.state.specs.Views.{entries, listed, buffered, listedOf, bufferOf, withWindows, withListed, withBuffer, emptyState}
+use Rattle.state.specs.Views.{entryCount, listed, buffered, listedOf, bufferOf, withWindows, withListed, withBuffer, emptyState}
 use Rattle.state.specs.Rules.{cardLength, registerLength, stateRule}
 use Rattle.state.specs.Probe.{Store, Probe, sameLength}
 use Rattle.identifiers.specs.Names.{Name, badLength, numberOf}
@@ -100,7 +100,7 @@ sameLengths p = sameLength (p .card) (p .state .lengths .card) && sameLength (p 
 
 -- a new identifier meets a register whose entries are all used
 abbrev pub registerFull : Probe → Name → Bool
-registerFull p n = isNew (p .register) n && leb (entries (p .state)) (length (names (p .register)))
+registerFull p n = isNew (p .register) n && leb (entryCount (p .state)) (length (names (p .register)))
 
 -- an identifier new to the open window would be its 65th
 abbrev pub windowFull : Probe → Name → Bool

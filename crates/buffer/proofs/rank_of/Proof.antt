@@ -6,7 +6,7 @@ use lib.ListN.{length}
 use lib.Seq.{getD-take}
 use Rattle.lists.proofs.Arrays.{unmapped}
 use Rattle.state.specs.Views.{buffered, noPosting}
-use Rattle.buffer.specs.Places.{pair, rank}
+use Rattle.buffer.specs.Places.{pair, placesBefore}
 use Rattle.buffer.proofs.Canonical.{canonical-used}
 use Rattle.buffer.proofs.Ranks.{rank-le, rank-above, rank-below}
 use Rattle.buffer.proofs.rank_of.Statement.{statement}
@@ -14,7 +14,7 @@ use Rattle.buffer.proofs.rank_of.Tie as tie
 
 abbrev Inv-loop : tie.InvT-loop
 Inv-loop id window b p low₀ high₀ low high =
-    (length (b .postings) ≡ 128) × (low ≤ rank (pair id window) (buffered b)) × (rank (pair id window) (buffered b) ≤ high) × (high ≤ b .used)
+    (length (b .postings) ≡ 128) × (low ≤ placesBefore (pair id window) (buffered b)) × (placesBefore (pair id window) (buffered b) ≤ high) × (high ≤ b .used)
 
 abbrev μ-loop : tie.MeasureT-loop
 μ-loop id window b p low₀ high₀ low high = high - low
