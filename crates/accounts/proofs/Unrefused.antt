@@ -4,11 +4,10 @@ use mathlib.Core.List.{List, [], _∷_}
 use Prim.Native.Nat.{ℕ, _≤_}
 use native.Mathlib.Omega.{arith}
 use Rattle.lists.specs.All.{AllOf}
-use Rattle.lists.specs.Lists.{empty}
-use Rattle.answers.specs.Answers.{Outcome, refuse, leave, refuseIf, choose, answerOf, stateOf}
+use Rattle.answers.specs.Answers.{Outcome, refuseIf, choose, answerOf}
 use Rattle.engine.specs.Calls.{Call, Open, Event, Close, Remove, Flush, Step, Query, run}
-use Rattle.accounts.specs.Account.{Account, emptyAccount, stepping, flushing, flushingIf}
-use Rattle.accounts.specs.Ledger.{Ledger, emptyLedger}
+use Rattle.accounts.specs.Account.{Account, stepping, flushing, flushingIf}
+use Rattle.accounts.specs.Ledger.{Ledger}
 use Rattle.accounts.specs.Books.{Books, Granted, isDone, isNumber, isHits, isLater, books, booksCall, expected}
 
 -- one test

@@ -1,5 +1,5 @@
 -- The account: what is stored where, as lists of postings. It decides postings taken and refusals 10 to 13, and nothing else.
-use mathlib.Core.Bool.{Bool, _||_, _&&_, not, cond}
+use mathlib.Core.Bool.{Bool, _&&_, not, cond}
 use mathlib.Core.List.{List, [], _∷_, _++_, foldr, map}
 use Prim.Native.Nat.{ℕ, suc, _+_, _*_}
 use lib.Dec.{eqb, ltb, leb}

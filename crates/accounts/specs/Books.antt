@@ -1,6 +1,6 @@
 -- The ledger with the account beside it: what each call is to answer. Window numbers, hits, scores and refusals 4 to 9 and 14 come from the
 -- ledger alone; refusals 10 to 13 and the postings taken from the account.
-use mathlib.Core.Bool.{Bool, _||_, _&&_, not, cond}
+use mathlib.Core.Bool.{_&&_, not, cond}
 use mathlib.Core.List.{List, [], _∷_}
 use Prim.Native.Nat.{ℕ, suc, _≤_}
 use lib.Dec.{eqb, leb}

@@ -5,7 +5,7 @@ use mathlib.Core.Path.{_≡_, refl}
 use Prim.Native.Nat.{ℕ}
 use native.Mathlib.Omega.{arith}
 use Rattle.answers.specs.declared.Hit.{Hit}
-use Rattle.answers.specs.Answers.{Answer, done, number, hits, refused, Outcome, refuse, leave, refuseIf, choose, carry, answerOf, stateOf}
+use Rattle.answers.specs.Answers.{done, number, hits, Outcome, refuse, leave, refuseIf, choose, carry}
 use Rattle.answers.specs.Unchanged.{Unchanged}
 
 module _ {S : Type 0} {s : S} where

@@ -1,13 +1,13 @@
 -- What an engine's call promises of states, promised of their images.
-use mathlib.Core.Bool.{Bool, true, false, not}
+use mathlib.Core.Bool.{true, false}
 use mathlib.Core.List.{List}
 use mathlib.Core.Path.{_≡_, refl, sym, ap, _∙_}
-use Prim.Native.Nat.{ℕ, zero, suc, _+_, _-_, _<_, _≤_}
+use Prim.Native.Nat.{ℕ, _+_, _-_, _<_, _≤_}
 use native.Mathlib.Omega.{arith}
-use lib.Dec.{eqb, ltb}
+use lib.Dec.{eqb}
 use lib.ListN.{length}
 use borrow.Author.Tests.{lt-ltb, le-ltb}
-use Rattle.words.specs.Words.{words, bytes, Below}
+use Rattle.words.specs.Words.{Below}
 use Rattle.answers.specs.declared.Refusal.{Refusal}
 use Rattle.answers.specs.declared.Refusal.the-variants.{BrokenState, WrongLength, Malformed, BadIdentifier, OutOfTurn, Exhausted, NotLive, RegisterFull, WindowFull, LevelFull, HalfFull, TooFewFree, NothingDue, BadQuery}
 use Rattle.answers.specs.declared.Reply.{Reply}
@@ -23,7 +23,7 @@ use Rattle.windows.specs.Promises.{Gives, storeOf, probeOf}
 use Rattle.windows.specs.Calls.{startOf, unstarted}
 use Rattle.images.specs.Images.{imageRule}
 use Rattle.images.proofs.Inverse.{image-back}
-use Rattle.capi.specs.Exports.{cardedOf, lentOf, stateOn, imaged, imagedStore, imagedProbe, repliedBy, openedBy, settledOn, openedOn, Carded, Lent, startOn, unstartedOn}
+use Rattle.capi.specs.Exports.{cardedOf, lentOf, stateOn, imaged, imagedStore, imagedProbe, repliedBy, openedBy, settledOn, openedOn, Lent, startOn, unstartedOn}
 
 -- the number of a refusal stands for it
 pub number-refused : (why : Refusal) → repliedBy (refusalNumber why) ≡ refused (refusalNumber why)

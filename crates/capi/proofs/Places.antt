@@ -1,8 +1,8 @@
 -- A lent list of hits as bytes: filling its first places.
 use mathlib.Core.Bool.{Bool, true, false}
-use mathlib.Core.List.{List, [], _∷_, _++_, map, append-assoc, append-nil, map-append}
+use mathlib.Core.List.{List, [], _∷_, _++_, map, append-assoc}
 use mathlib.Core.Path.{_≡_, refl, sym, ap, ap₂, _∙_}
-use Prim.Native.Nat.{ℕ, zero, suc, _+_, _*_, _/_, _%_, _<_, _≤_}
+use Prim.Native.Nat.{ℕ, zero, suc, _+_, _*_, _/_, _<_, _≤_}
 use native.Mathlib.Nat.{zero-add}
 use native.Mathlib.Numerals.{add-one}
 use native.Mathlib.Omega.{arith}
@@ -11,7 +11,7 @@ use lib.Seq.{sets, sets-eq, take-all, drop-drop, drop-cons, length-take-le}
 use Rattle.lists.specs.Lists.{joined}
 use Rattle.lists.proofs.Ranges.{length-joined}
 use Rattle.lists.proofs.Stores.{joined-append}
-use Rattle.words.specs.Words.{joined4, words, bytes, Below}
+use Rattle.words.specs.Words.{words, bytes, Below}
 use Rattle.words.proofs.Views.{apart, length-words, words-drop}
 use Rattle.answers.specs.declared.Hit.{Hit}
 use Rattle.answers.specs.declared.Found.{Found}

@@ -1,5 +1,5 @@
 -- The exported calls: the engine's, on a state that is lent as its byte image, with answers as numbers.
-use mathlib.Core.Bool.{Bool, not, cond}
+use mathlib.Core.Bool.{not, cond}
 use mathlib.Core.List.{List}
 use Prim.Native.Nat.{ℕ, zero, suc, _-_}
 use lib.Dec.{eqb, ltb}

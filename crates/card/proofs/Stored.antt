@@ -6,7 +6,7 @@ use Prim.Native.Nat.{ℕ, suc, _+_, _*_, _-_, _<_, _≤_}
 use native.Mathlib.Omega.{arith}
 use lib.Dec.{ltb}
 use lib.ListN.{length, getD, take, drop, replicate, length-append, length-replicate, length-drop}
-use lib.Seq.{sets, length-sets, take-at, getD-at, take-all}
+use lib.Seq.{sets, take-at, getD-at, take-all}
 use borrow.Author.Tests.{ltb-true, not-true, lt-ltb, eq-eqb}
 use Rattle.lists.specs.Lists.{elem, different}
 use Rattle.lists.proofs.Bools.{and-left, and-right, and-both}

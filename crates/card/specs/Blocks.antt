@@ -1,9 +1,9 @@
 -- Blocks of a card that is seen as words: 1,024 to a block, of which the last is the link to the partition's next block.
 use mathlib.Core.Bool.{Bool}
-use mathlib.Core.List.{List, [], _∷_, _++_}
-use Prim.Native.Nat.{ℕ, zero, suc, _+_, _*_}
+use mathlib.Core.List.{List, _++_}
+use Prim.Native.Nat.{ℕ, suc, _+_, _*_}
 use lib.Dec.{eqb, ltb}
-use lib.ListN.{length, getD, take, drop}
+use lib.ListN.{getD, take, drop}
 use Rattle.lists.specs.Lists.{keep, every, upTo}
 use Rattle.words.specs.Words.{allOnes}
 

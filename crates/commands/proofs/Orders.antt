@@ -3,7 +3,7 @@ use mathlib.Core.Bool.{Bool, true, false, cond}
 use mathlib.Core.List.{List, [], _∷_, map}
 use mathlib.Core.Option.{Option, none, some}
 use mathlib.Core.Path.{_≡_, refl, sym, _∙_, ap}
-use Prim.Native.Nat.{ℕ, suc, _+_, _≤_, _<_}
+use Prim.Native.Nat.{ℕ, _≤_, _<_}
 use native.Mathlib.Omega.{arith}
 use lib.ListN.{length, getD, drop, length-map}
 use borrow.Author.Tests.{ne-eqb}
@@ -11,7 +11,7 @@ use denote.Ref.{RefT, now}
 use Rattle.queries.proofs.Gathering.{nothing, lent-at}
 use Rattle.lists.proofs.Runs.{never}
 use Rattle.identifiers.specs.Names.{Name}
-use Rattle.engine.specs.Calls.{Call, Open, Close, Flush, Step}
+use Rattle.engine.specs.Calls.{Open, Close, Flush, Step}
 use Rattle.texts.specs.Fields.{numberIn}
 use Rattle.commands.specs.declared.Order.{Order}
 use Rattle.commands.specs.declared.Order.the-variants as order

@@ -1,9 +1,9 @@
 -- The text of an answer, and what is left, from what the calls promise.
 use mathlib.Core.List.{List}
-use mathlib.Core.Path.{_≡_, refl, sym, _∙_, ap}
-use Prim.Native.Nat.{ℕ, _≤_}
+use mathlib.Core.Path.{_≡_, refl}
+use Prim.Native.Nat.{ℕ}
 use native.Mathlib.Omega.{arith}
-use Rattle.answers.specs.Answers.{Answer, Outcome, refuse, leave, answerOf, stateOf, carry}
+use Rattle.answers.specs.Answers.{Answer, Outcome, refuse, leave, answerOf, carry}
 use Rattle.answers.specs.Numbers.{foundAs}
 use Rattle.answers.specs.declared.Found.{Found}
 use Rattle.answers.specs.declared.Found.the-variants as found
@@ -12,7 +12,7 @@ use Rattle.state.specs.Probe.{Probe}
 use Rattle.windows.specs.Promises.{Gives}
 use Rattle.queries.specs.Finds.{Finds}
 use Rattle.queries.specs.declared.Top.{Top}
-use Rattle.engine.specs.Calls.{Call, Query, probeCall}
+use Rattle.engine.specs.Calls.{probeCall}
 use Rattle.texts.specs.Texts.{answerText, Says, Few}
 use Rattle.commands.specs.Answering.{Tells, Told}
 

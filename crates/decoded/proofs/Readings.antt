@@ -18,7 +18,7 @@ use Rattle.state.specs.declared.Lengths.{Lengths}
 use Rattle.state.specs.declared.Windows.{Windows}
 use Rattle.state.specs.declared.Partition.{Partition}
 use Rattle.state.specs.declared.State.{State}
-use Rattle.state.specs.Views.{blocks, entryCount, buffered, finished, bufferOf}
+use Rattle.state.specs.Views.{blocks, registerSize, buffered, finished, bufferOf}
 use Rattle.state.specs.Probe.{Store, Probe}
 use Rattle.identifiers.specs.Names.{Name, numbersOf}
 use Rattle.identifiers.specs.Register.{names, registerRule}
@@ -83,7 +83,7 @@ module _ {ls : Lengths} (p : Probe) (e : Lists) (k : Stored ls p e) (fine : Fine
   unfolding takenUp takenFrom
   taken-same ns = ap₂ (λ (is : List ℕ) (l : List Posting). length (keep (λ q. elem (q .id) is) l)) (numbers-same ns) stored-same
 
-  pub query-same : (m : ℕ) (ns : List Name) → callRule e (Query m ns) ≡ true → Same (Stored ls) (probeCall p (Query m ns)) (pursued (blocks s) (entryCount s) e (Query m ns))
+  pub query-same : (m : ℕ) (ns : List Name) → callRule e (Query m ns) ≡ true → Same (Stored ls) (probeCall p (Query m ns)) (pursued (blocks s) (registerSize s) e (Query m ns))
   unfolding probeCall queryOf querying pursued
   query-same m ns rule =
       same-carry R (Stored ls) (λ (l : List Hit). p) (λ l e′ r. r)
@@ -142,7 +142,7 @@ module _ {ls : Lengths} (p : Probe) (e : Lists) (k : Stored ls p e) (fine : Fine
   counted-is : openCounted s ≡ openCountedIn e
   counted-is = ap (λ (w : Windows). cond (not (eqb (w .current) 0) && ltb 0 (w .events)) 1 0) (h .windows)
 
-  removing-same : (w : ℕ) (cs : List Posting) → Same (λ q e′. Stored ls (withStore p q) e′) (removing s (p .card) w cs) (removingLists (blocks s) (entryCount s) e w cs)
+  removing-same : (w : ℕ) (cs : List Posting) → Same (λ q e′. Stored ls (withStore p q) e′) (removing s (p .card) w cs) (removingLists (blocks s) (registerSize s) e w cs)
   unfolding removing removingLists
   removing-same w cs =
       refusing R _ _ 5 _ _ (ap (λ (x : Windows). not (eqb (x .current) 0) && eqb w (x .current)) (h .windows)) λ _.
@@ -164,14 +164,14 @@ module _ {ls : Lengths} (p : Probe) (e : Lists) (k : Stored ls p e) (fine : Fine
       names-same : (a : Account) → removedLists e cs a .names ≡ e .names
       names-same a = unfold removedLists in refl
 
-  pub remove-same : (w : ℕ) → callRule e (Remove w) ≡ true → Same (Stored ls) (probeCall p (Remove w)) (pursued (blocks s) (entryCount s) e (Remove w))
+  pub remove-same : (w : ℕ) → callRule e (Remove w) ≡ true → Same (Stored ls) (probeCall p (Remove w)) (pursued (blocks s) (registerSize s) e (Remove w))
   unfolding probeCall removeOf pursued
   remove-same w rule =
       same-carry R (Stored ls) (withStore p) (λ q e′ r. r)
       (passing R _ 1 _ _ (no-first p e k fine)
       (passing R _ 2 _ _ (no-second p e k fine)
       (passing R _ 3 _ _ (ap not (window-same w (unfold callRule in rule)))
-      (subst (λ l. Same R (removing s (p .card) w (countsOf w l)) (removingLists (blocks s) (entryCount s) e w (countsOf w (storedIn (e .account))))) (sym stored-same)
+      (subst (λ l. Same R (removing s (p .card) w (countsOf w l)) (removingLists (blocks s) (registerSize s) e w (countsOf w (storedIn (e .account))))) (sym stored-same)
       (removing-same w (countsOf w (storedIn (e .account))))))))
     where
       R : Store → Lists → Type 0

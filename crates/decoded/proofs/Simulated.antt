@@ -19,7 +19,7 @@ use Rattle.answers.specs.Answers.{Outcome, answerOf, stateOf}
 use Rattle.words.specs.Words.{words}
 use Rattle.state.specs.declared.Lengths.{Lengths}
 use Rattle.state.specs.declared.Windows.{Windows}
-use Rattle.state.specs.Views.{blocks, entryCount}
+use Rattle.state.specs.Views.{blocks, registerSize}
 use Rattle.state.specs.Probe.{Probe}
 use Rattle.partitions.specs.Reading.{stored}
 use Rattle.partitions.specs.Formed.{listRule, inRange, sumsInRange, Writable}
@@ -86,7 +86,7 @@ module _ (ls : Lengths) where
     })
 
     -- each call, where refusals 1 and 3 have no cause
-    pursued-same : (p : Probe) (e : Lists) → Stored ls p e → Fine (blocks (p .state)) e → (c : Call) → callRule e c ≡ true → Same (Stored ls) (probeCall p c) (pursued (blocks (p .state)) (entryCount (p .state)) e c)
+    pursued-same : (p : Probe) (e : Lists) → Stored ls p e → Fine (blocks (p .state)) e → (c : Call) → callRule e c ≡ true → Same (Stored ls) (probeCall p c) (pursued (blocks (p .state)) (registerSize (p .state)) e c)
     pursued-same p e k f Open r = open-same p e k f
     pursued-same p e k f (Event x) r = event-same p e k f x
     pursued-same p e k f Close r = close-same p e k f

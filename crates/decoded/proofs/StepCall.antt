@@ -17,7 +17,7 @@ use Rattle.postings.specs.Merge.{pairs, nonzero}
 use Rattle.state.specs.declared.Lengths.{Lengths}
 use Rattle.state.specs.declared.Partition.{Partition}
 use Rattle.state.specs.declared.State.{State}
-use Rattle.state.specs.Views.{noMerge, blocks, entryCount, finished, partitionsOf, withPartitions, withTaken, withMerge}
+use Rattle.state.specs.Views.{noMerge, blocks, registerSize, finished, partitionsOf, withPartitions, withTaken, withMerge}
 use Rattle.state.specs.Levels.{oldest, replaced}
 use Rattle.state.specs.Probe.{Store, Probe}
 use Rattle.state.proofs.Kept.{lengths-kept}
@@ -176,7 +176,7 @@ module _ (s : State) (W : List ℕ) (e : Lists) (h : Holds s W e) (fine : Fine (
 
 -- ---- the call
 
-pub step-same : {ls : Lengths} (p : Probe) (e : Lists) → Stored ls p e → Fine (blocks (p .state)) e → callRule e Step ≡ true → Same (Stored ls) (probeCall p Step) (pursued (blocks (p .state)) (entryCount (p .state)) e Step)
+pub step-same : {ls : Lengths} (p : Probe) (e : Lists) → Stored ls p e → Fine (blocks (p .state)) e → callRule e Step ≡ true → Same (Stored ls) (probeCall p Step) (pursued (blocks (p .state)) (registerSize (p .state)) e Step)
 unfolding probeCall stepOf pursued stepping accountStepping
 step-same {ls} p e k fine rule =
     same-carry R (Stored ls) (withStore p) (λ q e′ r. r)

@@ -18,7 +18,7 @@ use Rattle.answers.specs.Answers.{done, number, Outcome, leave}
 use Rattle.state.specs.declared.Lengths.{Lengths}
 use Rattle.state.specs.declared.Windows.{Windows}
 use Rattle.state.specs.declared.State.{State}
-use Rattle.state.specs.Views.{blocks, entryCount, listed, buffered, listedOf, bufferOf}
+use Rattle.state.specs.Views.{blocks, registerSize, listed, buffered, listedOf, bufferOf}
 use Rattle.state.specs.Rules.{stateRule}
 use Rattle.state.specs.Probe.{Store, Probe, sameLength}
 use Rattle.state.proofs.Forms.{held}
@@ -96,7 +96,7 @@ module _ {ls : Lengths} (p : Probe) (e : Lists) (k : Stored ls p e) (fine : Fine
       holds-fronted s W e (openedLists e) h (record { last = suc (s .windows .last); live = s .windows .live; current = suc (s .windows .last); events = 0 }) (s .listed) (s .buffer)
       (ap (λ (w : Windows). record { last = suc (w .last); live = w .live; current = suc (w .last); events = 0 }) (h .windows)) (h .listed) (h .buffer) refl refl
 
-  pub open-same : Same (Stored ls) (probeCall p Open) (pursued (blocks s) (entryCount s) e Open)
+  pub open-same : Same (Stored ls) (probeCall p Open) (pursued (blocks s) (registerSize s) e Open)
   unfolding probeCall openOf pursued
   open-same =
       same-carry (λ t e′. Stored ls (withState p t) e′) (Stored ls) (withState p) (λ t e′ r. r)
@@ -118,7 +118,7 @@ module _ {ls : Lengths} (p : Probe) (e : Lists) (k : Stored ls p e) (fine : Fine
       (record { last = cond (eqb (s .windows .events) 0) (s .windows .last - 1) (s .windows .last); live = s .windows .live; current = 0; events = 0 }) (listedOf []) (s .buffer)
       (ap (λ (w : Windows). record { last = cond (eqb (w .events) 0) (w .last - 1) (w .last); live = w .live; current = 0; events = 0 }) (h .windows)) refl (h .buffer) refl refl
 
-  pub close-same : Same (Stored ls) (probeCall p Close) (pursued (blocks s) (entryCount s) e Close)
+  pub close-same : Same (Stored ls) (probeCall p Close) (pursued (blocks s) (registerSize s) e Close)
   unfolding probeCall closeOf pursued
   close-same =
       same-carry (λ t e′. Stored ls (withState p t) e′) (Stored ls) (withState p) (λ t e′ r. r)
@@ -131,7 +131,7 @@ module _ {ls : Lengths} (p : Probe) (e : Lists) (k : Stored ls p e) (fine : Fine
 
   -- ---- flush
 
-  pub flush-call-same : Same (Stored ls) (probeCall p Flush) (pursued (blocks s) (entryCount s) e Flush)
+  pub flush-call-same : Same (Stored ls) (probeCall p Flush) (pursued (blocks s) (registerSize s) e Flush)
   unfolding probeCall flushOf pursued
   flush-call-same =
       same-carry (λ q e′. Stored ls (withStore p q) e′) (Stored ls) (withStore p) (λ q e′ r. r)
@@ -184,15 +184,15 @@ module _ {ls : Lengths} (p : Probe) (e : Lists) (k : Stored ls p e) (fine : Fine
       i = numberOf (names (p .register)) n
 
   -- the register with the identifier
-  module _ (n : Name) (good : badLength n ≡ false) (eight : (isNewIn e n && leb (entryCount s) (length (e .names))) ≡ false) where
+  module _ (n : Name) (good : badLength n ≡ false) (eight : (isNewIn e n && leb (registerSize s) (length (e .names))) ≡ false) where
     abbrev noted : List ℕ
     noted = cond (isNew (p .register) n) (added (p .register) n) (p .register)
 
     -- a new identifier finds an unused entry
     room : isNew (p .register) n ≡ true → 65 * length (names (p .register)) + 65 ≤ length (p .register)
     room y =
-        let low : leb (entryCount s) (length (e .names)) ≡ false = sym (ap (λ t. t && leb (entryCount s) (length (e .names))) (sym (new-same n) ∙ y)) ∙ eight in
-        omega (arith, leb-false (entryCount s) (length (e .names)) low, ap length (k .names), k .register, lengths-kept (s .lengths) (h .lengths) .register)
+        let low : leb (registerSize s) (length (e .names)) ≡ false = sym (ap (λ t. t && leb (registerSize s) (length (e .names))) (sym (new-same n) ∙ y)) ∙ eight in
+        omega (arith, leb-false (registerSize s) (length (e .names)) low, ap length (k .names), k .register, lengths-kept (s .lengths) (h .lengths) .register)
 
     noted-names : names noted ≡ cond (isNewIn e n) (e .names ++ (n ∷ [])) (e .names)
     noted-names =
@@ -231,7 +231,7 @@ module _ {ls : Lengths} (p : Probe) (e : Lists) (k : Stored ls p e) (fine : Fine
         named : cond (isNewIn e n) (e .names ++ (n ∷ [])) (e .names) ≡ countedLists e n a .names
         named = unfold countedLists in refl
 
-  pub event-same : (n : Name) → Same (Stored ls) (probeCall p (Event n)) (pursued (blocks s) (entryCount s) e (Event n))
+  pub event-same : (n : Name) → Same (Stored ls) (probeCall p (Event n)) (pursued (blocks s) (registerSize s) e (Event n))
   unfolding probeCall eventOf pursued
   event-same n =
       passing (Stored ls) _ 1 _ _ no-first
@@ -240,7 +240,7 @@ module _ {ls : Lengths} (p : Probe) (e : Lists) (k : Stored ls p e) (fine : Fine
       (refusing (Stored ls) _ _ 4 _ _ refl λ four.
       refusing (Stored ls) _ _ 5 _ _ (ap not opened-is) λ _.
       refusing (Stored ls) _ _ 6 _ _ (ap (λ (w : Windows). leb 32767 (w .events)) (h .windows)) λ _.
-      refusing (Stored ls) _ _ 8 _ _ (ap₂ (λ t (ms : List Name). t && leb (entryCount s) (length ms)) (new-same n) (k .names)) λ eight.
+      refusing (Stored ls) _ _ 8 _ _ (ap₂ (λ t (ms : List Name). t && leb (registerSize s) (length ms)) (new-same n) (k .names)) λ eight.
       refusing (Stored ls) _ _ 9 _ _ (ap₂ (λ (i : ℕ) (l : List ℕ). not (elem i l) && leb 64 (length l)) (number-is n) listed-is) λ _.
       subst (λ t. Same (Stored ls) (flushingIf t s (p .card) writes) (accountFlushingIf (blocks s) (overflows (onceOf e n) (e .account)) (e .account) lists)) (sym (flushes-same n))
       (flushIf-same s (p .card) e h fine (Stored ls) writes lists (overflows (onceOf e n) (e .account))

@@ -13,7 +13,7 @@ use Rattle.words.specs.Words.{words}
 use Rattle.answers.specs.Answers.{Answer, done, number, hits, refused, Outcome, leave, refuseIf, choose, answerOf, stateOf}
 use Rattle.answers.specs.declared.Hit.{Hit}
 use Rattle.state.specs.declared.State.{State}
-use Rattle.state.specs.Views.{entryCount}
+use Rattle.state.specs.Views.{registerSize}
 use Rattle.state.specs.Probe.{Probe, sameLength}
 use Rattle.identifiers.specs.Names.{Name, badLength, among}
 use Rattle.identifiers.specs.Register.{names, registerRule, added}
@@ -91,13 +91,13 @@ event-where p n =
     }
   where
     room : not (sameLength (p .card) (p .state .lengths .card) && sameLength (p .register) (p .state .lengths .register)) ≡ false
-        → (isNew (p .register) n && leb (entryCount (p .state)) (length (names (p .register)))) ≡ false
+        → (isNew (p .register) n && leb (registerSize (p .state)) (length (names (p .register)))) ≡ false
         → isNew (p .register) n ≡ true → 65 * length (names (p .register)) + 65 ≤ length (p .register)
     room two eight y =
-        let low : leb (entryCount (p .state)) (length (names (p .register))) ≡ false = sym (ap (λ t. t && leb (entryCount (p .state)) (length (names (p .register)))) y) ∙ eight in
+        let low : leb (registerSize (p .state)) (length (names (p .register))) ≡ false = sym (ap (λ t. t && leb (registerSize (p .state)) (length (names (p .register)))) y) ∙ eight in
         let long : length (p .register) ≡ p .state .lengths .register =
         eqb-true _ _ (and-right (sameLength (p .card) (p .state .lengths .card)) _ (not-false _ two)) in
-        omega (arith, leb-false (entryCount (p .state)) (length (names (p .register))) low, long)
+        omega (arith, leb-false (registerSize (p .state)) (length (names (p .register))) low, long)
 
 pub event-noted : (p : Probe) (n : Name) → answerOf (eventOf p n) ≡ done → Noted p n (stateOf p (eventOf p n))
 event-noted p n e = event-where p n .holds e

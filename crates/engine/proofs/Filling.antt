@@ -1,5 +1,5 @@
 -- A lent list that is filled with hits, and that a query whose hits fill it gives what the query is.
-use mathlib.Core.List.{List, [], _∷_, _++_}
+use mathlib.Core.List.{List, _++_}
 use mathlib.Core.Path.{_≡_, refl, sym, ap, _∙_, subst}
 use Prim.Native.Nat.{ℕ, _+_, _-_, _≤_, _<_}
 use native.Mathlib.Omega.{arith}
@@ -7,7 +7,7 @@ use mathlib.Core.List.{append-assoc}
 use lib.ListN.{length, getD, set, take, drop, replicate, length-append, length-replicate, replicate-append-replicate}
 use lib.Seq.{length-take-le, length-front, take-at, take-append-seam, take-append-le}
 use Rattle.lists.proofs.Padding.{blend-more, drop-replicate}
-use Rattle.answers.specs.Answers.{Answer, Outcome, hits, answerOf, stateOf}
+use Rattle.answers.specs.Answers.{hits}
 use Rattle.answers.specs.Numbers.{foundAs}
 use Rattle.answers.specs.declared.Found.{Found}
 use Rattle.answers.specs.declared.Found.the-variants as found

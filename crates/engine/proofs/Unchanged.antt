@@ -1,14 +1,12 @@
 -- Refused means unchanged, read off what each public function promises: where its answer is a refusal, the state and every buffer lent to it are as they were.
 use mathlib.Core.List.{List, []}
-use mathlib.Core.Path.{_≡_, refl, sym, ap, _∙_}
+use mathlib.Core.Path.{_≡_, sym, ap, _∙_}
 use Prim.Native.Nat.{ℕ}
-use Rattle.answers.specs.Answers.{Answer, refused, Outcome, answerOf, stateOf}
+use Rattle.answers.specs.Answers.{Answer, refused, Outcome}
 use Rattle.answers.specs.Numbers.{refusalNumber, replied, openedAs, foundAs}
 use Rattle.answers.specs.Unchanged.{Unchanged}
 use Rattle.answers.specs.declared.Refusal.{Refusal}
-use Rattle.answers.specs.declared.Reply.{Reply}
 use Rattle.answers.specs.declared.Reply.the-variants as reply
-use Rattle.answers.specs.declared.Opened.{Opened}
 use Rattle.answers.specs.declared.Opened.the-variants as opened
 use Rattle.answers.specs.declared.Found.{Found}
 use Rattle.answers.specs.declared.Found.the-variants as found
@@ -23,7 +21,7 @@ use Rattle.windows.specs.declared.Opening.{Opening}
 use Rattle.windows.specs.declared.Replied.{Replied}
 use Rattle.windows.proofs.Refused.{start-unchanged, open-unchanged, close-unchanged, event-unchanged, flush-unchanged}
 use Rattle.queries.specs.declared.Top.{Top}
-use Rattle.queries.specs.Finds.{hitsIn, answered, Finds}
+use Rattle.queries.specs.Finds.{hitsIn, Finds}
 use Rattle.queries.specs.Query.{queryOf}
 use Rattle.queries.specs.Top.{topOf}
 use Rattle.queries.proofs.Refused.{query-unchanged}

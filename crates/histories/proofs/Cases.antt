@@ -19,12 +19,12 @@ use Rattle.accounts.specs.Account.{emptyAccount, takenFrom, blocksOf, blocksIn,
 use Rattle.accounts.specs.Ledger.{emptyLedger, live, existing, opens, closes, counts, removes}
 use Rattle.accounts.specs.Books.{takenBack, books, expected}
 use Rattle.histories.specs.Statement.{SameAnswers}
-use Rattle.histories.specs.Table.{Case, Tf, Idf, Sized, Registered, Numbered, History, onBooks, onBytes, latest, counted, table, TableHolds}
+use Rattle.histories.specs.Table.{Case, Tf, Idf, Sized, Registered, Numbered, History, onBooks, onBytes, latest, worked, table, TableHolds}
 use Rattle.histories.proofs.Theorem.{same-answers}
 
 -- on ledger and account
 pub table-expected : TableHolds onBooks
-unfolding TableHolds counted table onBooks down rising largest tfWeight idfWeight nonzero pairs refuseIf choose badLength numbersOf names registerRule added lengthOf frequency score matching ranked badQuery run emptyAccount takenFrom blocksOf blocksIn inputsOf merged blocksAhead completed furthered steppedAccount flushedAccount overflows exceeds addedTo stepping flushing flushingIf emptyLedger live existing opens closes counts removes takenBack books expected
+unfolding TableHolds worked table onBooks down rising largest tfWeight idfWeight nonzero pairs refuseIf choose badLength numbersOf names registerRule added lengthOf frequency score matching ranked badQuery run emptyAccount takenFrom blocksOf blocksIn inputsOf merged blocksAhead completed furthered steppedAccount flushedAccount overflows exceeds addedTo stepping flushing flushingIf emptyLedger live existing opens closes counts removes takenBack books expected
 table-expected = refl
 
 -- the card of a case has a length within the limits
@@ -47,8 +47,8 @@ same-on-bytes : (n : ℕ) → cardLength (4096 * n) ≡ true → (cs : List Call
 unfolding onBooks onBytes
 same-on-bytes n e cs = unfold SameAnswers in same-answers (4096 * n) 4160 e register-fits cs
 
-same-case : (c : Case) → fits c ≡ true → counted onBytes c ≡ counted onBooks c
-unfolding counted fits
+same-case : (c : Case) → fits c ≡ true → worked onBytes c ≡ worked onBooks c
+unfolding worked fits
 same-case (Tf f a) e = refl
 same-case (Idf n f b) e = refl
 same-case (Sized n bad) e = refl
@@ -56,7 +56,7 @@ same-case (Registered ns formed) e = refl
 same-case (Numbered ns n i) e = refl
 same-case (History n cs told) e = ap (λ (all : List Answer). History n cs (latest told all)) (same-on-bytes n e cs)
 
-carried : (l : List Case) → every fits l ≡ true → map (counted onBytes) l ≡ map (counted onBooks) l
+carried : (l : List Case) → every fits l ≡ true → map (worked onBytes) l ≡ map (worked onBooks) l
 carried [] e = refl
 carried (c ∷ l) e = ap₂ {C = List Case} (λ d m. d ∷ m) (same-case c (and-left _ _ e)) (carried l (and-right (fits c) _ e))
 

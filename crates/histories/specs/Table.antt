@@ -58,8 +58,8 @@ abbrev pub withNames : List ℕ → List Name → List ℕ
 withNames r [] = r
 withNames r (n ∷ ns) = withNames (added r n) ns
 
-abbrev pub registered : List Name → List ℕ
-registered ns = withNames (replicate 195 0) ns
+abbrev pub registerOf : List Name → List ℕ
+registerOf ns = withNames (replicate 195 0) ns
 
 -- a worked case, and what is told of it
 pub data Case : Type 0 where
@@ -88,13 +88,13 @@ unfoldable pub onBytes : ℕ → List Call → List Answer
 onBytes n cs = answers (4096 * n) 4160 cs
 
 -- a case with what the definitions give in the place of what is told, where histories are answered so
-unfoldable pub counted : (ℕ → List Call → List Answer) → Case → Case
-counted answered (Tf f a) = Tf f (tfWeight f)
-counted answered (Idf n f b) = Idf n f (idfWeight n f)
-counted answered (Sized n bad) = Sized n (badLength (As n))
-counted answered (Registered ns formed) = Registered ns (registerRule (registered ns))
-counted answered (Numbered ns n i) = Numbered ns n (numberOf (names (registered ns)) n)
-counted answered (History n cs told) = History n cs (latest told (answered n cs))
+unfoldable pub worked : (ℕ → List Call → List Answer) → Case → Case
+worked answered (Tf f a) = Tf f (tfWeight f)
+worked answered (Idf n f b) = Idf n f (idfWeight n f)
+worked answered (Sized n bad) = Sized n (badLength (As n))
+worked answered (Registered ns formed) = Registered ns (registerRule (registerOf ns))
+worked answered (Numbered ns n i) = Numbered ns n (numberOf (names (registerOf ns)) n)
+worked answered (History n cs told) = History n cs (latest told (answered n cs))
 
 -- the cases, those that the document marks P first
 unfoldable pub table : List Case
@@ -108,7 +108,7 @@ table =
     ∷ History 4 (Open ∷ Event (As 64) ∷ Event (As 65) ∷ Event [] ∷ []) (number 1 ∷ done ∷ refused 4 ∷ refused 4 ∷ [])
     -- two identifiers equal in their first 16 bytes get two numbers, and these bytes alone would get a third
     ∷ Registered (AsB ∷ AsC ∷ []) true ∷ Numbered (AsB ∷ AsC ∷ []) AsB 0 ∷ Numbered (AsB ∷ AsC ∷ []) AsC 1 ∷ Numbered (AsB ∷ AsC ∷ []) (As 16) 2
-    -- so each is counted, found and taken up apart from the other
+    -- so each is worked, found and taken up apart from the other
     ∷ History 4 (Open ∷ Event AsB ∷ Event AsB ∷ Close ∷ Open ∷ Event AsC ∷ Close ∷ Query 32 (AsB ∷ []) ∷ Query 32 (AsC ∷ []) ∷ Query 32 (As 16 ∷ []) ∷ [])
     (hits (hit 1 24 ∷ []) 1 ∷ hits (hit 2 16 ∷ []) 1 ∷ hits [] 0 ∷ [])
     -- the query gives 1 (24), 3 (8), 2 (8), with 4 postings taken
@@ -117,7 +117,7 @@ table =
     ∷ History 4 (three ++ (Remove 1 ∷ asked ∷ [])) (done ∷ hits (hit 3 16 ∷ hit 2 16 ∷ []) 2 ∷ [])
     -- with a flush before the removal: the same hits, 6 taken
     ∷ History 4 (three ++ (Flush ∷ Remove 1 ∷ asked ∷ [])) (done ∷ done ∷ hits (hit 3 16 ∷ hit 2 16 ∷ []) 6 ∷ [])
-    -- DOOR counted 2 before a flush and 1 after, in one window: count 3, which weighs 8, and F adds 1, which of N = 2 weighs 4
+    -- DOOR worked 2 before a flush and 1 after, in one window: count 3, which weighs 8, and F adds 1, which of N = 2 weighs 4
     ∷ History 4 (Open ∷ Event TILT ∷ Close ∷ Open ∷ Event DOOR ∷ Event DOOR ∷ Flush ∷ Event DOOR ∷ Close ∷ Query 32 (DOOR ∷ []) ∷ []) (hits (hit 2 32 ∷ []) 2 ∷ [])
     -- a card of 4 blocks: two flushes pass, a third gives 11
     ∷ History 4 (Open ∷ Event DOOR ∷ Flush ∷ Event DOOR ∷ Flush ∷ Event DOOR ∷ Flush ∷ []) (done ∷ done ∷ done ∷ done ∷ done ∷ refused 11 ∷ [])
@@ -131,4 +131,4 @@ table =
 
 -- the table holds: in every case the definitions give what is told
 unfoldable pub TableHolds : (ℕ → List Call → List Answer) → Type 0
-TableHolds answered = map (counted answered) table ≡ table
+TableHolds answered = map (worked answered) table ≡ table

@@ -1,28 +1,25 @@
 -- Reading an image and writing a state are each other's inverse.
-use mathlib.Core.Bool.{Bool, true, false}
+use mathlib.Core.Bool.{true}
 use mathlib.Core.List.{List, [], _∷_, _++_, map, map-id, append-assoc}
-use mathlib.Core.Path.{_≡_, refl, sym, ap, ap₂, _∙_}
+use mathlib.Core.Path.{_≡_, refl, sym, ap, _∙_}
 use Prim.Native.Nat.{ℕ, zero, suc, _+_, _-_, _*_, _/_, _%_, _<_, _≤_}
 use native.Mathlib.Omega.{arith}
 use lib.Dec.{ltb}
-use lib.IntN.{ℤ}
 use lib.ListN.{length, getD, length-append, length-map, List·getD-append}
 use lib.Seq.{getD-append-add, ext-getD}
 use mir.Syntax.{w16}
 use mir.Val.{SFits}
 use borrow.Author.Tests.{ltb-true, ltb-false}
-use Rattle.lists.specs.Lists.{joined, rising, upTo}
-use Rattle.lists.specs.All.{AllOf}
+use Rattle.lists.specs.Lists.{joined, upTo}
 use Rattle.lists.proofs.Bools.{by-test}
 use Rattle.lists.proofs.Ranges.{length-rising, upTo-at, map-upTo, joined-at, length-joined}
-use Rattle.lists.proofs.Arrays.{of-at}
 use Rattle.postings.specs.declared.Posting.{Posting}
 use Rattle.state.specs.declared.Partition.{Partition}
 use Rattle.state.specs.declared.State.{State}
 use Rattle.state.specs.Views.{noPosting, noPartition}
 use Rattle.words.specs.Words.{words, bytes, Below}
 use Rattle.words.proofs.Views.{bytes-words}
-use Rattle.images.specs.Images.{raised, lowered, postingWords, recordWords, numberWords, listedWords, bufferWords, partitionsWords, lastWords, imageOf, postingIn, recordIn, stateIn, imageRule}
+use Rattle.images.specs.Images.{postingWords, recordWords, numberWords, bufferWords, partitionsWords, lastWords, imageOf, postingIn, recordIn, stateIn, imageRule}
 use Rattle.images.proofs.Signs.{lowered-raised, raised-lowered}
 use Rattle.images.proofs.Fits.{image-length, image-words, image-below, narrow-front}
 use Rattle.images.proofs.Whole.{Sized, length-image}

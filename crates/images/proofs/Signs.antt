@@ -1,13 +1,13 @@
 -- A signed count, and the same raised by 32,768.
 use mathlib.Core.Bool.{true, false}
-use mathlib.Core.Path.{_≡_, refl, sym, ap, _∙_}
+use mathlib.Core.Path.{_≡_, refl, ap, _∙_}
 use Prim.Native.Nat.{ℕ, zero, suc, _+_, _-_, _<_, _≤_}
 use native.Mathlib.Omega.{arith}
-use lib.Dec.{T, leb}
-use lib.IntN.{ℤ, pos, negsuc, negℤ, natAbs, _+ℤ_, _-ℤ_, +ℤ-idl}
-use lib.Signed.{ltZ, nonNeg}
+use lib.Dec.{leb}
+use lib.IntN.{ℤ, pos, negsuc, negℤ, _+ℤ_, _-ℤ_, +ℤ-idl}
+use lib.Signed.{ltZ}
 use mir.Syntax.{w16}
-use mir.Val.{SFits, Fits}
+use mir.Val.{SFits}
 use mir.Facts.{sfits-lit}
 use borrow.Author.Tests.{ltb-true, leb-true, leb-false, le-leb, lt-leb}
 use Rattle.lists.proofs.Bools.{by-test}

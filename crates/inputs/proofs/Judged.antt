@@ -22,7 +22,7 @@ use Rattle.scans.specs.Heads.{Kept, views}
 use Rattle.scans.proofs.Keys.{lists-rule}
 use Rattle.scans.proofs.Merged.{pairs-bound, pairs-keyed}
 use Rattle.inputs.specs.declared.Totals.{Totals}
-use Rattle.inputs.specs.Judging.{allInRange, inputsFormed, totalsOf, countsOf, judgedOf, Tally, untold, broken, resumed, Told}
+use Rattle.inputs.specs.Judging.{allInRange, inputsFormed, totalsOf, countsById, judgedOf, Tally, untold, broken, resumed, Told}
 use Rattle.inputs.specs.Ahead.{postingLists, pairsAhead, Ready, Formed}
 use Rattle.inputs.proofs.Views.{items-lists, lists-keyed}
 use Rattle.inputs.proofs.Tallies.{toldOf, tallied-all}
@@ -68,7 +68,7 @@ module _ (W : List ℕ) (small : Below 4294967296 W) (ps : List Partition) (n : 
     unfolding judgedOf
     told-totals = t .totals ∙ ap (λ (x : Tally). x .totals) walked ∙ by-test (inputsFormed W ps) (λ y. rw y) (λ n. rw n)
 
-    pub told-counts : r .fine ≡ true → ns ≡ countsOf (pairs (inPartitions W ps))
+    pub told-counts : r .fine ≡ true → ns ≡ countsById (pairs (inPartitions W ps))
     told-counts f = t .counts f ∙ ap (λ (x : Tally). x .counts) walked ∙ rw (sym (judged-fine W ps) ∙ ap (λ (x : Totals). x .fine) (sym told-totals) ∙ f)
 
   -- heads of well formed inputs

@@ -12,7 +12,7 @@ use Rattle.lists.proofs.Tests.{keep-append}
 use Rattle.postings.specs.declared.Posting.{Posting}
 use Rattle.postings.specs.Merge.{isZero, isCounted, nonzero}
 use Rattle.partitions.proofs.Counts.{numbers-more, numbers-none, terms-more}
-use Rattle.inputs.specs.Judging.{Tally, totalsOf, countsOf, totalsMore, countsMore, tallyOf, tallied, untold}
+use Rattle.inputs.specs.Judging.{Tally, totalsOf, countsById, totalsMore, countsMore, tallyOf, tallied, untold}
 
 -- ---- a pair more
 
@@ -22,10 +22,10 @@ nonzero-more l p = keep-append isCounted l (p ∷ [])
 
 -- what is told of all pairs of a list
 abbrev pub toldOf : List Posting → Tally
-toldOf l = record { totals = totalsOf l; counts = countsOf l }
+toldOf l = record { totals = totalsOf l; counts = countsById l }
 
 tally-more : (l : List Posting) (p : Posting) → p .id ≤ 1023 → toldOf (l ++ (p ∷ [])) ≡ tallyOf (toldOf l) p
-unfolding totalsOf countsOf totalsMore countsMore
+unfolding totalsOf countsById totalsMore countsMore
 tally-more l p h =
     let e = length-append l (p ∷ []) in
     by-test (isZero (p .count))
@@ -45,7 +45,7 @@ tallied-from d (p ∷ l) e =
     ∙ ap toldOf (append-assoc d (p ∷ []) l)
 
 told-none : toldOf [] ≡ untold
-unfolding totalsOf countsOf nonzero
+unfolding totalsOf countsById nonzero
 told-none = rw numbers-none
 
 pub tallied-all : (l : List Posting) → every (λ p. leb (p .id) 1023) l ≡ true → tallied untold l ≡ toldOf l

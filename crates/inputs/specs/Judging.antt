@@ -30,8 +30,8 @@ unfoldable pub totalsOf : List Posting → Totals
 totalsOf ps = record { fine = true; pairs = length ps; postings = length (nonzero ps); terms = termCount (nonzero ps) }
 
 -- and how many of them are under each identifier
-unfoldable pub countsOf : List Posting → List ℕ
-countsOf ps = map (λ i. length (under i (nonzero ps))) (upTo 1024)
+unfoldable pub countsById : List Posting → List ℕ
+countsById ps = map (λ i. length (under i (nonzero ps))) (upTo 1024)
 
 -- totals of zeros
 abbrev pub zeros : Bool → Totals

@@ -18,7 +18,7 @@ ghost use Rattle.partitions.specs.Reading.{inPartitions};
 ghost use Rattle.partitions.specs.Terms.{Readable};
 ghost use Rattle.scans.specs.Keys.{postingOf};
 ghost use Rattle.scans.specs.Heads.{views};
-ghost use Rattle.inputs.specs.Judging.{inputsFormed, judgedOf, countsOf, zeros as zerosOf, Small, risen as risenOf, totalsMore, countsMore, untold, resumed, Told};
+ghost use Rattle.inputs.specs.Judging.{inputsFormed, judgedOf, countsById, zeros as zerosOf, Small, risen as risenOf, totalsMore, countsMore, untold, resumed, Told};
 ghost use Rattle.inputs.specs.Ahead.{pairsAhead, Ready, Formed, outWords, Matched, batched};
 
 // What is told of a merge's inputs: whether they are well formed, how many pairs they have, how many of these have a sum other than 0, and of how many
@@ -150,7 +150,7 @@ pub fn judge(card: &[u8], ps: Partitions, heads: &mut [u32], counts: &mut [u16])
     requires { ⌜ (ps .used ≤ 51) × AllOf (Readable (wordsOf (now card))) (finished ps) × (10 * ps .used ≤ length (now heads)) × (length (now heads) ≤ 65536)
         × (now counts ≡ replicate 1024 0) ⌝ }
     ensures { λ r. ⌜ (r ≡ judgedOf (wordsOf (now (card .entry))) (finished ps))
-        × (r .fine ≡ true → now (counts .exit) ≡ countsOf (pairsOf (inPartitions (wordsOf (now (card .entry))) (finished ps))))
+        × (r .fine ≡ true → now (counts .exit) ≡ countsById (pairsOf (inPartitions (wordsOf (now (card .entry))) (finished ps))))
         × Small r ⌝ }
 {
     let n = ps.used as usize;

@@ -1,6 +1,6 @@
 -- The pairs by a test of every key are the pairs by insertion.
-use mathlib.Core.Bool.{Bool, true, false, cond, _&&_, _||_, or-assoc, or-comm, or-self, or-false}
-use mathlib.Core.List.{List, [], _∷_, map}
+use mathlib.Core.Bool.{Bool, true, false, cond, _||_, or-assoc}
+use mathlib.Core.List.{List, [], _∷_}
 use mathlib.Core.Path.{_≡_, refl, sym, ap, _∙_}
 use Prim.Native.Nat.{ℕ, zero, suc, _<_, _≤_}
 use native.Mathlib.Omega.{arith}

@@ -1,14 +1,13 @@
 -- The turns of the two loops over an array of readers, of whatever type: the greatest key at any head, and what is taken under a key.
-use mathlib.Core.Bool.{Bool, true, false, cond, _&&_, and-assoc, and-true}
+use mathlib.Core.Bool.{Bool, true, _&&_, and-assoc, and-true}
 use mathlib.Core.List.{List, [], _∷_, map}
-use mathlib.Core.Path.{_≡_, refl, sym, ap, _∙_}
-use Prim.Native.Nat.{ℕ, zero, suc, _+_, _-_, _*_, _<_, _≤_}
+use mathlib.Core.Path.{_≡_, refl, sym, _∙_}
+use Prim.Native.Nat.{ℕ, _+_, _-_, _*_, _<_, _≤_}
 use native.Mathlib.Numerals.{add-one}
 use native.Mathlib.Omega.{arith}
-use lib.Dec.{ltb}
 use lib.IntN.{ℤ, pos, _+ℤ_, +ℤ-assoc, +ℤ-idl, +ℤ-idr}
 use lib.Signed.{mag}
-use lib.ListN.{length, getD, take, drop, set, drop-of-length-le, length-map}
+use lib.ListN.{length, getD, take, drop, set, drop-of-length-le}
 use lib.Seq.{drop-cons, getD-take, length-take-le, take-set-lt}
 use borrow.Author.Tests.{lt-ltb, le-ltb}
 use Rattle.keyed.specs.Keys.{Item, reach, larger, topFrom, rest, headVal, headFine, headVals, headsFine}

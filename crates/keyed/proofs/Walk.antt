@@ -1,5 +1,5 @@
 -- The walk by falling key computes the definition: the laws of one step.
-use mathlib.Core.Bool.{Bool, true, false, cond, _&&_, _||_}
+use mathlib.Core.Bool.{true, false, _&&_, _||_}
 use mathlib.Core.List.{List, [], _∷_, map}
 use mathlib.Core.Logic.{_⊎_, inl, inr, ⊎-elim}
 use mathlib.Core.Path.{_≡_, refl, sym, ap, _∙_}
@@ -8,9 +8,9 @@ use native.Mathlib.Nat.{eq-or-lt-of-le}
 use native.Mathlib.Omega.{arith}
 use lib.Dec.{ltb, eqb}
 use lib.IntN.{ℤ, pos, _+ℤ_, +ℤ-idl, +ℤ-idr, +ℤ-assoc, +ℤ-comm}
-use borrow.Author.Tests.{ltb-true, ltb-false, eqb-true, eqb-false, lt-ltb, le-ltb, eq-eqb, ne-eqb}
+use borrow.Author.Tests.{ltb-true, ltb-false, eqb-true, eqb-false, lt-ltb, eq-eqb, ne-eqb}
 use Rattle.lists.proofs.Bools.{by-test, and-left, and-right, and-swap, or-right}
-use Rattle.keyed.specs.Keys.{Item, falls, allFall, sumOf, sums, heldIn, held, overKeys, Pair, addPair, keyPairs, reach, larger, topFrom, rest, headVal, headFine, headVals, headsFine}
+use Rattle.keyed.specs.Keys.{Item, falls, allFall, sumOf, sums, heldIn, held, overKeys, addPair, keyPairs, reach, larger, topFrom, rest, headVal, headFine, headVals, headsFine}
 
 sum-swap : (a b c d : ℤ) → (a +ℤ b) +ℤ (c +ℤ d) ≡ (a +ℤ c) +ℤ (b +ℤ d)
 sum-swap a b c d =

@@ -9,7 +9,7 @@ use native.Mathlib.Omega.{arith}
 use lib.ListN.{length, getD, take, drop, set, replicate, length-append, length-drop, length-replicate, length-set, take-append-drop}
 use lib.Seq.{drop-append-add, take-append-le, drop-append-seam, length-take-le, take-suc-set, drop-set-lt, take-take, drop-drop, getD-drop, getD-append-add, take-suc, drop-cons, set-at, set-append-left}
 use Rattle.lists.specs.Lists.{every}
-use Rattle.lists.proofs.Bools.{and-left, and-right, and-both}
+use Rattle.lists.proofs.Bools.{and-left, and-right}
 
 module _ {A : Type 0} (d : A) where
   -- reading past the list gives the value that follows it

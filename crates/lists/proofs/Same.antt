@@ -1,5 +1,5 @@
 -- Equality of lists of numbers as a test, tests of parts of a list, and runs of stores.
-use mathlib.Core.Bool.{Bool, true, false, _&&_, _||_}
+use mathlib.Core.Bool.{Bool, true, false, _&&_}
 use mathlib.Core.List.{List, [], _∷_, _++_}
 use mathlib.Core.Path.{_≡_, refl, sym, ap, ap₂, _∙_}
 use Prim.Native.Nat.{ℕ, zero, suc, _+_, _<_, _≤_}
@@ -7,7 +7,7 @@ use native.Mathlib.Nat.{add-suc}
 use native.Mathlib.Omega.{arith}
 use borrow.Author.Tests.{eqb-true, eq-eqb}
 use lib.Dec.{eqb}
-use lib.ListN.{length, getD, take, drop, set, replicate}
+use lib.ListN.{length, getD, take, drop, set}
 use lib.Seq.{sets, drop-cons, take-set-le, drop-set-add, getD-set-other}
 use Rattle.lists.specs.Lists.{any, every, same}
 use Rattle.lists.proofs.Bools.{by-test, and-left, and-right, and-both, or-none}

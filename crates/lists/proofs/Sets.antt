@@ -1,7 +1,7 @@
 -- Runs of stores into a list, padding, and lists of numbers of which none stands twice.
-use mathlib.Core.Bool.{Bool, true, false, not, _&&_, _||_, true≢false, and-comm, or-comm}
+use mathlib.Core.Bool.{Bool, true, false, not, true≢false, and-comm, or-comm}
 use mathlib.Core.List.{List, [], _∷_, _++_, append-assoc, append-nil}
-use mathlib.Core.Path.{_≡_, refl, sym, ap, ap₂, _∙_}
+use mathlib.Core.Path.{_≡_, refl, sym, ap, _∙_}
 use Prim.Native.Nat.{ℕ, zero, suc, _+_, _-_, _<_, _≤_}
 use native.Mathlib.Nat.{zero-add, suc-sub-suc, suc-add, sub-zero}
 use native.Mathlib.Omega.{arith}
@@ -9,7 +9,7 @@ use lib.Dec.{eqb}
 use lib.ListN.{length, getD, take, drop, set, replicate, length-append, take-append-drop, replicate-append-replicate}
 use lib.Seq.{sets, sets-eq, take-set-le, drop-set-lt, length-take-le, take-at, drop-at}
 use borrow.Author.Tests.{eqb-true, eqb-false, eq-eqb, ne-eqb, not-true}
-use Rattle.lists.specs.Lists.{keep, any, every, elem, different, same}
+use Rattle.lists.specs.Lists.{keep, any, every, elem, different}
 use Rattle.lists.proofs.Bools.{by-test, and-left, and-right, and-both, or-right, or-none}
 use Rattle.lists.proofs.Tests.{keep-append, every-append, any-append}
 

@@ -1,16 +1,16 @@
 -- Loops over the places of an array: where the answer for the whole is the answer for what is left, what a
 -- turn does to that, and the end.
-use mathlib.Core.Bool.{Bool, true, false, not, _&&_, and-assoc, and-false}
-use mathlib.Core.List.{List, [], _∷_, _++_}
+use mathlib.Core.Bool.{Bool, true, false, not, _&&_, and-false}
+use mathlib.Core.List.{List, [], _∷_}
 use mathlib.Core.Path.{_≡_, refl, sym, _∙_}
-use Prim.Native.Nat.{ℕ, zero, suc, _+_, _<_, _≤_}
+use Prim.Native.Nat.{ℕ, suc, _+_, _<_, _≤_}
 use lib.ListN.{take, drop, length, getD, drop-of-length-le, length-drop}
 use native.Mathlib.Numerals.{add-one}
 use native.Mathlib.Omega.{arith}
 use lib.Seq.{drop-cons, getD-take, length-take-le}
 use borrow.Author.Tests.{not-true, not-false}
 use Rattle.lists.specs.Lists.{every}
-use Rattle.lists.proofs.Bools.{and-left, and-right, and-both}
+use Rattle.lists.proofs.Bools.{and-left}
 use Rattle.lists.proofs.Tests.{every-from}
 
 -- what a test that was made by a call says, where it passed and where it failed

@@ -37,7 +37,7 @@ use Rattle.partitions.specs.Terms.{Readable}
 use Rattle.partitions.proofs.Kept.{AgreeAll, chains-kept, store-keeps}
 use Rattle.inputs.specs.declared.Totals.{Totals}
 use Rattle.inputs.specs.declared.Batch.{Batch}
-use Rattle.inputs.specs.Judging.{totalsOf, countsOf}
+use Rattle.inputs.specs.Judging.{totalsOf, countsById}
 use Rattle.inputs.specs.Ahead.{batched}
 use Rattle.outputs.specs.Contents.{written}
 use Rattle.outputs.specs.Entries.{entriesBy}
@@ -93,12 +93,12 @@ module _ (W : List ℕ) (s : State) (is : Partitions) (t : Totals) (g : Judged W
   in-order = nonzero-ordered (pairs (inPartitions W (inputs s))) (pairs-ordered (inPartitions W (inputs s)))
 
   -- the entries by the numbers of postings are those of the layout
-  entries-told : (ns : List ℕ) → ns ≡ countsOf ps → entriesBy 0 0 ns ≡ joined (map (entryOf (result ps)) (identifiersOf (result ps)))
-  unfolding countsOf
+  entries-told : (ns : List ℕ) → ns ≡ countsById ps → entriesBy 0 0 ns ≡ joined (map (entryOf (result ps)) (identifiersOf (result ps)))
+  unfolding countsById
   entries-told ns e = entries-by (result ps) in-order ids-small ns e
 
-  counts-long : (ns : List ℕ) → ns ≡ countsOf ps → length ns ≡ 1024
-  unfolding countsOf
+  counts-long : (ns : List ℕ) → ns ≡ countsById ps → length ns ≡ 1024
+  unfolding countsById
   counts-long ns e = ap length e ∙ length-map (upTo 1024) (λ i. length (under i (result ps))) ∙ length-rising 0 1024
 
   pub terms-told : t .terms ≡ termCount (result ps)
@@ -192,7 +192,7 @@ module _ (W : List ℕ) (s : State) (is : Partitions) (t : Totals) (g : Judged W
             let f = chain-first W (o .first) (o .blocks) h in
             rw x (rw (f, long-bs) at (chain-stored W bs (progress ps (suc j)) (blocks s) (g .long) (blocks-of .on) (blocks-of .new)))
 
-        whole-stored : (ns : List ℕ) → ns ≡ countsOf ps → (level : ℕ) → isLast ps (suc j) ≡ true → withFront X level t ns o ≡ store W bs (encode level (result ps))
+        whole-stored : (ns : List ℕ) → ns ≡ countsById ps → (level : ℕ) → isLast ps (suc j) ≡ true → withFront X level t ns o ≡ store W bs (encode level (result ps))
         whole-stored ns n level e =
             let r = result ps in
             let c = progress ps (suc j) in
@@ -205,7 +205,7 @@ module _ (W : List ℕ) (s : State) (is : Partitions) (t : Totals) (g : Judged W
             ∙ store-over W bs (blocks s) (g .long) blocks-of (sets c 0 hs) 8 es (omega (arith, length-sets c 0 hs, room (suc j))) (omega (arith, length-sets c 0 hs))
             ∙ ap (store W bs) (completed ps level (suc j) e))
 
-      module _ (ns : List ℕ) (n : ns ≡ countsOf ps) where
+      module _ (ns : List ℕ) (n : ns ≡ countsById ps) where
         -- all that a step writes has room
         pub step-fits : Fits W t ns o b
         step-fits = record {

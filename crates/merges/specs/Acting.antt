@@ -24,7 +24,7 @@ use Rattle.partitions.specs.Layout.{totalLength, header, wordOf}
 use Rattle.partitions.specs.Formed.{partitionsFormed, chainsOf}
 use Rattle.inputs.specs.declared.Totals.{Totals}
 use Rattle.inputs.specs.declared.Batch.{Batch}
-use Rattle.inputs.specs.Judging.{totalsOf, countsOf, Small, allInRange}
+use Rattle.inputs.specs.Judging.{totalsOf, countsById, Small, allInRange}
 use Rattle.inputs.specs.Ahead.{batched}
 use Rattle.outputs.specs.Contents.{written}
 use Rattle.outputs.specs.Entries.{entriesBy}
@@ -111,7 +111,7 @@ nextState s last t o =
 -- what a step that is not refused writes from: its inputs as they are judged, with how many postings each identifier has, and what it does
 pub record Due (W : List ℕ) (s : State) (is : Partitions) (t : Totals) (ns : List ℕ) (o : Output) (b : Batch) : Type 0 where
   pub judged : Judged W s is t
-  pub counts : ns ≡ countsOf (taking W s)
+  pub counts : ns ≡ countsById (taking W s)
   pub acts : Acts W s o b
 
 -- some state is at that step and level

@@ -6,7 +6,6 @@ use Rattle.lists.specs.Lists.{joined, upTo}
 use Rattle.postings.specs.declared.Posting.{Posting}
 use Rattle.postings.specs.Pack.{posted}
 use Rattle.state.specs.declared.Partition.{Partition}
-use Rattle.state.specs.declared.Partitions.{Partitions}
 use Rattle.state.specs.declared.State.{State}
 use Rattle.state.specs.Views.{buffered, finished}
 use Rattle.card.specs.Chains.{blocksFor, chain, content}

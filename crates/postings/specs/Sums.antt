@@ -6,7 +6,6 @@ use lib.Dec.{ltb, eqb, leb}
 use lib.IntN.{ℤ, pos, negsuc, _+ℤ_}
 use lib.ListN.{length}
 use Rattle.lists.specs.Lists.{keep, down}
-use Rattle.postings.specs.Merge.{pairs}
 use Rattle.postings.specs.declared.Posting.{Posting}
 
 -- what a posting adds to the pair of identifier i and window w

@@ -6,7 +6,6 @@ use lib.Dec.{eqb, ltb}
 use lib.ListN.{length, drop}
 use Rattle.lists.specs.Lists.{keep, any, every, empty, elem, down}
 use Rattle.words.specs.Words.{words}
-use Rattle.postings.specs.declared.Posting.{Posting}
 use Rattle.postings.specs.Sums.{sum, above}
 use Rattle.answers.specs.Answers.{Outcome, leave, hits}
 use Rattle.answers.specs.Order as order

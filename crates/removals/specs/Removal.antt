@@ -12,7 +12,6 @@ use Rattle.postings.specs.Sums.{isAbove}
 use Rattle.answers.specs.Answers.{Outcome, leave, done}
 use Rattle.answers.specs.Order as order
 use Rattle.answers.specs.Order.{until, past, admit}
-use Rattle.state.specs.declared.Windows.{Windows}
 use Rattle.state.specs.declared.State.{State}
 use Rattle.state.specs.Views.{blocks, buffered, finished, bufferOf, withWindows, withBuffer}
 use Rattle.state.specs.Rules.{stateRule}

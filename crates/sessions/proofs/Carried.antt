@@ -1,9 +1,9 @@
 -- What each call tells of a store or a state is what it tells of the probe.
 use mathlib.Core.List.{List}
-use mathlib.Core.Option.{Option, none, some}
+use mathlib.Core.Option.{none, some}
 use mathlib.Core.Path.{_≡_, refl, sym, _∙_, ap}
 use Prim.Native.Nat.{ℕ}
-use Rattle.answers.specs.Answers.{Outcome, refuse, leave, answerOf, stateOf, carry}
+use Rattle.answers.specs.Answers.{Outcome, refuse, leave, stateOf, carry}
 use Rattle.identifiers.specs.Names.{Name}
 use Rattle.state.specs.declared.State.{State}
 use Rattle.state.specs.Probe.{Store, Probe}
@@ -15,8 +15,7 @@ use Rattle.merges.specs.Step.{stepOf}
 use Rattle.answers.specs.declared.Hit.{Hit}
 use lib.ListN.{replicate}
 use Rattle.engine.specs.Calls.{Call, Open, Event, Close, Remove, Flush, Step, Query, storeIn, withStore, withState, noHit, probeCall}
-use Rattle.texts.specs.Texts.{answerText, Says}
-use Rattle.commands.specs.Answering.{textOf, leftOf, Tells, Told, Obeys}
+use Rattle.commands.specs.Answering.{textOf, leftOf, Tells, Obeys}
 use Rattle.commands.proofs.Telling.{answer-carry}
 use Rattle.sessions.specs.Arms.{Ignores, Asked}
 

@@ -1,5 +1,5 @@
 -- "Partitions": when a level is due, and the oldest partitions of the highest due level, for partitions of whatever kind that have a level.
-use mathlib.Core.Bool.{Bool, cond}
+use mathlib.Core.Bool.{cond}
 use mathlib.Core.List.{List, [], _∷_, _++_}
 use Prim.Native.Nat.{ℕ, suc}
 use lib.Dec.{eqb, leb}

@@ -4,7 +4,7 @@ use mathlib.Core.Bool.{Bool, true, _||_, _&&_, not, cond}
 use mathlib.Core.List.{List, [], _∷_}
 use Prim.Native.Nat.{ℕ, _*_, _/_, _%_}
 use lib.Dec.{eqb, ltb, leb}
-use lib.IntN.{ℤ, natAbs}
+use lib.IntN.{natAbs}
 use lib.ListN.{length, drop}
 use Rattle.lists.specs.Lists.{every, empty, different}
 use Rattle.postings.specs.declared.Posting.{Posting}

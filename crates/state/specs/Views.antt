@@ -1,10 +1,9 @@
 -- The parts of a state as lists, and a state with other parts. A list is put back with zeros after it, so that one content has one form.
 use mathlib.Core.List.{List, _++_}
-use Prim.Native.Nat.{ℕ, zero, _-_, _/_}
+use Prim.Native.Nat.{ℕ, _-_, _/_}
 use lib.IntN.{pos}
 use lib.ListN.{length, take, replicate}
 use Rattle.postings.specs.declared.Posting.{Posting}
-use Rattle.state.specs.declared.Lengths.{Lengths}
 use Rattle.state.specs.declared.Windows.{Windows}
 use Rattle.state.specs.declared.Listed.{Listed}
 use Rattle.state.specs.declared.Buffer.{Buffer}
@@ -34,9 +33,9 @@ noMerge = record { first = 0; length = 0; steps = 0 }
 abbrev pub blocks : State → ℕ
 blocks s = s .lengths .card / 4096
 
--- the register's entryCount
-abbrev pub entryCount : State → ℕ
-entryCount s = s .lengths .register / 65
+-- the register's registerSize
+abbrev pub registerSize : State → ℕ
+registerSize s = s .lengths .register / 65
 
 -- the numbers of the open window's identifiers, in order of first count
 abbrev pub listed : Listed → List ℕ

@@ -10,7 +10,7 @@ use lib.ListN.{length}
 use Rattle.lists.specs.All.{AllOf}
 use Rattle.lists.proofs.Bools.{by-test}
 use Rattle.keyed.specs.Keys.{Item, reach, larger, topFrom, rest, headVal, headVals, headsFine}
-use Rattle.keyed.specs.Groups.{Group, topAll, moveAll, headsFineAll}
+use Rattle.keyed.specs.Groups.{Group, topAll, headsFineAll}
 use Rattle.postings.specs.declared.Posting.{Posting}
 use Rattle.postings.specs.Merge.{isZero}
 use Rattle.state.specs.declared.Buffer.{Buffer}

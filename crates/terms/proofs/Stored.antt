@@ -34,7 +34,7 @@ use Rattle.kway.specs.Parts.{part, parts}
 pub use Rattle.kway.proofs.Stored.{Small, rule, fine-rule, small-at}
 use Rattle.terms.specs.Heads.{itemOf, comes, coming, view}
 use Rattle.terms.specs.Both.{both}
-use Rattle.terms.specs.Judged.{totalZ, ranges, counts, formed, risen}
+use Rattle.terms.specs.Judged.{totalZ, ranges, countAbove, formed, risen}
 use Rattle.terms.specs.Opening.{listed, Opens}
 use Rattle.terms.proofs.Steps.{total-none}
 use Rattle.terms.proofs.Ranges.{range, own, sums-range, over-two, over-down}
@@ -243,7 +243,7 @@ module _ (W R : List ℕ) (s : State) (i : ℕ) (H : List ℕ) (opens : Opens W 
 
 -- ---- at most 65,535 windows count
 
-few-windows : (S : ℕ → List ℤ) → AllOf Zero (S 0) → (n : ℕ) → overKeys counts 0 (suc n) S ≤ n
+few-windows : (S : ℕ → List ℤ) → AllOf Zero (S 0) → (n : ℕ) → overKeys countAbove 0 (suc n) S ≤ n
 unfolding overKeys
 few-windows S z zero = rw (total-none (S 0) z) (omega arith)
 few-windows S z (suc n) = let h = few-windows S z n in by-test (isAbove (totalZ (S (suc n)))) (λ y. rw y (omega arith)) (λ y. rw y (omega arith))

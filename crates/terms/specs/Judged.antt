@@ -15,8 +15,8 @@ use Rattle.terms.specs.declared.judging.Told.the-variants.{Malformed, Wi
 abbrev pub ranges : ℕ → List ℤ → Bool → Bool
 ranges w v b = inRanges v && b
 
-abbrev pub counts : ℕ → List ℤ → ℕ → ℕ
-counts w v n = cond (isAbove (totalZ v)) 1 0 + n
+abbrev pub countAbove : ℕ → List ℤ → ℕ → ℕ
+countAbove w v n = cond (isAbove (totalZ v)) 1 0 + n
 
 -- every list falls from window to window, no posting is malformed, and every window's sums are in range
 unfoldable pub formed : List Group → Bool
@@ -24,7 +24,7 @@ formed gs = allFallAll 65536 gs && overKeys ranges true 65536 (λ w. map (sums w
 
 -- F: how many windows have a sum above 0
 unfoldable pub risen : List Group → ℕ
-risen gs = overKeys counts 0 65536 (λ w. map (sums w) gs)
+risen gs = overKeys countAbove 0 65536 (λ w. map (sums w) gs)
 
 -- what the merge tells
 unfoldable pub toldOf : List Group → Told

@@ -11,7 +11,7 @@ use Rattle.lists.specs.Lists.{any, elem, empty}
 use Rattle.lists.proofs.Bools.{by-test}
 use Rattle.postings.specs.Order.{samePair}
 use Rattle.state.specs.declared.State.{State}
-use Rattle.state.specs.Views.{entryCount, listed, buffered}
+use Rattle.state.specs.Views.{registerSize, listed, buffered}
 use Rattle.state.specs.Probe.{Probe}
 use Rattle.state.proofs.Kept.{rules-of, state-kept}
 use Rattle.state.proofs.Forms.{buffer-rule}
@@ -31,13 +31,13 @@ use Rattle.windows.proofs.Verdicts.{register-size, events-left}
 
 module _ (s : State) (register : List ℕ) (n : Name) (rule : registerRule register ≡ true) (size : length register ≡ s .lengths .register) where
   -- a new identifier meets a full register exactly when its number is no place of it
-  pub placed : (isNew register n && leb (entryCount s) (length (names register))) ≡ leb (length register / 65) (numberOf (names register) n)
+  pub placed : (isNew register n && leb (registerSize s) (length (names register))) ≡ leb (length register / 65) (numberOf (names register) n)
   placed =
       let i = numberOf (names register) n in
       let m = length (names register) in
       let a : i ≤ m = number-within (names register) n in
       let b : m ≤ length register / 65 = rw (length-entries register) at (names-within register (rule-formed register rule)) in
-      let c : entryCount s ≡ length register / 65 = ap (λ (k : ℕ). k / 65) (sym size) in
+      let c : registerSize s ≡ length register / 65 = ap (λ (k : ℕ). k / 65) (sym size) in
       by-test (leb (length register / 65) i)
       (λ y. let h : length register / 65 ≤ i = leb-true _ _ y in rw (c, y, le-leb m i (omega arith), le-leb (length register / 65) m (omega arith)))
       (λ f. let h : i < length register / 65 = leb-false _ _ f in

@@ -1,5 +1,5 @@
 -- Start, open, event, close and flush: what each answers and leaves, for every input.
-use mathlib.Core.Bool.{Bool, _||_, _&&_, not, cond}
+use mathlib.Core.Bool.{Bool, _&&_, not, cond}
 use mathlib.Core.List.{List, [], _∷_, _++_}
 use Prim.Native.Nat.{ℕ, suc, _-_, _/_}
 use lib.Dec.{eqb, leb}
@@ -12,9 +12,8 @@ use Rattle.postings.specs.Merge.{put}
 use Rattle.answers.specs.Answers.{Outcome, leave, refuseIf, done, number}
 use Rattle.answers.specs.Order as order
 use Rattle.answers.specs.Order.{admit}
-use Rattle.state.specs.declared.Windows.{Windows}
 use Rattle.state.specs.declared.State.{State}
-use Rattle.state.specs.Views.{entryCount, listed, buffered, listedOf, bufferOf, withWindows, withListed, withBuffer, emptyState}
+use Rattle.state.specs.Views.{registerSize, listed, buffered, listedOf, bufferOf, withWindows, withListed, withBuffer, emptyState}
 use Rattle.state.specs.Rules.{cardLength, registerLength, stateRule}
 use Rattle.state.specs.Probe.{Store, Probe, sameLength}
 use Rattle.identifiers.specs.Names.{Name, badLength, numberOf}
@@ -91,8 +90,8 @@ abbrev pub isNew : List ℕ → Name → Bool
 isNew register n = leb (length (names register)) (numberOf (names register) n)
 
 -- the number that an identifier has, or gets as a new one
-abbrev pub numberIn : Probe → Name → ℕ
-numberIn p n = numberOf (names (p .register)) n
+abbrev pub numberFor : Probe → Name → ℕ
+numberFor p n = numberOf (names (p .register)) n
 
 -- both buffers have the length given at the start
 abbrev pub sameLengths : Probe → Bool
@@ -100,11 +99,11 @@ sameLengths p = sameLength (p .card) (p .state .lengths .card) && sameLength (p 
 
 -- a new identifier meets a register whose entries are all used
 abbrev pub registerFull : Probe → Name → Bool
-registerFull p n = isNew (p .register) n && leb (entryCount (p .state)) (length (names (p .register)))
+registerFull p n = isNew (p .register) n && leb (registerSize (p .state)) (length (names (p .register)))
 
 -- an identifier new to the open window would be its 65th
 abbrev pub windowFull : Probe → Name → Bool
-windowFull p n = not (elem (numberIn p n) (listed (p .state .listed))) && leb 64 (length (listed (p .state .listed)))
+windowFull p n = not (elem (numberFor p n) (listed (p .state .listed))) && leb 64 (length (listed (p .state .listed)))
 
 -- the register with the identifier in it
 abbrev pub registered : List ℕ → Name → List ℕ
@@ -123,8 +122,8 @@ eventOf p n =
     ∷ registerFull p n
     ∷ windowFull p n
     ∷ [])
-    (flushingIf (eventFlushes (p .state) (numberIn p n)) (p .state) (p .card)
-    (λ s card. leave done (record { state = counted s (numberIn p n); card = card; register = registered (p .register) n })))
+    (flushingIf (eventFlushes (p .state) (numberFor p n)) (p .state) (p .card)
+    (λ s card. leave done (record { state = counted s (numberFor p n); card = card; register = registered (p .register) n })))
 
 -- ---- flush
 

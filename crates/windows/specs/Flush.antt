@@ -6,7 +6,6 @@ use lib.Dec.{ltb, leb}
 use lib.ListN.{length, getD}
 use Rattle.lists.specs.Lists.{empty, totalBy}
 use Rattle.words.specs.Words.{words, bytes}
-use Rattle.postings.specs.declared.Posting.{Posting}
 use Rattle.answers.specs.Answers.{Outcome, choose}
 use Rattle.answers.specs.Order as order
 use Rattle.answers.specs.Order.{admit}

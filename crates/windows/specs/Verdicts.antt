@@ -15,7 +15,7 @@ use Rattle.state.specs.Rules.{windowsRule, listedRule, bufferRule, stateRule}
 use Rattle.state.specs.Probe.{Probe, probeOf}
 use Rattle.identifiers.specs.Names.{Name, badLength}
 use Rattle.identifiers.specs.Register.{registerRule}
-use Rattle.windows.specs.Calls.{isOpen, once, numberIn, sameLengths, registerFull, windowFull, eventOf}
+use Rattle.windows.specs.Calls.{isOpen, once, numberFor, sameLengths, registerFull, windowFull, eventOf}
 use Rattle.windows.specs.declared.Verdict.{Verdict}
 
 -- an event that none of refusals 1 to 9 stops, and its identifier's number
@@ -28,7 +28,7 @@ pub record Admitted (p : Probe) (n : Name) (i : ℕ) : Type 0 where
   pub events : leb 32767 (p .state .windows .events) ≡ false
   pub place : registerFull p n ≡ false
   pub room : windowFull p n ≡ false
-  pub number : i ≡ numberIn p n
+  pub number : i ≡ numberFor p n
 
 -- a verdict tells what the event comes to: its refusal, or that its flush and then its count are what is left
 abbrev pub Judged : Probe → Name → Verdict → Type 0

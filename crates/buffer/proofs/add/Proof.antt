@@ -1,7 +1,7 @@
 use mathlib.Core.Path.{_≡_, sym, ap, _∙_}
 use native.Mathlib.Omega.{arith}
 use borrow.Author.Needs.{needs}
-use lib.IntN.{ℤ, _+ℤ_}
+use lib.IntN.{_+ℤ_}
 use mir.Syntax.{w16}
 use mir.Val.{SFits}
 use mir.Facts.{toZ-ofZ}
@@ -13,15 +13,6 @@ use Rattle.buffer.proofs.Ranks.{place-pair, place-at, place-before}
 use Rattle.buffer.proofs.Puts.{sum-there, added-new, added-there}
 use Rattle.buffer.proofs.add.Statement.{statement}
 use Rattle.buffer.proofs.add.Tie as tie
-
-find-pair-requires : tie.Need-find-pair-requires
-find-pair-requires c κs = search needs
-
-enum-known-place : tie.Need-enum-known-place
-enum-known-place c = search needs
-
-cast-shift-count : tie.Need-cast-shift-count
-cast-shift-count c = search needs
 
 shift-count-requires : tie.Need-shift-count-requires
 shift-count-requires c κs =
@@ -37,12 +28,6 @@ shift-count-requires c κs =
     let f : SFits w16 (p .count) = search needs in
     let e : p .count +ℤ postingAt k l .count ≡ p .count +ℤ sum l (p .id) (p .window) = rw (t .0, sum-there p l o (t .3)) in
     (s .pre .0, omega (arith, t .1), rw (toZ-ofZ f, e) (s .pre .1 .within))
-
-enum-known-place-2 : tie.Need-enum-known-place-2
-enum-known-place-2 c = search needs
-
-cast-insert : tie.Need-cast-insert
-cast-insert c = search needs
 
 insert-requires : tie.Need-insert-requires
 insert-requires c κs =
@@ -85,12 +70,12 @@ pub add-spec : {M : Type 1} → statement M
 add-spec =
     tie.close
     (tie.spec
-    find-pair-requires
-    enum-known-place
-    cast-shift-count
+    (λ c κs. search needs)
+    (λ c. search needs)
+    (λ c. search needs)
     shift-count-requires
-    enum-known-place-2
-    cast-insert
+    (λ c. search needs)
+    (λ c. search needs)
     insert-requires
     returns
     returns-2)

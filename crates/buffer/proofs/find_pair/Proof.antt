@@ -10,24 +10,6 @@ use Rattle.buffer.proofs.Ranks.{rank-le, found-at, found-before}
 use Rattle.buffer.proofs.find_pair.Statement.{statement}
 use Rattle.buffer.proofs.find_pair.Tie as tie
 
-rank-of-requires : tie.Need-rank-of-requires
-rank-of-requires c κs = search needs
-
-cast-if1 : tie.Need-cast-if1
-cast-if1 c = search needs
-
-mul-q : tie.Need-mul-q
-mul-q c = search needs
-
-element-copy-out-q : tie.Need-element-copy-out-q
-element-copy-out-q c = search needs
-
-is-pair-requires : tie.Need-is-pair-requires
-is-pair-requires c κs = search needs
-
-cast-t16 : tie.Need-cast-t16
-cast-t16 c = search needs
-
 returns : tie.Need-returns
 returns c =
     let a = c .before .before .before .before in
@@ -63,12 +45,12 @@ pub find-pair-spec : {M : Type 1} → statement M
 find-pair-spec =
     tie.close
     (tie.spec
-    rank-of-requires
-    cast-if1
-    mul-q
-    element-copy-out-q
-    is-pair-requires
-    cast-t16
+    (λ c κs. search needs)
+    (λ c. search needs)
+    (λ c. search needs)
+    (λ c. search needs)
+    (λ c κs. search needs)
+    (λ c. search needs)
     returns
     cast-t8
     returns-2)

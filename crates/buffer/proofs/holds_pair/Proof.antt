@@ -19,17 +19,8 @@ Inv-loop id window b n i₀ i =
 abbrev μ-loop : tie.MeasureT-loop
 μ-loop id window b n i₀ i = n - i
 
-cast-n : tie.Need-cast-n Inv-loop μ-loop
-cast-n c = omega arith
-
 loop-holds : tie.Need-loop-holds Inv-loop μ-loop
 loop-holds c = (search (unmapped, needs), omega arith, refl)
-
-mul-q : tie.Need-mul-q Inv-loop μ-loop
-mul-q c = omega arith
-
-element-copy-out-q : tie.Need-element-copy-out-q Inv-loop μ-loop
-element-copy-out-q c = omega arith
 
 is-pair-requires : tie.Need-is-pair-requires Inv-loop μ-loop
 is-pair-requires c κs = tt
@@ -42,12 +33,6 @@ returns c =
     let t = any-turn (samePair (pair (a .before .args .id) (a .before .args .window))) (b .postings) noPosting (b .used) (a .loop .i) (omega arith) (omega arith) in
     let e = sym (c .before .is-pair .ensures) ∙ c .if1 .taken in
     sym (a .loop .inv .2 ∙ t ∙ rw e)
-
-add-i : tie.Need-add-i Inv-loop μ-loop
-add-i c = omega arith
-
-loop-less : tie.Need-loop-less Inv-loop μ-loop
-loop-less c = omega arith
 
 loop-again : tie.Need-loop-again Inv-loop μ-loop
 loop-again c =
@@ -71,13 +56,13 @@ holds-pair-spec =
     (tie.spec
     Inv-loop
     μ-loop
-    cast-n
+    (λ c. omega arith)
     loop-holds
-    mul-q
-    element-copy-out-q
+    (λ c. omega arith)
+    (λ c. omega arith)
     is-pair-requires
     returns
-    add-i
-    loop-less
+    (λ c. omega arith)
+    (λ c. omega arith)
     loop-again
     returns-2)

@@ -20,34 +20,10 @@ Inv-loop k p c₀ i₀ c i =
 abbrev μ-loop : tie.MeasureT-loop
 μ-loop k p c₀ i₀ c i = i
 
-cast-i : tie.Need-cast-i Inv-loop μ-loop
-cast-i c = omega arith
-
 loop-holds : tie.Need-loop-holds Inv-loop μ-loop
 loop-holds c =
     let b = c .args .b in
     (search (unmapped, needs), omega arith, omega arith, refl, sym (raised-none (b .used) (b .postings)))
-
-sub-q : tie.Need-sub-q Inv-loop μ-loop
-sub-q c = omega arith
-
-mul-q : tie.Need-mul-q Inv-loop μ-loop
-mul-q c = omega arith
-
-element-copy-out-q : tie.Need-element-copy-out-q Inv-loop μ-loop
-element-copy-out-q c = omega arith
-
-mul-q-2 : tie.Need-mul-q-2 Inv-loop μ-loop
-mul-q-2 c = omega arith
-
-element-set-from-q : tie.Need-element-set-from-q Inv-loop μ-loop
-element-set-from-q c = omega arith
-
-sub-i : tie.Need-sub-i Inv-loop μ-loop
-sub-i c = omega arith
-
-loop-less : tie.Need-loop-less Inv-loop μ-loop
-loop-less c = omega arith
 
 loop-again : tie.Need-loop-again Inv-loop μ-loop
 loop-again c =
@@ -62,15 +38,6 @@ loop-again c =
       v .3,
       ap (λ (xs : List Posting). set xs i (getD xs (i - 1) noPosting)) (v .4) ∙ raised-more noPosting (b .used) i (b .postings) (omega arith) (omega arith) (omega arith),
     )
-
-mul-p : tie.Need-mul-p Inv-loop μ-loop
-mul-p c = omega arith
-
-element-set-from-p : tie.Need-element-set-from-p Inv-loop μ-loop
-element-set-from-p c = omega arith
-
-add-c : tie.Need-add-c Inv-loop μ-loop
-add-c c = omega arith
 
 returns : tie.Need-returns Inv-loop μ-loop
 returns c =
@@ -88,17 +55,17 @@ insert-spec =
     (tie.spec
     Inv-loop
     μ-loop
-    cast-i
+    (λ c. omega arith)
     loop-holds
-    sub-q
-    mul-q
-    element-copy-out-q
-    mul-q-2
-    element-set-from-q
-    sub-i
-    loop-less
+    (λ c. omega arith)
+    (λ c. omega arith)
+    (λ c. omega arith)
+    (λ c. omega arith)
+    (λ c. omega arith)
+    (λ c. omega arith)
+    (λ c. omega arith)
     loop-again
-    mul-p
-    element-set-from-p
-    add-c
+    (λ c. omega arith)
+    (λ c. omega arith)
+    (λ c. omega arith)
     returns)

@@ -19,31 +19,13 @@ Inv-loop id window b p low₀ high₀ low high =
 abbrev μ-loop : tie.MeasureT-loop
 μ-loop id window b p low₀ high₀ low high = high - low
 
-cast-high : tie.Need-cast-high Inv-loop μ-loop
-cast-high c = omega arith
-
 loop-holds : tie.Need-loop-holds Inv-loop μ-loop
 loop-holds c =
     let b = c .args .t1 in
     (search (unmapped, needs), omega arith, omega (arith, rank-le (pair (c .args .id) (c .args .window)) (buffered b), canonical-used b (c .pre)), omega arith)
 
-add-middle : tie.Need-add-middle Inv-loop μ-loop
-add-middle c = omega arith
-
-mul-q : tie.Need-mul-q Inv-loop μ-loop
-mul-q c = omega arith
-
-element-copy-out-q : tie.Need-element-copy-out-q Inv-loop μ-loop
-element-copy-out-q c = omega arith
-
 precedes-requires : tie.Need-precedes-requires Inv-loop μ-loop
 precedes-requires c κs = tt
-
-add-low : tie.Need-add-low Inv-loop μ-loop
-add-low c = omega arith
-
-loop-less : tie.Need-loop-less Inv-loop μ-loop
-loop-less c = omega arith
 
 loop-again : tie.Need-loop-again Inv-loop μ-loop
 loop-again c =
@@ -57,9 +39,6 @@ loop-again c =
     let r = rank-above p (buffered b) noPosting i (s .pre .inOrder) (omega arith) (rw e (sym (c .before .precedes .ensures) ∙ c .if1 .taken)) in
     (a .loop .inv .0, omega arith, omega arith, omega arith)
 
-loop-less-2 : tie.Need-loop-less-2 Inv-loop μ-loop
-loop-less-2 c = omega arith
-
 loop-again-2 : tie.Need-loop-again-2 Inv-loop μ-loop
 loop-again-2 c =
     let a = c .before .before .before .before in
@@ -72,24 +51,21 @@ loop-again-2 c =
     let r = rank-below p (buffered b) noPosting i (s .pre .inOrder) (omega arith) (rw e (sym (c .before .precedes .ensures) ∙ c .if1 .left)) in
     (a .loop .inv .0, omega arith, omega arith, omega arith)
 
-returns : tie.Need-returns Inv-loop μ-loop
-returns c = omega arith
-
 pub rank-of-spec : {M : Type 1} → statement M
 rank-of-spec =
     tie.close
     (tie.spec
     Inv-loop
     μ-loop
-    cast-high
+    (λ c. omega arith)
     loop-holds
-    add-middle
-    mul-q
-    element-copy-out-q
+    (λ c. omega arith)
+    (λ c. omega arith)
+    (λ c. omega arith)
     precedes-requires
-    add-low
-    loop-less
+    (λ c. omega arith)
+    (λ c. omega arith)
     loop-again
-    loop-less-2
+    (λ c. omega arith)
     loop-again-2
-    returns)
+    (λ c. omega arith))

@@ -20,37 +20,10 @@ Inv-loop k c₀ n i₀ c i =
 abbrev μ-loop : tie.MeasureT-loop
 μ-loop k c₀ n i₀ c i = n - i
 
-cast-n : tie.Need-cast-n Inv-loop μ-loop
-cast-n c = omega arith
-
 loop-holds : tie.Need-loop-holds Inv-loop μ-loop
 loop-holds c =
     let b = c .args .b in
     (search (unmapped, needs), omega arith, omega arith, refl, sym (lowered-none (c .args .k) (b .postings)))
-
-add-loop : tie.Need-add-loop Inv-loop μ-loop
-add-loop c = omega arith
-
-add-q : tie.Need-add-q Inv-loop μ-loop
-add-q c = omega arith
-
-mul-q : tie.Need-mul-q Inv-loop μ-loop
-mul-q c = omega arith
-
-element-copy-out-q : tie.Need-element-copy-out-q Inv-loop μ-loop
-element-copy-out-q c = omega arith
-
-mul-q-2 : tie.Need-mul-q-2 Inv-loop μ-loop
-mul-q-2 c = omega arith
-
-element-set-from-q : tie.Need-element-set-from-q Inv-loop μ-loop
-element-set-from-q c = omega arith
-
-add-i : tie.Need-add-i Inv-loop μ-loop
-add-i c = omega arith
-
-loop-less : tie.Need-loop-less Inv-loop μ-loop
-loop-less c = omega arith
 
 loop-again : tie.Need-loop-again Inv-loop μ-loop
 loop-again c =
@@ -66,15 +39,6 @@ loop-again c =
       v .3,
       ap (λ (xs : List Posting). set xs i (getD xs (i + 1) noPosting)) (v .4) ∙ lowered-more noPosting (s .args .k) i (b .postings) (omega arith) (omega arith),
     )
-
-mul-t17 : tie.Need-mul-t17 Inv-loop μ-loop
-mul-t17 c = omega arith
-
-element-set-from-c : tie.Need-element-set-from-c Inv-loop μ-loop
-element-set-from-c c = omega arith
-
-sub-c : tie.Need-sub-c Inv-loop μ-loop
-sub-c c = omega arith
 
 returns : tie.Need-returns Inv-loop μ-loop
 returns c =
@@ -94,18 +58,18 @@ remove-spec =
     (tie.spec
     Inv-loop
     μ-loop
-    cast-n
+    (λ c. omega arith)
     loop-holds
-    add-loop
-    add-q
-    mul-q
-    element-copy-out-q
-    mul-q-2
-    element-set-from-q
-    add-i
-    loop-less
+    (λ c. omega arith)
+    (λ c. omega arith)
+    (λ c. omega arith)
+    (λ c. omega arith)
+    (λ c. omega arith)
+    (λ c. omega arith)
+    (λ c. omega arith)
+    (λ c. omega arith)
     loop-again
-    mul-t17
-    element-set-from-c
-    sub-c
+    (λ c. omega arith)
+    (λ c. omega arith)
+    (λ c. omega arith)
     returns)

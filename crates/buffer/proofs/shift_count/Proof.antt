@@ -2,9 +2,8 @@ use mathlib.Core.Bool.{false}
 use mathlib.Core.List.{List}
 use mathlib.Core.Path.{_≡_, sym, ap, _∙_}
 use Prim.Native.Nat.{ℕ, _<_, _≤_}
-use native.Mathlib.Omega.{arith}
 use borrow.Author.Needs.{needs}
-use lib.IntN.{ℤ, pos, negsuc, natAbs, _+ℤ_}
+use lib.IntN.{ℤ, natAbs, _+ℤ_}
 use lib.ListN.{getD, take, set}
 use lib.Seq.{getD-take}
 use mir.Syntax.{w16, w32}
@@ -15,7 +14,7 @@ use Rattle.lists.proofs.Sizes.{small-fits}
 use Rattle.postings.specs.declared.Posting.{Posting}
 use Rattle.postings.specs.Merge.{counting, isZero}
 use Rattle.postings.proofs.Sums.{is-zero}
-use Rattle.state.specs.Views.{buffered, bufferOf, noPosting}
+use Rattle.state.specs.Views.{bufferOf, noPosting}
 use Rattle.buffer.specs.Places.{droppedAt, postingAt, movedAt}
 use Rattle.buffer.proofs.shift_count.Statement.{statement}
 use Rattle.buffer.proofs.shift_count.Tie as tie
@@ -50,18 +49,6 @@ module _ (xs : List Posting) (u k : ℕ) (a r : ℤ) (h : k < u) (fa : SFits w16
       let t : isZero z ≡ false = by-test (isZero z) (λ y. absurd (n (ap (ofZ w32) (sum-is ∙ is-zero z y)))) (λ m. m) in
       rw (wide, toZ-ofZ narrow, ← getD-take u xs k noPosting h, t, sum-is)
 
-mul-q : tie.Need-mul-q
-mul-q c = search needs
-
-element-copy-out-q : tie.Need-element-copy-out-q
-element-copy-out-q c = search needs
-
-total-requires : tie.Need-total-requires
-total-requires c κs = search needs
-
-remove-requires : tie.Need-remove-requires
-remove-requires c κs = search needs
-
 returns : tie.Need-returns
 returns c =
     let s = c .before .before .before .before .before in
@@ -78,9 +65,6 @@ cast-t14 c =
     let f : SFits w16 (getD (b .postings) (s .args .k) noPosting .count) = search needs in
     fits (b .postings) (b .used) (s .args .k) (s .args .amount) (t .result) (s .pre .1) (s .fits .amount) f (t .ensures) (s .pre .2)
 
-replace-requires : tie.Need-replace-requires
-replace-requires c κs = search needs
-
 returns-2 : tie.Need-returns-2
 returns-2 c =
     let s = c .before .before .before .before .before in
@@ -93,11 +77,11 @@ pub shift-count-spec : {M : Type 1} → statement M
 shift-count-spec =
     tie.close
     (tie.spec
-    mul-q
-    element-copy-out-q
-    total-requires
-    remove-requires
+    (λ c. search needs)
+    (λ c. search needs)
+    (λ c κs. search needs)
+    (λ c κs. search needs)
     returns
     cast-t14
-    replace-requires
+    (λ c κs. search needs)
     returns-2)

@@ -1,9 +1,8 @@
--- `capi::gemsilver_flush` meets its contract. Assumes nothing.
+-- `capi::gemsilver_flush` meets its contract.
 use mathlib.Core.Bool.{not}
-use mathlib.Core.Path.{refl, sym, ap, _∙_}
+use mathlib.Core.Path.{sym, ap, _∙_}
 use native.Mathlib.Omega.{arith}
 use borrow.Author.Tests.{not-false}
-use Rattle.words.specs.Words.{words}
 use Rattle.windows.proofs.Outcomes.{stopped, passed}
 use Rattle.windows.proofs.Refused.{flush-unchanged}
 use Rattle.images.proofs.Fits.{image-length}
@@ -13,12 +12,6 @@ use borrow.Author.Needs.{needs}
 use Rattle.capi.proofs.gemsilver_flush.Statement.{statement}
 use Rattle.capi.proofs.gemsilver_flush.Tie as tie
 
-image-ok-requires : tie.Need-image-ok-requires
-image-ok-requires c κs = search needs
-
-same-length : tie.Need-same-length
-same-length c = search needs
-
 returns : tie.Need-returns
 unfolding flushOn
 returns c = stopped _ 1 _ (ap not (sym (c .before .image-ok .ensures)) ∙ c .if1 .taken)
@@ -26,17 +19,8 @@ returns c = stopped _ 1 _ (ap not (sym (c .before .image-ok .ensures)) ∙ c .if
 read-state-requires : tie.Need-read-state-requires
 read-state-requires c κs = sym (c .before .before .image-ok .ensures) ∙ not-false _ (c .before .if1 .left)
 
-flush-requires : tie.Need-flush-requires
-flush-requires c κs = search needs
-
 settle-requires : tie.Need-settle-requires
 settle-requires c κs = image-length (c .before .before .before .before .before .before .before .before .before .before .before .before .args .image .now) (sym (c .before .before .before .before .before .before .before .before .image-ok .ensures) ∙ not-false _ (c .before .before .before .before .before .before .before .if1 .left))
-
-same-length-2 : tie.Need-same-length-2
-same-length-2 c = search needs
-
-same-length-3 : tie.Need-same-length-3
-same-length-3 c = search needs
 
 returns-2 : tie.Need-returns-2
 unfolding flushOn
@@ -55,12 +39,12 @@ pub gemsilver-flush-spec : {M : Type 1} → statement M
 gemsilver-flush-spec =
     tie.close
     (tie.spec
-    image-ok-requires
-    same-length
+    (λ c κs. search needs)
+    (λ c. search needs)
     returns
     read-state-requires
-    flush-requires
+    (λ c κs. search needs)
     settle-requires
-    same-length-2
-    same-length-3
+    (λ c. search needs)
+    (λ c. search needs)
     returns-2)

@@ -1,4 +1,4 @@
--- `capi::gemsilver_query` meets its contract. Assumes nothing.
+-- `capi::gemsilver_query` meets its contract.
 use mathlib.Core.Bool.{not}
 use mathlib.Core.List.{map}
 use mathlib.Core.Path.{sym, ap, _∙_}
@@ -13,27 +13,12 @@ use borrow.Author.Needs.{needs}
 use Rattle.capi.proofs.gemsilver_query.Statement.{statement}
 use Rattle.capi.proofs.gemsilver_query.Tie as tie
 
-image-ok-requires : tie.Need-image-ok-requires
-image-ok-requires c κs = search needs
-
 returns : tie.Need-returns
 unfolding queryOn
 returns c = tells-stopped _ _ 1 _ (ap not (sym (c .before .image-ok .ensures)) ∙ c .if1 .taken)
 
 read-state-requires : tie.Need-read-state-requires
 read-state-requires c κs = sym (c .before .image-ok .ensures) ∙ not-false _ (c .if1 .left)
-
-query-value-requires : tie.Need-query-value-requires
-query-value-requires c κs = search needs
-
-put-hits-requires : tie.Need-put-hits-requires
-put-hits-requires c κs = search needs
-
-found-number-requires : tie.Need-found-number-requires
-found-number-requires c κs = search needs
-
-same-length : tie.Need-same-length
-same-length c = search needs
 
 returns-2 : tie.Need-returns-2
 unfolding queryOn
@@ -50,11 +35,11 @@ pub gemsilver-query-spec : {M : Type 1} → statement M
 gemsilver-query-spec =
     tie.close
     (tie.spec
-    image-ok-requires
+    (λ c κs. search needs)
     returns
     read-state-requires
-    query-value-requires
-    put-hits-requires
-    found-number-requires
-    same-length
+    (λ c κs. search needs)
+    (λ c κs. search needs)
+    (λ c κs. search needs)
+    (λ c. search needs)
     returns-2)

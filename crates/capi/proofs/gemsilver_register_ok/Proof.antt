@@ -19,9 +19,6 @@ most n e =
     let b = leb-true (n / 65) 1024 (and-right (leb 1 (n / 65)) _ (and-right (eqb (n % 65) 0) _ e)) in
     omega arith
 
-length-ok-requires : tie.Need-length-ok-requires
-length-ok-requires c κs = search needs
-
 returns : tie.Need-returns
 returns c = rw (sym (c .before .length-ok .ensures) ∙ not-true _ (c .if1 .taken))
 
@@ -35,4 +32,4 @@ returns-3 : tie.Need-returns-3
 returns-3 c = rw (sym (c .before .before .before .length-ok .ensures) ∙ not-false _ (c .before .before .if1 .left), sym (c .before .register-ok .ensures) ∙ c .if2 .left)
 
 pub gemsilver-register-ok-spec : {M : Type 1} → statement M
-gemsilver-register-ok-spec = tie.close (tie.spec length-ok-requires returns register-ok-requires returns-2 returns-3)
+gemsilver-register-ok-spec = tie.close (tie.spec (λ c κs. search needs) returns register-ok-requires returns-2 returns-3)

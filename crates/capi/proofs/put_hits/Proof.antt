@@ -1,4 +1,4 @@
--- `capi::put_hits` meets its contract. The invariant: storing the hits that are left gives the whole, and no byte past the last word has moved. Assumes nothing.
+-- `capi::put_hits` meets its contract. The invariant: storing the hits that are left gives the whole, and no byte past the last word has moved.
 use mathlib.Core.List.{map}
 use mathlib.Core.Path.{_≡_, refl, sym, _∙_}
 use Prim.Native.Nat.{_-_, _*_, _≤_}
@@ -25,41 +25,14 @@ Inv-loop hits₀ t n i₀ hits i =
 abbrev μ-loop : tie.MeasureT-loop
 μ-loop hits₀ t n i₀ hits i = n - i
 
-cast-n : tie.Need-cast-n Inv-loop μ-loop
-cast-n c = search needs
-
 loop-holds : tie.Need-loop-holds Inv-loop μ-loop
 loop-holds c = (search (unmapped, needs), refl, omega arith, refl, refl, λ i. omega (arith, c .slice-known .given i))
-
-mul-h : tie.Need-mul-h Inv-loop μ-loop
-mul-h c = omega arith
-
-element-copy-out-h : tie.Need-element-copy-out-h Inv-loop μ-loop
-element-copy-out-h c = omega arith
-
-mul-put-word : tie.Need-mul-put-word Inv-loop μ-loop
-mul-put-word c = omega arith
-
-cast-put-word : tie.Need-cast-put-word Inv-loop μ-loop
-cast-put-word c = search needs
 
 put-word-requires : tie.Need-put-word-requires Inv-loop μ-loop
 put-word-requires c κs = let a = c .before .before .before .before in omega (arith, length-words (a .loop .hits))
 
-mul-put-word-2 : tie.Need-mul-put-word-2 Inv-loop μ-loop
-mul-put-word-2 c = omega arith
-
-add-put-word : tie.Need-add-put-word Inv-loop μ-loop
-add-put-word c = omega arith
-
 put-word-requires-2 : tie.Need-put-word-requires-2 Inv-loop μ-loop
 put-word-requires-2 c κs = let a = c .before .before .before .before .before .before .before .before in omega (arith, length-words (c .before .before .before .put-word .last .0), c .before .before .before .put-word .kept .0)
-
-add-i : tie.Need-add-i Inv-loop μ-loop
-add-i c = omega arith
-
-loop-less : tie.Need-loop-less Inv-loop μ-loop
-loop-less c = omega arith
 
 loop-again : tie.Need-loop-again Inv-loop μ-loop
 loop-again c =
@@ -102,18 +75,18 @@ put-hits-spec =
     (tie.spec
     Inv-loop
     μ-loop
-    cast-n
+    (λ c. search needs)
     loop-holds
-    mul-h
-    element-copy-out-h
-    mul-put-word
-    cast-put-word
+    (λ c. omega arith)
+    (λ c. omega arith)
+    (λ c. omega arith)
+    (λ c. search needs)
     put-word-requires
-    mul-put-word-2
-    add-put-word
+    (λ c. omega arith)
+    (λ c. omega arith)
     put-word-requires-2
-    add-i
-    loop-less
+    (λ c. omega arith)
+    (λ c. omega arith)
     loop-again
     same-length
     returns)

@@ -1,5 +1,5 @@
 -- `card::chain_ok` meets its contract. The invariant: the rule of the chain is the rule of the m blocks that are left from `next` on.
--- Assumes nothing.
+--
 use mathlib.Core.Path.{_≡_, refl, sym, _∙_}
 use Prim.Native.Nat.{_≤_}
 use native.Mathlib.Omega.{arith}
@@ -24,18 +24,6 @@ returns c =
     let s = a .before .before in
     let W = words (s .args .card .now) in
     sym (rule-rest W (s .args .blocks) (s .args .first) (s .args .n) (omega arith) ∙ a .loop .inv .1 ∙ rest-out W (s .args .blocks) (a .loop .next) (a .loop .m) (omega arith) (omega arith))
-
-cast-block-word : tie.Need-cast-block-word Inv-loop μ-loop
-cast-block-word c = omega arith
-
-block-word-requires : tie.Need-block-word-requires Inv-loop μ-loop
-block-word-requires c κs = omega arith
-
-sub-m : tie.Need-sub-m Inv-loop μ-loop
-sub-m c = omega arith
-
-loop-less : tie.Need-loop-less Inv-loop μ-loop
-loop-less c = omega arith
 
 loop-again : tie.Need-loop-again Inv-loop μ-loop
 loop-again c =
@@ -64,10 +52,10 @@ chain-ok-spec =
     μ-loop
     loop-holds
     returns
-    cast-block-word
-    block-word-requires
-    sub-m
-    loop-less
+    (λ c. omega arith)
+    (λ c κs. omega arith)
+    (λ c. omega arith)
+    (λ c. omega arith)
     loop-again
     returns-2
     returns-3)

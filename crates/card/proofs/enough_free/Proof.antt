@@ -1,4 +1,4 @@
--- `card::enough_free` meets its contract. The invariant: enough are free where what is missing is free in the places from i on. Assumes nothing.
+-- `card::enough_free` meets its contract. The invariant: enough are free where what is missing is free in the places from i on.
 use mathlib.Core.Logic.{⊎-elim}
 use mathlib.Core.Path.{_≡_, refl, sym, _∙_}
 use Prim.Native.Nat.{_+_, _-_, _<_, _≤_}
@@ -26,20 +26,11 @@ loop-holds : tie.Need-loop-holds Inv-loop μ-loop
 unfolding freeBlocks
 loop-holds c = (omega arith, refl)
 
-tried-requires : tie.Need-tried-requires Inv-loop μ-loop
-tried-requires c κs = omega arith
-
 is-free-requires : tie.Need-is-free-requires Inv-loop μ-loop
 is-free-requires c κs = omega (arith, c .tried .ensures .0)
 
 sub-missing : tie.Need-sub-missing Inv-loop μ-loop
 sub-missing c = omega (arith, ltb-true)
-
-add-i : tie.Need-add-i Inv-loop μ-loop
-add-i c = omega arith
-
-loop-less : tie.Need-loop-less Inv-loop μ-loop
-loop-less c = omega arith
 
 loop-again : tie.Need-loop-again Inv-loop μ-loop
 loop-again c =
@@ -78,10 +69,10 @@ enough-free-spec =
     Inv-loop
     μ-loop
     loop-holds
-    tried-requires
+    (λ c κs. omega arith)
     is-free-requires
     sub-missing
-    add-i
-    loop-less
+    (λ c. omega arith)
+    (λ c. omega arith)
     loop-again
     returns)

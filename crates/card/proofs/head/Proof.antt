@@ -1,4 +1,4 @@
--- `card::head` meets its contract: the word to come is in its block, and the block on the card. Assumes nothing.
+-- `card::head` meets its contract: the word to come is in its block, and the block on the card.
 use native.Mathlib.Omega.{arith}
 use Rattle.words.specs.Words.{words}
 use Rattle.card.proofs.Cursors.{in-block, in-card}
@@ -14,8 +14,5 @@ block-word-requires c κs =
     let b = in-card W (s .args .c) (s .pre .0) (s .pre .1) in
     omega (arith, b .inside)
 
-returns : tie.Need-returns
-returns c = search needs
-
 pub head-spec : {M : Type 1} → statement M
-head-spec = tie.close (tie.spec block-word-requires returns)
+head-spec = tie.close (tie.spec block-word-requires (λ c. search needs))

@@ -1,4 +1,4 @@
--- `card::is_free` meets its contract. The invariant: the block is free where its words from `at` on are all ones. Assumes nothing.
+-- `card::is_free` meets its contract. The invariant: the block is free where its words from `at` on are all ones.
 use mathlib.Core.Path.{_≡_, refl, sym, _∙_}
 use Prim.Native.Nat.{_-_, _≤_}
 use native.Mathlib.Omega.{arith}
@@ -20,21 +20,12 @@ abbrev μ-loop : tie.MeasureT-loop
 loop-holds : tie.Need-loop-holds Inv-loop μ-loop
 loop-holds c = (omega arith, refl)
 
-block-word-requires : tie.Need-block-word-requires Inv-loop μ-loop
-block-word-requires c κs = omega arith
-
 returns : tie.Need-returns Inv-loop μ-loop
 returns c =
     let a = c .before .before .before in
     let s = a .before .before in
     let W = words (s .args .card .now) in
     sym (a .loop .inv .1 ∙ free-not W (s .args .block) (s .pre) (a .loop .at) (omega arith) (λ e. c .if1 .taken (c .before .block-word .ensures ∙ e)))
-
-add-at : tie.Need-add-at Inv-loop μ-loop
-add-at c = omega arith
-
-loop-less : tie.Need-loop-less Inv-loop μ-loop
-loop-less c = omega arith
 
 loop-again : tie.Need-loop-again Inv-loop μ-loop
 loop-again c =
@@ -56,9 +47,9 @@ is-free-spec =
     Inv-loop
     μ-loop
     loop-holds
-    block-word-requires
+    (λ c κs. omega arith)
     returns
-    add-at
-    loop-less
+    (λ c. omega arith)
+    (λ c. omega arith)
     loop-again
     returns-2)

@@ -1,5 +1,5 @@
 -- `card::mark_chain` meets its contract. The invariant: what was asked of the chain and the first marks is what is to be asked of the blocks that
--- are left and the marks by now. Assumes nothing.
+-- are left and the marks by now.
 use mathlib.Core.Bool.{_||_, or-false}
 use mathlib.Core.Path.{_≡_, refl, sym, _∙_}
 use Prim.Native.Nat.{ℕ, _-_}
@@ -50,12 +50,6 @@ mark-requires c κs = let a = c .before .before .before in chained-more (words (
 block-word-requires : tie.Need-block-word-requires Inv-loop μ-loop
 block-word-requires c κs = let a = c .before .before .before .before in chained-more (words (a .before .before .args .card .now)) (a .loop .next) (a .loop .i) (omega arith) (a .loop .inv .0) .0 .inside
 
-sub-i : tie.Need-sub-i Inv-loop μ-loop
-sub-i c = omega arith
-
-loop-less : tie.Need-loop-less Inv-loop μ-loop
-loop-less c = omega arith
-
 loop-again : tie.Need-loop-again Inv-loop μ-loop
 loop-again c =
     let a = c .before .before .before .before .before in
@@ -91,7 +85,7 @@ mark-chain-spec =
     returns
     mark-requires
     block-word-requires
-    sub-i
-    loop-less
+    (λ c. omega arith)
+    (λ c. omega arith)
     loop-again
     returns-2)

@@ -1,4 +1,4 @@
--- `card::next_free` meets its contract. The invariant: the free blocks are those in the places from i on. Assumes nothing.
+-- `card::next_free` meets its contract. The invariant: the free blocks are those in the places from i on.
 use mathlib.Core.Path.{_≡_, refl, sym, ap, _∙_}
 use Prim.Native.Nat.{_-_, _≤_}
 use native.Mathlib.Omega.{arith}
@@ -21,9 +21,6 @@ loop-holds : tie.Need-loop-holds Inv-loop μ-loop
 unfolding freeBlocks
 loop-holds c = (omega arith, refl)
 
-tried-requires : tie.Need-tried-requires Inv-loop μ-loop
-tried-requires c κs = omega arith
-
 is-free-requires : tie.Need-is-free-requires Inv-loop μ-loop
 is-free-requires c κs = omega (arith, c .tried .ensures .0)
 
@@ -34,12 +31,6 @@ returns c =
     let W = words (s .args .card .now) in
     let f = sym (c .before .is-free .ensures) ∙ c .if1 .taken in
     sym (ap firstOf (a .loop .inv .1 ∙ free-here W (s .args .blocks) (s .args .taken) (a .loop .i) (s .pre .2) (c .before .before .tried .result) (omega arith) (c .before .before .tried .ensures .1) f))
-
-add-i : tie.Need-add-i Inv-loop μ-loop
-add-i c = omega arith
-
-loop-less : tie.Need-loop-less Inv-loop μ-loop
-loop-less c = omega arith
 
 loop-again : tie.Need-loop-again Inv-loop μ-loop
 loop-again c =
@@ -62,10 +53,10 @@ next-free-spec =
     Inv-loop
     μ-loop
     loop-holds
-    tried-requires
+    (λ c κs. omega arith)
     is-free-requires
     returns
-    add-i
-    loop-less
+    (λ c. omega arith)
+    (λ c. omega arith)
     loop-again
     returns-2)

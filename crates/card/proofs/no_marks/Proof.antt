@@ -1,4 +1,4 @@
--- `card::no_marks` meets its contract: no bit of a zero is set. Assumes nothing.
+-- `card::no_marks` meets its contract: no bit of a zero is set.
 use Rattle.card.specs.Marks.{marked}
 use Rattle.card.proofs.Marking.{bits-none}
 use Rattle.card.proofs.no_marks.Statement.{statement}

@@ -1,4 +1,4 @@
--- `card::release_block` meets its contract. The invariant: storing what is left of 1,024 words of all ones gives the freed block. Assumes nothing.
+-- `card::release_block` meets its contract. The invariant: storing what is left of 1,024 words of all ones gives the freed block.
 use mathlib.Core.List.{[], _∷_}
 use mathlib.Core.Path.{_≡_, refl, sym, _∙_}
 use Prim.Native.Nat.{_+_, _-_, _*_, _≤_}
@@ -28,12 +28,6 @@ put-block-word-requires : tie.Need-put-block-word-requires Inv-loop μ-loop
 put-block-word-requires c κs =
     let a = c .before .before in
     omega (arith, length-words (a .loop .card), length-words (a .before .before .args .card .now))
-
-add-i : tie.Need-add-i Inv-loop μ-loop
-add-i c = omega arith
-
-loop-less : tie.Need-loop-less Inv-loop μ-loop
-loop-less c = omega arith
 
 loop-again : tie.Need-loop-again Inv-loop μ-loop
 loop-again c =
@@ -66,8 +60,8 @@ release-block-spec =
     μ-loop
     loop-holds
     put-block-word-requires
-    add-i
-    loop-less
+    (λ c. omega arith)
+    (λ c. omega arith)
     loop-again
     same-length
     returns)

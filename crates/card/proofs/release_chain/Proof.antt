@@ -1,5 +1,5 @@
 -- `card::release_chain` meets its contract. The invariant: freeing the blocks that are left gives the card with the whole chain freed; they are
--- different blocks of the card. Assumes nothing.
+-- different blocks of the card.
 use mathlib.Core.Bool.{true}
 use mathlib.Core.Path.{_≡_, refl, sym, _∙_}
 use native.Mathlib.Omega.{arith}
@@ -36,12 +36,6 @@ block-word-requires c κs = let a = c .before .before in chained-more (words (a 
 release-block-requires : tie.Need-release-block-requires Inv-loop μ-loop
 release-block-requires c κs = let a = c .before .before .before .before in (omega arith, chained-more (words (a .loop .card)) (a .loop .next) (a .loop .left) (omega arith) (a .loop .inv .1) .0 .inside)
 
-sub-left : tie.Need-sub-left Inv-loop μ-loop
-sub-left c = omega arith
-
-loop-less : tie.Need-loop-less Inv-loop μ-loop
-loop-less c = omega arith
-
 loop-again : tie.Need-loop-again Inv-loop μ-loop
 loop-again c =
     let a = c .before .before .before .before .before .before .before in
@@ -68,8 +62,8 @@ release-chain-spec =
     cast-freed
     block-word-requires
     release-block-requires
-    sub-left
-    loop-less
+    (λ c. omega arith)
+    (λ c. omega arith)
     loop-again
     same-length
     returns)

@@ -1,5 +1,5 @@
 -- `card::seek` meets its contract. The invariant: what is sought is the same number of words in the content of the blocks still to come, past `k`.
--- Each turn passes over one block. Assumes nothing.
+-- Each turn passes over one block.
 use mathlib.Core.Logic.{inl, inr, ⊎-elim}
 use mathlib.Core.Path.{_≡_, refl, _∙_}
 use Prim.Native.Nat.{_≤_, _+_, _*_}
@@ -31,12 +31,6 @@ next-block-requires c κs =
     let p = past (words (s .args .card .now)) (a .loop .block) (a .loop .m) (a .loop .k) (s .args .left) (omega arith) (ltb-true _ _ (c .if1 .taken)) (a .loop .inv .0) (a .loop .inv .1) in
     (p .0, p .1)
 
-sub-m : tie.Need-sub-m Inv-loop μ-loop
-sub-m c = omega arith
-
-loop-less : tie.Need-loop-less Inv-loop μ-loop
-loop-less c = omega arith
-
 loop-again : tie.Need-loop-again Inv-loop μ-loop
 loop-again c =
     let a = c .before .before .before in
@@ -59,4 +53,4 @@ returns c =
 pub seek-spec : {M : Type 1} → statement M
 seek-spec =
     tie.close
-    (tie.spec Inv-loop μ-loop loop-holds next-block-requires sub-m loop-less loop-again cast-t11 returns)
+    (tie.spec Inv-loop μ-loop loop-holds next-block-requires (λ c. omega arith) (λ c. omega arith) loop-again cast-t11 returns)

@@ -1,22 +1,10 @@
--- `card::tried` meets its contract: upward after the block last taken, then from 0 on. Assumes nothing.
+-- `card::tried` meets its contract: upward after the block last taken, then from 0 on.
 use mathlib.Core.Path.{sym}
 use native.Mathlib.Omega.{arith}
 use Rattle.card.proofs.Taking.{after-up, after-round}
 use borrow.Author.Needs.{needs}
 use Rattle.card.proofs.tried.Statement.{statement}
 use Rattle.card.proofs.tried.Tie as tie
-
-add-block : tie.Need-add-block
-add-block c = search needs
-
-add-block-2 : tie.Need-add-block-2
-add-block-2 c = search needs
-
-cast-result : tie.Need-cast-result
-cast-result c = search needs
-
-cast-result-2 : tie.Need-cast-result-2
-cast-result-2 c = search needs
 
 returns : tie.Need-returns
 returns c =
@@ -29,4 +17,4 @@ returns-2 c =
     (omega arith, sym (after-round (s .args .blocks) (s .args .taken) (s .args .i) (s .pre .0) (s .pre .2) (c .if1 .left)))
 
 pub tried-spec : {M : Type 1} → statement M
-tried-spec = tie.close (tie.spec add-block add-block-2 cast-result cast-result-2 returns returns-2)
+tried-spec = tie.close (tie.spec (λ c. search needs) (λ c. search needs) (λ c. search needs) (λ c. search needs) returns returns-2)

@@ -7,14 +7,8 @@ use Rattle.commands.proofs.double.Tie as tie
 returns : tie.Need-returns
 returns c = counts _ _ (c .if1 .taken)
 
-removal-requires : tie.Need-removal-requires
-removal-requires c κs = search needs
-
 returns-2 : tie.Need-returns-2
 returns-2 c = removes _ _ _ (c .before .if2 .taken) (c .removal .ensures)
-
-asking-requires : tie.Need-asking-requires
-asking-requires c κs = search needs
 
 returns-3 : tie.Need-returns-3
 returns-3 c = asks _ _ _ _ (c .before .if3 .taken) (c .asking .ensures)
@@ -24,4 +18,4 @@ returns-4 c = unknown _ _ (none-double _ _ (c .before .before .if1 .left) (c .be
 
 pub double-spec : {M : Type 1} → statement M
 double-spec =
-    tie.close (tie.spec returns removal-requires returns-2 asking-requires returns-3 returns-4)
+    tie.close (tie.spec returns (λ c κs. search needs) returns-2 (λ c κs. search needs) returns-3 returns-4)

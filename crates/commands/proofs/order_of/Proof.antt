@@ -9,32 +9,14 @@ use Rattle.commands.proofs.order_of.Tie as tie
 returns : tie.Need-returns
 returns c = without-fields (c .before .args .parts .now) (c .if1 .taken)
 
-shared-slice-copy-out-name : tie.Need-shared-slice-copy-out-name
-shared-slice-copy-out-name c = search needs
-
 returns-2 : tie.Need-returns-2
 returns-2 c = without-letter (c .before .before .before .args .parts .now) (c .if2 .taken)
-
-shared-slice-read-letter : tie.Need-shared-slice-read-letter
-shared-slice-read-letter c = search needs
-
-single-requires : tie.Need-single-requires
-single-requires c κs = search needs
 
 returns-3 : tie.Need-returns-3
 returns-3 c = one-field (c .before .before .before .before .before .before .args .parts .now) _ _ (c .before .before .before .if2 .left) refl (omega arith) (c .single .ensures)
 
-shared-slice-copy-out-field : tie.Need-shared-slice-copy-out-field
-shared-slice-copy-out-field c = search needs
-
-double-requires : tie.Need-double-requires
-double-requires c κs = search needs
-
 returns-4 : tie.Need-returns-4
 returns-4 c = two-fields (c .before .before .before .before .before .before .before .before .args .parts .now) _ _ (c .before .before .before .before .before .if2 .left) refl (omega arith) (c .double .ensures)
-
-asking-requires : tie.Need-asking-requires
-asking-requires c κs = search needs
 
 returns-5 : tie.Need-returns-5
 returns-5 c = more-fields (c .before .before .before .before .before .before .before .before .before .args .parts .now) _ _ (c .before .before .before .before .before .before .if2 .left) refl (omega arith) (λ g fs. asks _ _ _ _ (c .before .if5 .taken) (c .asking .ensures))
@@ -47,14 +29,14 @@ order-of-spec =
     tie.close
     (tie.spec
     returns
-    shared-slice-copy-out-name
+    (λ c. search needs)
     returns-2
-    shared-slice-read-letter
-    single-requires
+    (λ c. search needs)
+    (λ c κs. search needs)
     returns-3
-    shared-slice-copy-out-field
-    double-requires
+    (λ c. search needs)
+    (λ c κs. search needs)
     returns-4
-    asking-requires
+    (λ c κs. search needs)
     returns-5
     returns-6)

@@ -1,5 +1,5 @@
 -- `drafts::apart_from` meets its contract. The invariant: that all blocks are apart from the marks given is that those of the partitions from i on are
--- apart from the marks so far. Assumes nothing.
+-- apart from the marks so far.
 use mathlib.Core.Path.{_≡_, refl, sym, _∙_}
 use Prim.Native.Nat.{_-_, _≤_}
 use native.Mathlib.Omega.{arith}
@@ -25,20 +25,8 @@ Inv-loop card ps n m₀ i₀ m i =
 abbrev μ-loop : tie.MeasureT-loop
 μ-loop card ps n m₀ i₀ m i = n - i
 
-cast-n : tie.Need-cast-n Inv-loop μ-loop
-cast-n c = search needs
-
 loop-holds : tie.Need-loop-holds Inv-loop μ-loop
 loop-holds c = (search (unmapped, needs), omega arith, refl)
-
-mul-p : tie.Need-mul-p Inv-loop μ-loop
-mul-p c = search needs
-
-element-copy-out-p : tie.Need-element-copy-out-p Inv-loop μ-loop
-element-copy-out-p c = search needs
-
-blocks-for-requires : tie.Need-blocks-for-requires Inv-loop μ-loop
-blocks-for-requires c κs = search needs
 
 mark-chain-requires : tie.Need-mark-chain-requires Inv-loop μ-loop
 mark-chain-requires c κs =
@@ -57,12 +45,6 @@ returns c =
     let ps = s .args .t3 in
     let t = rw (c .before .before .before .blocks-for .ensures) at (failed {t = unmarked (a .m) (chain W (getD (ps .records) (a .i) noPartition .first) (c .before .before .before .blocks-for .result))} (c .before .before .mark-chain .ensures .0) (c .if1 .taken)) in
     sym (a .inv .2 ∙ apart-fails W (a .m) (ps .records) (ps .used) (a .i) noPartition (omega (arith, a .inv .0, s .pre .0)) (c .before .before .before .before .before .loop-test .taken) t)
-
-add-i : tie.Need-add-i Inv-loop μ-loop
-add-i c = search needs
-
-loop-less : tie.Need-loop-less Inv-loop μ-loop
-loop-less c = search needs
 
 loop-again : tie.Need-loop-again Inv-loop μ-loop
 loop-again c =
@@ -90,14 +72,14 @@ apart-from-spec =
     (tie.spec
     Inv-loop
     μ-loop
-    cast-n
+    (λ c. search needs)
     loop-holds
-    mul-p
-    element-copy-out-p
-    blocks-for-requires
+    (λ c. search needs)
+    (λ c. search needs)
+    (λ c κs. search needs)
     mark-chain-requires
     returns
-    add-i
-    loop-less
+    (λ c. search needs)
+    (λ c. search needs)
     loop-again
     returns-2)

@@ -16,33 +16,6 @@ use borrow.Author.Needs.{needs}
 use Rattle.drafts.proofs.read_draft.Statement.{statement}
 use Rattle.drafts.proofs.read_draft.Tie as tie
 
-cast-k : tie.Need-cast-k
-cast-k c = search needs
-
-seek-requires : tie.Need-seek-requires
-seek-requires c κs = search needs
-
-rest-free-requires : tie.Need-rest-free-requires
-rest-free-requires c κs = search needs
-
-mul-room : tie.Need-mul-room
-mul-room c = search needs
-
-sub-room : tie.Need-sub-room
-sub-room c = search needs
-
-seek-requires-2 : tie.Need-seek-requires-2
-seek-requires-2 c κs = search needs
-
-slice-aggregate-open-inputs : tie.Need-slice-aggregate-open-inputs
-slice-aggregate-open-inputs c = search needs
-
-open-inputs-requires : tie.Need-open-inputs-requires
-open-inputs-requires c κs = search needs
-
-slice-aggregate-pass : tie.Need-slice-aggregate-pass
-slice-aggregate-pass c = search needs
-
 pass-requires : tie.Need-pass-requires
 pass-requires c κs =
     let s = c .before .before .before .before .before .before .before .before .before in
@@ -53,21 +26,6 @@ pass-requires c κs =
     let r : length (outWords (s .args .passed) ps) ≤ out .result .left =
     omega (arith, words-room (s .args .passed) ps, s .pre .5, length-ahead W (out .result), draft-left W (s .args .first) (s .args .n) (s .args .front) (s .args .passed) ps (s .pre .3) (s .pre .5) (ahead W (out .result)) (out .ensures .0)) in
     (o .ensures .0, out .ensures .1, rw (o .ensures .1) r)
-
-rest-free-requires-2 : tie.Need-rest-free-requires-2
-rest-free-requires-2 c κs = search needs
-
-slice-aggregate-sixteen : tie.Need-slice-aggregate-sixteen
-slice-aggregate-sixteen c = search needs
-
-sixteen-requires : tie.Need-sixteen-requires
-sixteen-requires c κs = search needs
-
-both-requires : tie.Need-both-requires
-both-requires c κs = search needs
-
-both-requires-2 : tie.Need-both-requires-2
-both-requires-2 c κs = search needs
 
 sub-t17 : tie.Need-sub-t17
 sub-t17 c =
@@ -108,20 +66,20 @@ pub read-draft-spec : {M : Type 1} → statement M
 read-draft-spec =
     tie.close
     (tie.spec
-    cast-k
-    seek-requires
-    rest-free-requires
-    mul-room
-    sub-room
-    seek-requires-2
-    slice-aggregate-open-inputs
-    open-inputs-requires
-    slice-aggregate-pass
+    (λ c. search needs)
+    (λ c κs. search needs)
+    (λ c κs. search needs)
+    (λ c. search needs)
+    (λ c. search needs)
+    (λ c κs. search needs)
+    (λ c. search needs)
+    (λ c κs. search needs)
+    (λ c. search needs)
     pass-requires
-    rest-free-requires-2
-    slice-aggregate-sixteen
-    sixteen-requires
-    both-requires
-    both-requires-2
+    (λ c κs. search needs)
+    (λ c. search needs)
+    (λ c κs. search needs)
+    (λ c κs. search needs)
+    (λ c κs. search needs)
     sub-t17
     returns)

@@ -1,4 +1,4 @@
--- `drafts::stands_apart` meets its contract. Assumes nothing.
+-- `drafts::stands_apart` meets its contract.
 use mathlib.Core.Bool.{Bool, _&&_}
 use mathlib.Core.List.{_++_}
 use mathlib.Core.Path.{sym, ap, _∙_}
@@ -14,12 +14,6 @@ use Rattle.partitions.specs.Formed.{chainsOf}
 use Rattle.drafts.proofs.stands_apart.Statement.{statement}
 use Rattle.drafts.proofs.stands_apart.Tie as tie
 
-no-marks-requires : tie.Need-no-marks-requires
-no-marks-requires c κs = search needs
-
-mark-chain-requires : tie.Need-mark-chain-requires
-mark-chain-requires c κs = search needs
-
 returns : tie.Need-returns
 returns c =
     let s = c .before .before .before .before .before in
@@ -30,9 +24,6 @@ returns c =
     sym
     (sym (unmarked-first (none .result) (a ++ b) (none .ensures))
     ∙ unmarked-stop (none .result) a b (failed {t = unmarked (none .result) a} (c .before .before .mark-chain .ensures .0) (c .if1 .taken)))
-
-apart-from-requires : tie.Need-apart-from-requires
-apart-from-requires c κs = search needs
 
 returns-2 : tie.Need-returns-2
 returns-2 c =
@@ -51,4 +42,4 @@ returns-2 c =
 pub stands-apart-spec : {M : Type 1} → statement M
 stands-apart-spec =
     tie.close
-    (tie.spec no-marks-requires mark-chain-requires returns apart-from-requires returns-2)
+    (tie.spec (λ c κs. search needs) (λ c κs. search needs) returns (λ c κs. search needs) returns-2)

@@ -1,6 +1,6 @@
 -- `engine::fill_by` meets its contract: a walk of its MIR, by hand, with a loop. The borrow is opened once, before the loop, and closed once, after it; between the two the row of elements is the function's own.
 -- After i turns the row is `filled i top ys`. A turn calls `hit_at` and stores what it returned over element i. All that the proof knows of `listed` and `hit_at` is that each meets its contract.
--- Assumes nothing.
+--
 use mathlib.Core.Path.{_≡_, refl, sym, _∙_, ap, subst}
 use Prim.Native.Nat.{ℕ, _<_, _≤_, _^_, _*_, _+_, _-_}
 use mathlib.Core.List.{[], _∷_, List}
@@ -16,7 +16,7 @@ use base.Logic.{SProp, ent, emp, snd∗, exE, id⊢}
 use base.Fml.{GName, Lft, Share, ftrue, flft, fobs, fauth, fbor, fobor, fat, froom, fdies}
 use prog.Memory.{Memory}
 use prog.Routine.{Routine}
-use prog.Wp.{Heap, Env, Calls, Loops, Wp, WpFn, Tables, Out, afterSeq, afterBlock, afterTurn, atReturn}
+use prog.Wp.{Heap, Env, Wp, WpFn, Tables, Out, afterSeq, afterBlock, afterTurn, atReturn}
 use ghost.Atoms.{Atoms, sem}
 use contract.Monad.{Fun, fact}
 use contract.Running.{givenOf, tables, tablesOf}
@@ -47,8 +47,7 @@ use denote.Triple.Walked.{says, needs, Stays, stay-slice, stay-none, walkOf, goe
 use denote.Exit.{yes}
 use Rattle.answers.specs.declared.Hit.{Hit}
 use Rattle.queries.specs.declared.Top.{Top}
-use Rattle.queries.specs.Query.{fill}
-use Rattle.queries.specs.Top.{noHit, listedHits}
+use Rattle.queries.specs.Top.{noHit}
 use Rattle.answers.proofs.Hit as T
 use Rattle.answers.proofs.Hit.Laws as T′
 use Rattle.queries.proofs.Top as K

@@ -10,18 +10,9 @@ use Rattle.engine.proofs.Lent.{gives-lent}
 use Rattle.engine.proofs.step_beside.Statement.{statement}
 use Rattle.engine.proofs.step_beside.Tie as tie
 
-same-record-requires : tie.Need-same-record-requires
-same-record-requires c κs = search needs
-
 returns : tie.Need-returns
 unfolding lentStepOf
 returns c = stopped _ 1 _ (ap not (sym (c .before .same-record .ensures)) ∙ c .if1 .taken)
-
-step-requires : tie.Need-step-requires
-step-requires c κs = search needs
-
-same-length : tie.Need-same-length
-same-length c = search needs
 
 returns-2 : tie.Need-returns-2
 returns-2 c =
@@ -32,4 +23,4 @@ returns-2 c =
     gives-lent (storeOf (s .s) (s .card .now)) (s .job) (storeOf (r .result .state) (r .last .1 .0)) same (r .ensures)
 
 pub step-beside-spec : {M : Type 1} → statement M
-step-beside-spec = tie.close (tie.spec same-record-requires returns step-requires same-length returns-2)
+step-beside-spec = tie.close (tie.spec (λ c κs. search needs) returns (λ c κs. search needs) (λ c. search needs) returns-2)

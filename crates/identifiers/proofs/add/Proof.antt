@@ -21,23 +21,11 @@ abbrev μ-loop : tie.MeasureT-loop
 past : (k i : ℕ) → k + (i + 1) ≡ suc (k + i)
 past k i = omega arith
 
-mul-start : tie.Need-mul-start Inv-loop μ-loop
-mul-start c = omega arith
-
 cast-register : tie.Need-cast-register Inv-loop μ-loop
 cast-register c = omega (arith, good-length (c .args .id .now) (c .pre .2))
 
-slice-write-register : tie.Need-slice-write-register Inv-loop μ-loop
-slice-write-register c = omega arith
-
 loop-holds : tie.Need-loop-holds Inv-loop μ-loop
 loop-holds c = (zero-le, refl, rw add-zero)
-
-shared-slice-read-register : tie.Need-shared-slice-read-register Inv-loop μ-loop
-shared-slice-read-register c = omega arith
-
-add-register : tie.Need-add-register Inv-loop μ-loop
-add-register c = omega arith
 
 add-register-2 : tie.Need-add-register-2 Inv-loop μ-loop
 add-register-2 c = omega (arith, good-length (c .before .before .before .args .id .now) (c .before .before .before .pre .2))
@@ -46,12 +34,6 @@ slice-write-register-2 : tie.Need-slice-write-register-2 Inv-loop μ-loop
 slice-write-register-2 c =
     let s = c .before .before .before in
     omega (arith, good-length (s .args .id .now) (s .pre .2), simp length-set at (c .before .before .loop .inv .1))
-
-add-i : tie.Need-add-i Inv-loop μ-loop
-add-i c = omega arith
-
-loop-less : tie.Need-loop-less Inv-loop μ-loop
-loop-less c = omega arith
 
 loop-again : tie.Need-loop-again Inv-loop μ-loop
 loop-again c =
@@ -85,16 +67,16 @@ add-spec =
     (tie.spec
     Inv-loop
     μ-loop
-    mul-start
+    (λ c. omega arith)
     cast-register
-    slice-write-register
+    (λ c. omega arith)
     loop-holds
-    shared-slice-read-register
-    add-register
+    (λ c. omega arith)
+    (λ c. omega arith)
     add-register-2
     slice-write-register-2
-    add-i
-    loop-less
+    (λ c. omega arith)
+    (λ c. omega arith)
     loop-again
     same-length
     returns)

@@ -1,15 +1,14 @@
-use mathlib.Core.Path.{_≡_, refl, sym, ap, _∙_}
-use Prim.Native.Nat.{ℕ, suc, _+_, _-_, _<_, _≤_}
+use mathlib.Core.Path.{_≡_, sym, ap, _∙_}
+use Prim.Native.Nat.{suc, _-_, _≤_}
 use native.Mathlib.Omega.{arith}
 use lib.ListN.{length, getD}
 use Rattle.identifiers.proofs.Entries.{length-entry}
 use mathlib.Core.Bool.{true}
 use lib.Dec.{eqb}
-use borrow.Author.Tests.{eqb-true, eqb-false, not-true, not-false}
+use borrow.Author.Tests.{eqb-true, eqb-false, not-false}
 use Rattle.lists.proofs.Bools.{by-test}
 use Rattle.lists.proofs.Runs.{never}
 use Rattle.identifiers.specs.Order.{before, Ascending}
-use borrow.Author.Needs.{needs}
 use Rattle.identifiers.proofs.ascending.Statement.{statement}
 use Rattle.identifiers.proofs.ascending.Tie as tie
 
@@ -21,9 +20,6 @@ abbrev μ-loop : tie.MeasureT-loop
 
 loop-holds : tie.Need-loop-holds Inv-loop μ-loop
 loop-holds c = (omega arith, λ m h. absurd (omega arith))
-
-sub-entry-at : tie.Need-sub-entry-at Inv-loop μ-loop
-sub-entry-at c = omega arith
 
 mul-entry-at : tie.Need-mul-entry-at Inv-loop μ-loop
 mul-entry-at c = omega (arith, c .before .before .before .pre .1)
@@ -62,9 +58,6 @@ returns c e = never e
 add-k : tie.Need-add-k Inv-loop μ-loop
 add-k c = omega (arith, c .before .before .before .before .before .before .before .before .before .pre .1)
 
-loop-less : tie.Need-loop-less Inv-loop μ-loop
-loop-less c = omega arith
-
 loop-again : tie.Need-loop-again Inv-loop μ-loop
 loop-again c =
     let s = c .before .before .before .before .before .before .before .before .before in
@@ -83,4 +76,4 @@ returns-2 : tie.Need-returns-2 Inv-loop μ-loop
 returns-2 c e m h = c .before .loop .inv .1 m (omega (arith, c .loop-test .left))
 
 pub ascending-spec : {M : Type 1} → statement M
-ascending-spec = tie.close (tie.spec Inv-loop μ-loop loop-holds sub-entry-at mul-entry-at element-copy-out-entry-at cast-entry-at entry-at-requires mul-entry-at-2 element-copy-out-entry-at-2 cast-entry-at-2 entry-at-requires-2 less-requires returns add-k loop-less loop-again returns-2)
+ascending-spec = tie.close (tie.spec Inv-loop μ-loop loop-holds (λ c. omega arith) mul-entry-at element-copy-out-entry-at cast-entry-at entry-at-requires mul-entry-at-2 element-copy-out-entry-at-2 cast-entry-at-2 entry-at-requires-2 less-requires returns add-k (λ c. omega arith) loop-again returns-2)

@@ -39,9 +39,6 @@ loop-holds c = (zero-le, refl, refl, refl, heads-none _, λ p k. absurd (omega a
 name-at-requires : tie.Need-name-at-requires Inv-loop μ-loop
 name-at-requires c κs = (c .before .before .before .before .pre .0, omega (arith, c .before .before .count-used .ensures))
 
-hash-of-requires : tie.Need-hash-of-requires Inv-loop μ-loop
-hash-of-requires c κs = search needs
-
 mul-first : tie.Need-mul-first Inv-loop μ-loop
 mul-first c = omega (arith, c .hash-of .ensures, hash-below (c .before .name-at .result .now))
 
@@ -107,9 +104,6 @@ mul-heads c = omega (arith, c .before .before .before .hash-of .ensures, hash-be
 array-write-heads : tie.Need-array-write-heads Inv-loop μ-loop
 array-write-heads c = omega (arith, c .before .before .before .hash-of .ensures, hash-below (c .before .before .before .before .name-at .result .now))
 
-loop-less : tie.Need-loop-less Inv-loop μ-loop
-loop-less c = omega arith
-
 loop-again : tie.Need-loop-again Inv-loop μ-loop
 loop-again c =
     let l = c .before .before .before .before .before .before in
@@ -146,7 +140,7 @@ chained-apart-spec =
     count-used-requires
     loop-holds
     name-at-requires
-    hash-of-requires
+    (λ c κs. search needs)
     mul-first
     array-read-first
     cast-repeated
@@ -158,6 +152,6 @@ chained-apart-spec =
     cast-heads
     mul-heads
     array-write-heads
-    loop-less
+    (λ c. omega arith)
     loop-again
     returns-2)

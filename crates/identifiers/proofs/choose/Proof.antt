@@ -1,9 +1,8 @@
-use mathlib.Core.Path.{_≡_, refl, sym, ap, _∙_}
-use Prim.Native.Nat.{ℕ, suc, _+_, _-_, _<_, _≤_}
+use mathlib.Core.Path.{refl, ap, _∙_}
+use Prim.Native.Nat.{_-_}
 use native.Mathlib.Omega.{arith}
-use lib.ListN.{length, getD}
+use lib.ListN.{length}
 use Rattle.identifiers.proofs.Entries.{length-entry}
-use borrow.Author.Needs.{needs}
 use Rattle.identifiers.proofs.choose.Statement.{statement}
 use Rattle.identifiers.proofs.choose.Tie as tie
 

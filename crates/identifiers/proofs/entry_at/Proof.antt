@@ -13,12 +13,6 @@ mul-at c = omega (arith, entry-room (c .args .register .now) (c .args .i) (c .pr
 add-end : tie.Need-add-end
 add-end c = omega (arith, entry-room (c .args .register .now) (c .args .i) (c .pre))
 
-sub-result : tie.Need-sub-result
-sub-result c = search needs
-
-part-result-start : tie.Need-part-result-start
-part-result-start c = search needs
-
 part-result-end : tie.Need-part-result-end
 part-result-end c = omega (arith, entry-room (c .args .register .now) (c .args .i) (c .pre))
 
@@ -30,4 +24,4 @@ returns c =
 
 pub entry-at-spec : {M : Type 1} → statement M
 entry-at-spec =
-    tie.close (tie.spec mul-at add-end sub-result part-result-start part-result-end returns)
+    tie.close (tie.spec mul-at add-end (λ c. search needs) (λ c. search needs) part-result-end returns)

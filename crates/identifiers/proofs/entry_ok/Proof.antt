@@ -14,9 +14,6 @@ use Rattle.identifiers.specs.Register.{size, used, entryRule}
 use Rattle.identifiers.proofs.entry_ok.Statement.{statement}
 use Rattle.identifiers.proofs.entry_ok.Tie as tie
 
-shared-slice-read-size : tie.Need-shared-slice-read-size
-shared-slice-read-size c = search needs
-
 cast-size : tie.Need-cast-size
 cast-size c = omega (arith, c .shared-slice-known2 .given 0)
 
@@ -28,21 +25,6 @@ returns-2 c =
     let s = c .before .before .before .before .before in
     let u : used (s .args .entry .now) ≡ true = lt-ltb 0 (size (s .args .entry .now)) (c .if3 .taken) in
     sym (rw (c .before .if2 .taken, u) (and-false (entryRule (s .args .entry .now))))
-
-add-rest : tie.Need-add-rest
-add-rest c = search needs
-
-sub-zeros : tie.Need-sub-zeros
-sub-zeros c = search needs
-
-part-zeros-start : tie.Need-part-zeros-start
-part-zeros-start c = search needs
-
-part-zeros-end : tie.Need-part-zeros-end
-part-zeros-end c = search needs
-
-zeros-requires : tie.Need-zeros-requires
-zeros-requires c κs = search needs
 
 returns-3 : tie.Need-returns-3
 returns-3 c =
@@ -60,13 +42,13 @@ pub entry-ok-spec : {M : Type 1} → statement M
 entry-ok-spec =
     tie.close
     (tie.spec
-    shared-slice-read-size
+    (λ c. search needs)
     cast-size
     returns
     returns-2
-    add-rest
-    sub-zeros
-    part-zeros-start
-    part-zeros-end
-    zeros-requires
+    (λ c. search needs)
+    (λ c. search needs)
+    (λ c. search needs)
+    (λ c. search needs)
+    (λ c κs. search needs)
     returns-3)

@@ -1,11 +1,7 @@
-use mathlib.Core.Path.{_≡_, refl}
-use Prim.Native.Nat.{_-_, _<_, _≤_}
+use Prim.Native.Nat.{_-_, _≤_}
 use native.Mathlib.Omega.{arith}
-use lib.ListN.{length, length-set}
 use Rattle.words.specs.Words.{Below}
 use Rattle.identifiers.proofs.Sorted.{below-set}
-use mathlib.Core.Path.{_∙_}
-use borrow.Author.Needs.{needs}
 use Rattle.identifiers.proofs.fill.Statement.{statement}
 use Rattle.identifiers.proofs.fill.Tie as tie
 
@@ -30,9 +26,6 @@ element-write-order c = omega (arith, c .before .before .pre .0)
 add-i : tie.Need-add-i Inv-loop μ-loop
 add-i c = omega (arith, c .before .before .pre .0)
 
-loop-less : tie.Need-loop-less Inv-loop μ-loop
-loop-less c = omega arith
-
 loop-again : tie.Need-loop-again Inv-loop μ-loop
 loop-again c =
     let s = c .before .before in
@@ -43,4 +36,4 @@ returns : tie.Need-returns Inv-loop μ-loop
 returns c = c .before .loop .inv .1
 
 pub fill-spec : {M : Type 1} → statement M
-fill-spec = tie.close (tie.spec Inv-loop μ-loop loop-holds cast-order mul-order element-write-order add-i loop-less loop-again returns)
+fill-spec = tie.close (tie.spec Inv-loop μ-loop loop-holds cast-order mul-order element-write-order add-i (λ c. omega arith) loop-again returns)

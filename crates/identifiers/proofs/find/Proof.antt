@@ -32,9 +32,6 @@ name-at-requires c κs =
     let s = c .before .before .before .before .before in
     (rule-formed (s .args .register .now) (s .pre), omega (arith, c .before .before .count-used .ensures))
 
-equal-requires : tie.Need-equal-requires Inv-loop μ-loop
-equal-requires c κs = search needs
-
 returns : tie.Need-returns Inv-loop μ-loop
 returns c =
     let l = c .before .before .before .before in
@@ -46,12 +43,6 @@ returns c =
     let e : same (getD ms i []) id ≡ true = ap (λ (m : Name). same m id) (sym (c .before .before .name-at .ensures)) ∙ sym (c .before .equal .ensures) ∙ c .if1 .taken in
     let t : numberOf (drop i ms) id ≡ zero = number-step ms id i h ∙ rw e in
     omega (arith, l .loop .inv .1, t)
-
-add-i : tie.Need-add-i Inv-loop μ-loop
-add-i c = omega arith
-
-loop-less : tie.Need-loop-less Inv-loop μ-loop
-loop-less c = omega arith
 
 loop-again : tie.Need-loop-again Inv-loop μ-loop
 loop-again c =
@@ -82,9 +73,9 @@ find-spec =
     count-used-requires
     loop-holds
     name-at-requires
-    equal-requires
+    (λ c κs. search needs)
     returns
-    add-i
-    loop-less
+    (λ c. omega arith)
+    (λ c. omega arith)
     loop-again
     returns-2)

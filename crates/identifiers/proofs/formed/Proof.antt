@@ -54,12 +54,6 @@ shared-slice-read-ended c =
     let h : i < length (entries r) = omega (arith, length-entries r) in
     rw (c .before .before .before .entry-at .ensures) (omega (arith, length-entry r i h))
 
-add-i : tie.Need-add-i Inv-loop μ-loop
-add-i c = omega arith
-
-loop-less : tie.Need-loop-less Inv-loop μ-loop
-loop-less c = omega arith
-
 loop-again : tie.Need-loop-again Inv-loop μ-loop
 loop-again c =
     let l = c .before .before .before .before .before in
@@ -93,7 +87,7 @@ formed-spec =
     entry-ok-requires
     returns
     shared-slice-read-ended
-    add-i
-    loop-less
+    (λ c. omega arith)
+    (λ c. omega arith)
     loop-again
     returns-2)

@@ -19,23 +19,11 @@ loop-holds : tie.Need-loop-holds Inv-loop μ-loop
 unfolding hashOf
 loop-holds c = (zero-le, omega arith, refl)
 
-mul-hash : tie.Need-mul-hash Inv-loop μ-loop
-mul-hash c = omega arith
-
-shared-slice-read-hash : tie.Need-shared-slice-read-hash Inv-loop μ-loop
-shared-slice-read-hash c = omega arith
-
 cast-hash : tie.Need-cast-hash Inv-loop μ-loop
 cast-hash c = omega (arith, c .shared-slice-known .given (c .before .before .loop .i))
 
 add-hash : tie.Need-add-hash Inv-loop μ-loop
 add-hash c = omega (arith, c .shared-slice-known .given (c .before .before .loop .i))
-
-add-i : tie.Need-add-i Inv-loop μ-loop
-add-i c = omega arith
-
-loop-less : tie.Need-loop-less Inv-loop μ-loop
-loop-less c = omega arith
 
 loop-again : tie.Need-loop-again Inv-loop μ-loop
 loop-again c =
@@ -57,11 +45,11 @@ hash-of-spec =
     Inv-loop
     μ-loop
     loop-holds
-    mul-hash
-    shared-slice-read-hash
+    (λ c. omega arith)
+    (λ c. omega arith)
     cast-hash
     add-hash
-    add-i
-    loop-less
+    (λ c. omega arith)
+    (λ c. omega arith)
     loop-again
     returns)

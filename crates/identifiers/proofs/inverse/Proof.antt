@@ -1,18 +1,11 @@
-use mathlib.Core.Path.{_≡_, refl}
-use Prim.Native.Nat.{_-_, _<_, _≤_}
+use Prim.Native.Nat.{_-_, _≤_}
 use native.Mathlib.Omega.{arith}
-use lib.ListN.{length, length-set}
-use Rattle.words.specs.Words.{Below}
-use Rattle.identifiers.proofs.Sorted.{below-set}
-use mathlib.Core.Path.{sym, _∙_}
-use mathlib.Core.Bool.{true}
 use lib.ListN.{getD}
 use lib.Dec.{eqb}
 use borrow.Author.Tests.{eqb-true, eqb-false}
 use Rattle.lists.proofs.Bools.{by-test}
 use Rattle.lists.proofs.Runs.{never}
 use Rattle.identifiers.specs.Order.{Inverse}
-use borrow.Author.Needs.{needs}
 use Rattle.identifiers.proofs.inverse.Statement.{statement}
 use Rattle.identifiers.proofs.inverse.Tie as tie
 
@@ -49,9 +42,6 @@ returns c e = never e
 add-p : tie.Need-add-p Inv-loop μ-loop
 add-p c = omega (arith, c .before .before .before .before .before .pre .0)
 
-loop-less : tie.Need-loop-less Inv-loop μ-loop
-loop-less c = omega arith
-
 loop-again : tie.Need-loop-again Inv-loop μ-loop
 loop-again c =
     let l = c .before .before .before .before .loop in
@@ -61,4 +51,4 @@ returns-2 : tie.Need-returns-2 Inv-loop μ-loop
 returns-2 c e q h = let l = c .before .loop in l .inv .1 q (omega (arith, c .loop-test .left))
 
 pub inverse-spec : {M : Type 1} → statement M
-inverse-spec = tie.close (tie.spec Inv-loop μ-loop loop-holds mul-k element-copy-out-k cast-k mul-if1 element-copy-out-if1 cast-if1 returns add-p loop-less loop-again returns-2)
+inverse-spec = tie.close (tie.spec Inv-loop μ-loop loop-holds mul-k element-copy-out-k cast-k mul-if1 element-copy-out-if1 cast-if1 returns add-p (λ c. omega arith) loop-again returns-2)

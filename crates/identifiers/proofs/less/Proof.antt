@@ -1,16 +1,13 @@
 -- `identifiers::less` meets its contract. The loop's invariant: the words passed are equal.
-use mathlib.Core.List.{[], _∷_, _++_}
-use mathlib.Core.Path.{_≡_, refl, sym, ap, _∙_}
-use Prim.Native.Nat.{ℕ, suc, _-_, _<_, _≤_}
+use mathlib.Core.Path.{_≡_, refl, sym, _∙_}
+use Prim.Native.Nat.{_-_, _≤_}
 use native.Mathlib.Numerals.{add-one}
 use native.Mathlib.Omega.{arith}
-use lib.ListN.{length, getD, drop, length-append, List·getD-append}
-use lib.Seq.{drop-at}
+use lib.ListN.{getD, drop}
 use Rattle.words.specs.Words.{words}
 use Rattle.words.proofs.Views.{length-words}
 use Rattle.identifiers.specs.Order.{lower, key}
 use Rattle.identifiers.proofs.Sorted.{lower-same, lower-apart, lower-last, key-length, key-word, key-last}
-use borrow.Author.Needs.{needs}
 use Rattle.identifiers.proofs.less.Statement.{statement}
 use Rattle.identifiers.proofs.less.Tie as tie
 
@@ -40,12 +37,6 @@ returns c =
     let y = c .before .word-at2 .ensures ∙ sym (key-word b (s .pre .1) i (omega arith)) in
     rw (x, y) (sym (l .inv .1 ∙ lower-apart (key a) (key b) i (omega (arith, key-length a (s .pre .0))) (omega (arith, key-length b (s .pre .1))) (λ e. c .if1 .taken (x ∙ e ∙ sym y))))
 
-add-c : tie.Need-add-c Inv-loop μ-loop
-add-c c = omega arith
-
-loop-less : tie.Need-loop-less Inv-loop μ-loop
-loop-less c = omega arith
-
 loop-again : tie.Need-loop-again Inv-loop μ-loop
 loop-again c =
     let s = c .before .before .before .before .before .before .before in
@@ -73,4 +64,4 @@ returns-2 c =
     sym (rw e at (l .inv .1) ∙ rw (key-last a (s .pre .0), key-last b (s .pre .1)) (lower-last (getD a 64 0) (getD b 64 0)))
 
 pub less-spec : {M : Type 1} → statement M
-less-spec = tie.close (tie.spec Inv-loop μ-loop loop-holds word-at-requires word-at-requires-2 returns add-c loop-less loop-again shared-slice-read-result shared-slice-read-result-2 returns-2)
+less-spec = tie.close (tie.spec Inv-loop μ-loop loop-holds word-at-requires word-at-requires-2 returns (λ c. omega arith) (λ c. omega arith) loop-again shared-slice-read-result shared-slice-read-result-2 returns-2)

@@ -1,11 +1,9 @@
-use mathlib.Core.Path.{_≡_, refl, sym, ap, _∙_}
-use Prim.Native.Nat.{ℕ, suc, _+_, _-_, _<_, _≤_}
+use Prim.Native.Nat.{_+_, _-_, _≤_}
 use native.Mathlib.Omega.{arith}
-use lib.ListN.{length, getD}
+use lib.ListN.{getD}
 use mathlib.Core.Logic.{⊎-elim}
 use Rattle.words.specs.Words.{Below}
 use Rattle.identifiers.proofs.Sorted.{below-set}
-use borrow.Author.Needs.{needs}
 use Rattle.identifiers.proofs.merge.Statement.{statement}
 use Rattle.identifiers.proofs.merge.Tie as tie
 
@@ -45,9 +43,6 @@ add-j c = omega (arith, c .before .before .before .before .before .before .pre .
 add-k : tie.Need-add-k Inv-loop μ-loop
 add-k c = omega (arith, c .before .before .before .before .before .before .pre .5, c .before .before .before .loop-test .taken)
 
-loop-less : tie.Need-loop-less Inv-loop μ-loop
-loop-less c = omega arith
-
 loop-again : tie.Need-loop-again Inv-loop μ-loop
 loop-again c =
     let s = c .before .before .before .before .before .before in
@@ -66,4 +61,4 @@ returns : tie.Need-returns Inv-loop μ-loop
 returns c = c .before .loop .inv .4
 
 pub merge-spec : {M : Type 1} → statement M
-merge-spec = tie.close (tie.spec Inv-loop μ-loop loop-holds add-choose sub-choose choose-requires mul-to element-copy-out-to mul-to-2 element-write-to add-j add-k loop-less loop-again returns)
+merge-spec = tie.close (tie.spec Inv-loop μ-loop loop-holds add-choose sub-choose choose-requires mul-to element-copy-out-to mul-to-2 element-write-to add-j add-k (λ c. omega arith) loop-again returns)

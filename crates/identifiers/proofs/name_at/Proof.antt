@@ -28,12 +28,6 @@ cast-end c = omega (arith, c .shared-slice-known2 .given 0)
 add-end : tie.Need-add-end
 add-end c = omega (arith, c .shared-slice-known2 .given 0)
 
-sub-result : tie.Need-sub-result
-sub-result c = search needs
-
-part-result-start : tie.Need-part-result-start
-part-result-start c = search needs
-
 part-result-end : tie.Need-part-result-end
 part-result-end c =
     let s = c .before .before .before in
@@ -61,7 +55,7 @@ name-at-spec =
     shared-slice-read-end
     cast-end
     add-end
-    sub-result
-    part-result-start
+    (λ c. search needs)
+    (λ c. search needs)
     part-result-end
     returns)

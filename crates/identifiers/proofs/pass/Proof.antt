@@ -1,5 +1,4 @@
-use mathlib.Core.Path.{_≡_, refl}
-use Prim.Native.Nat.{ℕ, suc, _+_, _-_, _<_, _≤_}
+use Prim.Native.Nat.{suc, _-_, _≤_}
 use native.Mathlib.Omega.{arith}
 use borrow.Author.Needs.{needs}
 use Rattle.words.specs.Words.{Below}
@@ -18,14 +17,8 @@ loop-holds c = (omega arith, c .before .pre .3)
 add-least : tie.Need-add-least Inv-loop μ-loop
 add-least c = omega (arith, c .before .before .before .pre .1, c .before .before .before .pre .5)
 
-least-requires : tie.Need-least-requires Inv-loop μ-loop
-least-requires c κs = search needs
-
 add-least-2 : tie.Need-add-least-2 Inv-loop μ-loop
 add-least-2 c = omega (arith, c .before .before .before .before .pre .1, c .before .before .before .before .pre .5, c .least .ensures .0)
-
-least-requires-2 : tie.Need-least-requires-2 Inv-loop μ-loop
-least-requires-2 c κs = search needs
 
 merge-requires : tie.Need-merge-requires Inv-loop μ-loop
 merge-requires c κs =
@@ -52,4 +45,4 @@ returns : tie.Need-returns Inv-loop μ-loop
 returns c = c .before .loop .inv .1
 
 pub pass-spec : {M : Type 1} → statement M
-pass-spec = tie.close (tie.spec Inv-loop μ-loop loop-holds add-least least-requires add-least-2 least-requires-2 merge-requires loop-less loop-again returns)
+pass-spec = tie.close (tie.spec Inv-loop μ-loop loop-holds add-least (λ c κs. search needs) add-least-2 (λ c κs. search needs) merge-requires loop-less loop-again returns)

@@ -1,12 +1,8 @@
-use mathlib.Core.Path.{_≡_, refl}
-use Prim.Native.Nat.{_-_, _<_, _≤_}
+use Prim.Native.Nat.{_-_, _≤_}
 use native.Mathlib.Omega.{arith}
-use lib.ListN.{length, length-set}
 use Rattle.words.specs.Words.{Below}
 use Rattle.identifiers.proofs.Sorted.{below-set}
-use mathlib.Core.Path.{_∙_}
 use lib.ListN.{getD}
-use borrow.Author.Needs.{needs}
 use Rattle.identifiers.proofs.rank.Statement.{statement}
 use Rattle.identifiers.proofs.rank.Tie as tie
 
@@ -40,9 +36,6 @@ element-write-ranks c = let s = c .before .before .before in omega (arith, s .pr
 add-k : tie.Need-add-k Inv-loop μ-loop
 add-k c = omega (arith, c .before .before .before .pre .0)
 
-loop-less : tie.Need-loop-less Inv-loop μ-loop
-loop-less c = omega arith
-
 loop-again : tie.Need-loop-again Inv-loop μ-loop
 loop-again c =
     let s = c .before .before .before in
@@ -54,4 +47,4 @@ returns : tie.Need-returns Inv-loop μ-loop
 returns c = c .before .loop .inv .1
 
 pub rank-spec : {M : Type 1} → statement M
-rank-spec = tie.close (tie.spec Inv-loop μ-loop loop-holds mul-p element-copy-out-p cast-p cast-ranks mul-ranks element-write-ranks add-k loop-less loop-again returns)
+rank-spec = tie.close (tie.spec Inv-loop μ-loop loop-holds mul-p element-copy-out-p cast-p cast-ranks mul-ranks element-write-ranks add-k (λ c. omega arith) loop-again returns)

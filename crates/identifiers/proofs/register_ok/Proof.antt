@@ -8,9 +8,6 @@ use Rattle.identifiers.proofs.Entries.{rule-parts}
 use Rattle.identifiers.proofs.register_ok.Statement.{statement}
 use Rattle.identifiers.proofs.register_ok.Tie as tie
 
-formed-requires : tie.Need-formed-requires
-formed-requires c κs = search needs
-
 returns : tie.Need-returns
 returns c =
     let r = c .before .before .before .args .register .now in
@@ -27,4 +24,4 @@ returns-2 c =
     c .all-different .ensures ∙ sym (rule-parts r ∙ rw f)
 
 pub register-ok-spec : {M : Type 1} → statement M
-register-ok-spec = tie.close (tie.spec formed-requires returns all-different-requires returns-2)
+register-ok-spec = tie.close (tie.spec (λ c κs. search needs) returns all-different-requires returns-2)

@@ -46,14 +46,8 @@ loop-holds c =
 returns : tie.Need-returns Inv-loop μ-loop
 returns c = (λ e. never (sym e), λ h. absurd (omega (arith, c .before .before .before .before .before .pre .1 .room, c .if1 .taken, c .before .before .loop .inv .3)))
 
-sub-place : tie.Need-sub-place Inv-loop μ-loop
-sub-place c = omega arith
-
 name-at-requires-2 : tie.Need-name-at-requires-2 Inv-loop μ-loop
 name-at-requires-2 c κs = let s = c .before .before .before .before .before in (s .pre .0, omega (arith, s .pre .1 .there))
-
-equal-requires : tie.Need-equal-requires Inv-loop μ-loop
-equal-requires c κs = search needs
 
 returns-2 : tie.Need-returns-2 Inv-loop μ-loop
 returns-2 c =
@@ -122,4 +116,4 @@ returns-3 c =
 pub repeated-spec : {M : Type 1} → statement M
 repeated-spec =
     tie.close
-    (tie.spec Inv-loop μ-loop name-at-requires loop-holds returns sub-place name-at-requires-2 equal-requires returns-2 mul-left element-copy-out-left cast-left add-steps loop-less loop-again returns-3)
+    (tie.spec Inv-loop μ-loop name-at-requires loop-holds returns (λ c. omega arith) name-at-requires-2 (λ c κs. search needs) returns-2 mul-left element-copy-out-left cast-left add-steps loop-less loop-again returns-3)

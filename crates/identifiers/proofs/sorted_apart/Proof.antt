@@ -1,10 +1,7 @@
 -- `identifiers::sorted_apart` meets its contract. The loop's invariant: both arrays hold places.
-use mathlib.Core.Path.{_≡_, refl, sym, ap, _∙_}
-use Prim.Native.Nat.{ℕ, suc, _+_, _*_, _-_, _<_, _≤_}
+use Prim.Native.Nat.{_-_, _≤_}
 use native.Mathlib.Omega.{arith}
-use lib.ListN.{length}
-use borrow.Author.Needs.{needs}
-use borrow.Author.Tests.{not-true, not-false}
+use borrow.Author.Tests.{not-false}
 use Rattle.lists.proofs.Runs.{never}
 use Rattle.words.specs.Words.{Below}
 use Rattle.identifiers.specs.Register.{names}

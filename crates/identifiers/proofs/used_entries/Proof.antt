@@ -7,8 +7,5 @@ use Rattle.identifiers.proofs.used_entries.Tie as tie
 count-used-requires : tie.Need-count-used-requires
 count-used-requires c κs = rule-formed (c .before .args .register .now) (c .before .pre)
 
-returns : tie.Need-returns
-returns c = search needs
-
 pub used-entries-spec : {M : Type 1} → statement M
-used-entries-spec = tie.close (tie.spec count-used-requires returns)
+used-entries-spec = tie.close (tie.spec count-used-requires (λ c. search needs))

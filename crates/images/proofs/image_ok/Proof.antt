@@ -1,10 +1,9 @@
--- `images::image_ok` meets its contract. The invariant: the test of all places is that of those from `at` on. Assumes nothing.
-use mathlib.Core.Bool.{true, false}
-use mathlib.Core.Path.{_≡_, refl, sym, _∙_}
+-- `images::image_ok` meets its contract. The invariant: the test of all places is that of those from `at` on.
+use mathlib.Core.Path.{_≡_, sym, _∙_}
 use Prim.Native.Nat.{_-_, _≤_}
 use native.Mathlib.Omega.{arith}
 use lib.ListN.{length}
-use Rattle.lists.specs.Lists.{every, rising, upTo}
+use Rattle.lists.specs.Lists.{every, rising}
 use Rattle.lists.proofs.Turns.{passed, failed}
 use Rattle.words.specs.Words.{words}
 use Rattle.words.proofs.Views.{length-words}
@@ -34,12 +33,6 @@ returns-2 c =
     let w = words (a .before .before .before .args .image .now) in
     sym (a .loop .inv .2 ∙ fits-not (fits w) (a .loop .at) (omega arith) (failed (c .before .fits-place .ensures) (c .if2 .taken)))
 
-add-at : tie.Need-add-at Inv-loop μ-loop
-add-at c = omega arith
-
-loop-less : tie.Need-loop-less Inv-loop μ-loop
-loop-less c = omega arith
-
 loop-again : tie.Need-loop-again Inv-loop μ-loop
 loop-again c =
     let a = c .before .before .before in
@@ -61,7 +54,7 @@ image-ok-spec =
     loop-holds
     fits-place-requires
     returns-2
-    add-at
-    loop-less
+    (λ c. omega arith)
+    (λ c. omega arith)
     loop-again
     returns-3)

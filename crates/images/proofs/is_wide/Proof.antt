@@ -1,4 +1,4 @@
--- `images::is_wide` meets its contract. Assumes nothing.
+-- `images::is_wide` meets its contract.
 use mathlib.Core.Path.{sym}
 use native.Mathlib.Omega.{arith}
 use Rattle.images.proofs.Fits.{wide-front, wide-back, wide-among, narrow-front, narrow-back}

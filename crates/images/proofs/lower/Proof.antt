@@ -1,4 +1,4 @@
--- `images::lower` meets its contract. Assumes nothing.
+-- `images::lower` meets its contract.
 use mathlib.Core.Path.{sym, _∙_}
 use Prim.Native.Nat.{_-_, _<_}
 use native.Mathlib.Omega.{arith}
@@ -9,17 +9,8 @@ use Rattle.images.proofs.Signs.{zero-sub, down-one, neg-fits, under-fit
 use Rattle.images.proofs.lower.Statement.{statement}
 use Rattle.images.proofs.lower.Tie as tie
 
-cast-result : tie.Need-cast-result
-cast-result c = search needs
-
 returns : tie.Need-returns
 returns c = toZ-pos w16 (omega arith) ∙ sym (lowered-high (c .before .args .x) (c .if1 .taken))
-
-sub-result : tie.Need-sub-result
-sub-result c = search needs
-
-cast-result-2 : tie.Need-cast-result-2
-cast-result-2 c = search needs
 
 sub-result-2 : tie.Need-sub-result-2
 sub-result-2 c =
@@ -42,4 +33,4 @@ returns-2 c =
 pub lower-spec : {M : Type 1} → statement M
 lower-spec =
     tie.close
-    (tie.spec cast-result returns sub-result cast-result-2 sub-result-2 sub-result-3 returns-2)
+    (tie.spec (λ c. search needs) returns (λ c. search needs) (λ c. search needs) sub-result-2 sub-result-3 returns-2)

@@ -1,4 +1,4 @@
--- `images::narrow` meets its contract. Assumes nothing.
+-- `images::narrow` meets its contract.
 use native.Mathlib.Omega.{arith}
 use borrow.Author.Needs.{needs}
 use Rattle.images.proofs.Fits.{image-words, image-below}
@@ -13,8 +13,5 @@ cast-result c =
     let s = c .before .before in
     omega (arith, image-below (s .args .image .now) (s .pre .0) (s .args .at) (s .pre .1) (s .pre .2))
 
-returns : tie.Need-returns
-returns c = search needs
-
 pub narrow-spec : {M : Type 1} → statement M
-narrow-spec = tie.close (tie.spec word-at-requires cast-result returns)
+narrow-spec = tie.close (tie.spec word-at-requires cast-result (λ c. search needs))

@@ -1,4 +1,4 @@
--- `images::put_buffer` meets its contract. The invariant: storing the parts that are left gives the whole. Assumes nothing.
+-- `images::put_buffer` meets its contract. The invariant: storing the parts that are left gives the whole.
 use mathlib.Core.List.{map}
 use mathlib.Core.Path.{_≡_, refl, sym, _∙_}
 use Prim.Native.Nat.{_+_, _-_, _*_, _≤_}
@@ -27,50 +27,20 @@ Inv-loop image₀ b i₀ image i =
 abbrev μ-loop : tie.MeasureT-loop
 μ-loop image₀ b i₀ image i = 128 - i
 
-cast-put-word : tie.Need-cast-put-word Inv-loop μ-loop
-cast-put-word c = search needs
-
 put-word-requires : tie.Need-put-word-requires Inv-loop μ-loop
 put-word-requires c κs = let s = c .before .before in omega (arith, length-words (s .args .image .now))
 
 loop-holds : tie.Need-loop-holds Inv-loop μ-loop
 loop-holds c = let s = c .before .before .before .before .before in (search (unmapped, needs), c .before .before .put-word .kept .0 ∙ s .pre, omega arith, refl)
 
-mul-p : tie.Need-mul-p Inv-loop μ-loop
-mul-p c = omega arith
-
-element-copy-out-p : tie.Need-element-copy-out-p Inv-loop μ-loop
-element-copy-out-p c = omega arith
-
 raise-requires : tie.Need-raise-requires Inv-loop μ-loop
 raise-requires c κs = tt
-
-cast-t18 : tie.Need-cast-t18 Inv-loop μ-loop
-cast-t18 c = search needs
-
-cast-t19 : tie.Need-cast-t19 Inv-loop μ-loop
-cast-t19 c = search needs
-
-cast-t20 : tie.Need-cast-t20 Inv-loop μ-loop
-cast-t20 c = search needs
-
-mul-put-words : tie.Need-mul-put-words Inv-loop μ-loop
-mul-put-words c = omega arith
-
-add-put-words : tie.Need-add-put-words Inv-loop μ-loop
-add-put-words c = omega arith
 
 slice-aggregate-put-words : tie.Need-slice-aggregate-put-words Inv-loop μ-loop
 slice-aggregate-put-words c = refl
 
 put-words-requires : tie.Need-put-words-requires Inv-loop μ-loop
 put-words-requires c κs = let a = c .before .before .before .before .before .before .before .before in (a .loop .inv .1, omega arith)
-
-add-i : tie.Need-add-i Inv-loop μ-loop
-add-i c = omega arith
-
-loop-less : tie.Need-loop-less Inv-loop μ-loop
-loop-less c = omega arith
 
 loop-again : tie.Need-loop-again Inv-loop μ-loop
 loop-again c =
@@ -101,21 +71,21 @@ put-buffer-spec =
     (tie.spec
     Inv-loop
     μ-loop
-    cast-put-word
+    (λ c. search needs)
     put-word-requires
     loop-holds
-    mul-p
-    element-copy-out-p
+    (λ c. omega arith)
+    (λ c. omega arith)
     raise-requires
-    cast-t18
-    cast-t19
-    cast-t20
-    mul-put-words
-    add-put-words
+    (λ c. search needs)
+    (λ c. search needs)
+    (λ c. search needs)
+    (λ c. omega arith)
+    (λ c. omega arith)
     slice-aggregate-put-words
     put-words-requires
-    add-i
-    loop-less
+    (λ c. omega arith)
+    (λ c. omega arith)
     loop-again
     same-length
     returns)

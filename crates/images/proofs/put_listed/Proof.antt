@@ -1,4 +1,4 @@
--- `images::put_listed` meets its contract. The invariant: storing the numbers that are left gives the whole. Assumes nothing.
+-- `images::put_listed` meets its contract. The invariant: storing the numbers that are left gives the whole.
 use mathlib.Core.Path.{_≡_, refl, sym, _∙_}
 use Prim.Native.Nat.{_+_, _-_, _≤_}
 use native.Mathlib.Omega.{arith}
@@ -19,35 +19,14 @@ Inv-loop image₀ l i₀ image i =
 abbrev μ-loop : tie.MeasureT-loop
 μ-loop image₀ l i₀ image i = 64 - i
 
-cast-put-word : tie.Need-cast-put-word Inv-loop μ-loop
-cast-put-word c = search needs
-
 put-word-requires : tie.Need-put-word-requires Inv-loop μ-loop
 put-word-requires c κs = let s = c .before .before in omega (arith, length-words (s .args .image .now))
 
 loop-holds : tie.Need-loop-holds Inv-loop μ-loop
 loop-holds c = let s = c .before .before .before .before .before in (search (unmapped, needs), c .before .before .put-word .kept .0 ∙ s .pre, omega arith, refl)
 
-add-put-word : tie.Need-add-put-word Inv-loop μ-loop
-add-put-word c = search needs
-
-mul-put-word : tie.Need-mul-put-word Inv-loop μ-loop
-mul-put-word c = search needs
-
-element-copy-out-put-word : tie.Need-element-copy-out-put-word Inv-loop μ-loop
-element-copy-out-put-word c = omega arith
-
-cast-put-word-2 : tie.Need-cast-put-word-2 Inv-loop μ-loop
-cast-put-word-2 c = search needs
-
 put-word-requires-2 : tie.Need-put-word-requires-2 Inv-loop μ-loop
 put-word-requires-2 c κs = let a = c .before .before .before in omega (arith, length-words (a .loop .image))
-
-add-i : tie.Need-add-i Inv-loop μ-loop
-add-i c = search needs
-
-loop-less : tie.Need-loop-less Inv-loop μ-loop
-loop-less c = search needs
 
 loop-again : tie.Need-loop-again Inv-loop μ-loop
 loop-again c =
@@ -73,16 +52,16 @@ put-listed-spec =
     (tie.spec
     Inv-loop
     μ-loop
-    cast-put-word
+    (λ c. search needs)
     put-word-requires
     loop-holds
-    add-put-word
-    mul-put-word
-    element-copy-out-put-word
-    cast-put-word-2
+    (λ c. search needs)
+    (λ c. search needs)
+    (λ c. omega arith)
+    (λ c. search needs)
     put-word-requires-2
-    add-i
-    loop-less
+    (λ c. search needs)
+    (λ c. search needs)
     loop-again
     same-length
     returns)

@@ -1,4 +1,4 @@
--- `images::put_partitions` meets its contract. The invariant: storing the parts that are left gives the whole. Assumes nothing.
+-- `images::put_partitions` meets its contract. The invariant: storing the parts that are left gives the whole.
 use mathlib.Core.List.{map}
 use mathlib.Core.Path.{_≡_, refl, sym, _∙_}
 use Prim.Native.Nat.{_+_, _-_, _*_, _≤_}
@@ -24,44 +24,17 @@ Inv-loop image₀ ps i₀ image i =
 abbrev μ-loop : tie.MeasureT-loop
 μ-loop image₀ ps i₀ image i = 51 - i
 
-cast-put-word : tie.Need-cast-put-word Inv-loop μ-loop
-cast-put-word c = search needs
-
 put-word-requires : tie.Need-put-word-requires Inv-loop μ-loop
 put-word-requires c κs = let s = c .before .before in omega (arith, length-words (s .args .image .now))
 
 loop-holds : tie.Need-loop-holds Inv-loop μ-loop
 loop-holds c = let s = c .before .before .before .before .before in (search (unmapped, needs), c .before .before .put-word .kept .0 ∙ s .pre, omega arith, refl)
 
-mul-p : tie.Need-mul-p Inv-loop μ-loop
-mul-p c = omega arith
-
-element-copy-out-p : tie.Need-element-copy-out-p Inv-loop μ-loop
-element-copy-out-p c = omega arith
-
-cast-t17 : tie.Need-cast-t17 Inv-loop μ-loop
-cast-t17 c = search needs
-
-cast-t18 : tie.Need-cast-t18 Inv-loop μ-loop
-cast-t18 c = search needs
-
-mul-put-words : tie.Need-mul-put-words Inv-loop μ-loop
-mul-put-words c = omega arith
-
-add-put-words : tie.Need-add-put-words Inv-loop μ-loop
-add-put-words c = omega arith
-
 slice-aggregate-put-words : tie.Need-slice-aggregate-put-words Inv-loop μ-loop
 slice-aggregate-put-words c = refl
 
 put-words-requires : tie.Need-put-words-requires Inv-loop μ-loop
 put-words-requires c κs = let a = c .before .before .before .before .before .before in (a .loop .inv .1, omega arith)
-
-add-i : tie.Need-add-i Inv-loop μ-loop
-add-i c = omega arith
-
-loop-less : tie.Need-loop-less Inv-loop μ-loop
-loop-less c = omega arith
 
 loop-again : tie.Need-loop-again Inv-loop μ-loop
 loop-again c =
@@ -90,19 +63,19 @@ put-partitions-spec =
     (tie.spec
     Inv-loop
     μ-loop
-    cast-put-word
+    (λ c. search needs)
     put-word-requires
     loop-holds
-    mul-p
-    element-copy-out-p
-    cast-t17
-    cast-t18
-    mul-put-words
-    add-put-words
+    (λ c. omega arith)
+    (λ c. omega arith)
+    (λ c. search needs)
+    (λ c. search needs)
+    (λ c. omega arith)
+    (λ c. omega arith)
     slice-aggregate-put-words
     put-words-requires
-    add-i
-    loop-less
+    (λ c. omega arith)
+    (λ c. omega arith)
     loop-again
     same-length
     returns)

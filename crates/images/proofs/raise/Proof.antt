@@ -1,10 +1,7 @@
--- `images::raise` meets its contract: a count below 0 is negsuc n, and n is what is taken from 32,767. Assumes nothing.
-use mathlib.Core.Path.{_≡_, refl, sym, _∙_}
-use Prim.Native.Nat.{_+_, _-_, _<_}
+-- `images::raise` meets its contract: a count below 0 is negsuc n, and n is what is taken from 32,767.
+use Prim.Native.Nat.{_-_}
 use native.Mathlib.Omega.{arith}
-use lib.IntN.{pos, negsuc}
-use mir.Syntax.{w16}
-use mir.Val.{SFits}
+use lib.IntN.{negsuc}
 use mir.Facts.{toZ-ofZ}
 use Rattle.images.proofs.Signs.{zero-sub, neg-fits, up-one, twice, below-zero, from-zero, under-small, over-small, over-fits}
 use Rattle.images.proofs.raise.Statement.{statement}

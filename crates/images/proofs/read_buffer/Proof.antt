@@ -1,13 +1,11 @@
--- `images::read_buffer` meets its contract. The invariant: the first i places are built. Assumes nothing.
-use mathlib.Core.Path.{refl}
-use Prim.Native.Nat.{_+_, _-_}
+-- `images::read_buffer` meets its contract. The invariant: the first i places are built.
+use Prim.Native.Nat.{_-_}
 use native.Mathlib.Omega.{arith}
 use borrow.Author.Needs.{needs}
-use lib.ListN.{getD}
 use Rattle.lists.proofs.Arrays.{unmapped}
 use Rattle.lists.proofs.Built.{Built, built-none, built-more, built-all}
 use Rattle.words.specs.Words.{words}
-use Rattle.images.specs.Images.{postingIn, recordIn}
+use Rattle.images.specs.Images.{postingIn}
 use Rattle.images.proofs.Fits.{narrow-front}
 use Rattle.images.proofs.read_buffer.Statement.{statement}
 use Rattle.images.proofs.read_buffer.Tie as tie
@@ -27,18 +25,6 @@ loop-holds c = built-none _ 128 _ (search (unmapped, needs))
 read-posting-requires : tie.Need-read-posting-requires Inv-loop μ-loop
 read-posting-requires c κs = (c .before .before .before .before .pre, omega arith)
 
-mul-postings : tie.Need-mul-postings Inv-loop μ-loop
-mul-postings c = omega arith
-
-array-set-from-postings : tie.Need-array-set-from-postings Inv-loop μ-loop
-array-set-from-postings c = omega arith
-
-add-i : tie.Need-add-i Inv-loop μ-loop
-add-i c = omega arith
-
-loop-less : tie.Need-loop-less Inv-loop μ-loop
-loop-less c = omega arith
-
 loop-again : tie.Need-loop-again Inv-loop μ-loop
 loop-again c = built-more _ 128 (c .before .before .loop .i) (c .before .before .loop .postings) (c .read-posting .result) (omega arith) (c .read-posting .ensures) (c .before .before .loop .inv)
 
@@ -54,9 +40,9 @@ read-buffer-spec =
     narrow-requires
     loop-holds
     read-posting-requires
-    mul-postings
-    array-set-from-postings
-    add-i
-    loop-less
+    (λ c. omega arith)
+    (λ c. omega arith)
+    (λ c. omega arith)
+    (λ c. omega arith)
     loop-again
     returns)

@@ -1,4 +1,4 @@
--- `images::read_lengths` meets its contract. Assumes nothing.
+-- `images::read_lengths` meets its contract.
 use native.Mathlib.Omega.{arith}
 use Rattle.images.proofs.Fits.{image-words}
 use Rattle.images.proofs.read_lengths.Statement.{statement}

@@ -1,13 +1,10 @@
--- `images::read_listed` meets its contract. The invariant: the first i places are built. Assumes nothing.
+-- `images::read_listed` meets its contract. The invariant: the first i places are built.
 use mathlib.Core.Path.{refl}
 use Prim.Native.Nat.{_+_, _-_}
 use native.Mathlib.Omega.{arith}
-use borrow.Author.Needs.{needs}
 use lib.ListN.{getD}
-use Rattle.lists.proofs.Arrays.{unmapped}
 use Rattle.lists.proofs.Built.{Built, built-none, built-more, built-all}
 use Rattle.words.specs.Words.{words}
-use Rattle.images.specs.Images.{postingIn, recordIn}
 use Rattle.images.proofs.Fits.{narrow-front}
 use Rattle.images.proofs.read_listed.Statement.{statement}
 use Rattle.images.proofs.read_listed.Tie as tie
@@ -24,23 +21,8 @@ narrow-requires c κs = (c .before .pre, omega arith, narrow-front 6 (omega arit
 loop-holds : tie.Need-loop-holds Inv-loop μ-loop
 loop-holds c = built-none _ 64 _ refl
 
-add-narrow : tie.Need-add-narrow Inv-loop μ-loop
-add-narrow c = omega arith
-
 narrow-requires-2 : tie.Need-narrow-requires-2 Inv-loop μ-loop
 narrow-requires-2 c κs = (c .before .before .before .before .pre, omega arith, narrow-front (7 + c .before .loop .i) (omega arith) (omega arith))
-
-mul-ids : tie.Need-mul-ids Inv-loop μ-loop
-mul-ids c = omega arith
-
-array-write-ids : tie.Need-array-write-ids Inv-loop μ-loop
-array-write-ids c = omega arith
-
-add-i : tie.Need-add-i Inv-loop μ-loop
-add-i c = omega arith
-
-loop-less : tie.Need-loop-less Inv-loop μ-loop
-loop-less c = omega arith
 
 loop-again : tie.Need-loop-again Inv-loop μ-loop
 loop-again c = built-more _ 64 (c .before .before .loop .i) (c .before .before .loop .ids) (c .narrow2 .result) (omega arith) (c .narrow2 .ensures) (c .before .before .loop .inv)
@@ -56,11 +38,11 @@ read-listed-spec =
     μ-loop
     narrow-requires
     loop-holds
-    add-narrow
+    (λ c. omega arith)
     narrow-requires-2
-    mul-ids
-    array-write-ids
-    add-i
-    loop-less
+    (λ c. omega arith)
+    (λ c. omega arith)
+    (λ c. omega arith)
+    (λ c. omega arith)
     loop-again
     returns)

@@ -1,12 +1,9 @@
--- `images::read_merge` meets its contract. Assumes nothing.
+-- `images::read_merge` meets its contract.
 use native.Mathlib.Omega.{arith}
 use Rattle.images.proofs.Fits.{image-words}
 use borrow.Author.Needs.{needs}
 use Rattle.images.proofs.read_merge.Statement.{statement}
 use Rattle.images.proofs.read_merge.Tie as tie
-
-narrow-requires : tie.Need-narrow-requires
-narrow-requires c κs = search needs
 
 word-at-requires : tie.Need-word-at-requires
 word-at-requires c κs = let s = c .before .before in omega (arith, image-words (s .args .image .now) (s .pre))
@@ -18,4 +15,4 @@ returns : tie.Need-returns
 returns c = rw (c .word-at2 .ensures, c .before .word-at .ensures, c .before .before .narrow .ensures)
 
 pub read-merge-spec : {M : Type 1} → statement M
-read-merge-spec = tie.close (tie.spec narrow-requires word-at-requires word-at-requires-2 returns)
+read-merge-spec = tie.close (tie.spec (λ c κs. search needs) word-at-requires word-at-requires-2 returns)

@@ -1,13 +1,11 @@
--- `images::read_partitions` meets its contract. The invariant: the first i places are built. Assumes nothing.
-use mathlib.Core.Path.{refl}
-use Prim.Native.Nat.{_+_, _-_}
+-- `images::read_partitions` meets its contract. The invariant: the first i places are built.
+use Prim.Native.Nat.{_-_}
 use native.Mathlib.Omega.{arith}
 use borrow.Author.Needs.{needs}
-use lib.ListN.{getD}
 use Rattle.lists.proofs.Arrays.{unmapped}
 use Rattle.lists.proofs.Built.{Built, built-none, built-more, built-all}
 use Rattle.words.specs.Words.{words}
-use Rattle.images.specs.Images.{postingIn, recordIn}
+use Rattle.images.specs.Images.{recordIn}
 use Rattle.images.proofs.Fits.{narrow-front}
 use Rattle.images.proofs.read_partitions.Statement.{statement}
 use Rattle.images.proofs.read_partitions.Tie as tie
@@ -27,18 +25,6 @@ loop-holds c = built-none _ 51 _ (search (unmapped, needs))
 read-record-requires : tie.Need-read-record-requires Inv-loop μ-loop
 read-record-requires c κs = (c .before .before .before .before .pre, omega arith)
 
-mul-records : tie.Need-mul-records Inv-loop μ-loop
-mul-records c = omega arith
-
-array-set-from-records : tie.Need-array-set-from-records Inv-loop μ-loop
-array-set-from-records c = omega arith
-
-add-i : tie.Need-add-i Inv-loop μ-loop
-add-i c = omega arith
-
-loop-less : tie.Need-loop-less Inv-loop μ-loop
-loop-less c = omega arith
-
 loop-again : tie.Need-loop-again Inv-loop μ-loop
 loop-again c = built-more _ 51 (c .before .before .loop .i) (c .before .before .loop .records) (c .read-record .result) (omega arith) (c .read-record .ensures) (c .before .before .loop .inv)
 
@@ -54,9 +40,9 @@ read-partitions-spec =
     narrow-requires
     loop-holds
     read-record-requires
-    mul-records
-    array-set-from-records
-    add-i
-    loop-less
+    (λ c. omega arith)
+    (λ c. omega arith)
+    (λ c. omega arith)
+    (λ c. omega arith)
     loop-again
     returns)

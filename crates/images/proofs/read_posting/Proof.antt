@@ -1,4 +1,4 @@
--- `images::read_posting` meets its contract. Assumes nothing.
+-- `images::read_posting` meets its contract.
 use native.Mathlib.Omega.{arith}
 use Prim.Native.Nat.{_+_, _*_}
 use mir.Facts.{toZ-ofZ}
@@ -8,35 +8,14 @@ use Rattle.images.proofs.Signs.{lowered-fits}
 use Rattle.images.proofs.read_posting.Statement.{statement}
 use Rattle.images.proofs.read_posting.Tie as tie
 
-mul-narrow : tie.Need-mul-narrow
-mul-narrow c = search needs
-
-add-narrow : tie.Need-add-narrow
-add-narrow c = search needs
-
 narrow-requires : tie.Need-narrow-requires
 narrow-requires c κs = (c .before .pre .0, omega arith, narrow-front (72 + 3 * c .before .args .i) (omega arith) (omega arith))
-
-mul-narrow-2 : tie.Need-mul-narrow-2
-mul-narrow-2 c = search needs
-
-add-narrow-2 : tie.Need-add-narrow-2
-add-narrow-2 c = search needs
 
 narrow-requires-2 : tie.Need-narrow-requires-2
 narrow-requires-2 c κs = (c .before .before .pre .0, omega arith, narrow-front (73 + 3 * c .before .before .args .i) (omega arith) (omega arith))
 
-mul-narrow-3 : tie.Need-mul-narrow-3
-mul-narrow-3 c = search needs
-
-add-narrow-3 : tie.Need-add-narrow-3
-add-narrow-3 c = search needs
-
 narrow-requires-3 : tie.Need-narrow-requires-3
 narrow-requires-3 c κs = (c .before .before .before .pre .0, omega arith, narrow-front (74 + 3 * c .before .before .before .args .i) (omega arith) (omega arith))
-
-lower-requires : tie.Need-lower-requires
-lower-requires c κs = search needs
 
 returns : tie.Need-returns
 returns c =
@@ -48,14 +27,14 @@ pub read-posting-spec : {M : Type 1} → statement M
 read-posting-spec =
     tie.close
     (tie.spec
-    mul-narrow
-    add-narrow
+    (λ c. search needs)
+    (λ c. search needs)
     narrow-requires
-    mul-narrow-2
-    add-narrow-2
+    (λ c. search needs)
+    (λ c. search needs)
     narrow-requires-2
-    mul-narrow-3
-    add-narrow-3
+    (λ c. search needs)
+    (λ c. search needs)
     narrow-requires-3
-    lower-requires
+    (λ c κs. search needs)
     returns)

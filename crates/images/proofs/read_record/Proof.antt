@@ -1,33 +1,15 @@
--- `images::read_record` meets its contract. Assumes nothing.
+-- `images::read_record` meets its contract.
 use native.Mathlib.Omega.{arith}
 use borrow.Author.Needs.{needs}
 use Rattle.images.proofs.Fits.{narrow-first, narrow-level, image-words}
 use Rattle.images.proofs.read_record.Statement.{statement}
 use Rattle.images.proofs.read_record.Tie as tie
 
-mul-narrow : tie.Need-mul-narrow
-mul-narrow c = search needs
-
-add-narrow : tie.Need-add-narrow
-add-narrow c = search needs
-
 narrow-requires : tie.Need-narrow-requires
 narrow-requires c κs = (c .before .pre .0, omega arith, narrow-first _ (c .before .pre .1))
 
-mul-narrow-2 : tie.Need-mul-narrow-2
-mul-narrow-2 c = search needs
-
-add-narrow-2 : tie.Need-add-narrow-2
-add-narrow-2 c = search needs
-
 narrow-requires-2 : tie.Need-narrow-requires-2
 narrow-requires-2 c κs = (c .before .before .pre .0, omega arith, narrow-level _ (c .before .before .pre .1))
-
-mul-word-at : tie.Need-mul-word-at
-mul-word-at c = search needs
-
-add-word-at : tie.Need-add-word-at
-add-word-at c = search needs
 
 word-at-requires : tie.Need-word-at-requires
 word-at-requires c κs = let s = c .before .before .before in omega (arith, image-words (s .args .image .now) (s .pre .0))
@@ -39,13 +21,13 @@ pub read-record-spec : {M : Type 1} → statement M
 read-record-spec =
     tie.close
     (tie.spec
-    mul-narrow
-    add-narrow
+    (λ c. search needs)
+    (λ c. search needs)
     narrow-requires
-    mul-narrow-2
-    add-narrow-2
+    (λ c. search needs)
+    (λ c. search needs)
     narrow-requires-2
-    mul-word-at
-    add-word-at
+    (λ c. search needs)
+    (λ c. search needs)
     word-at-requires
     returns)

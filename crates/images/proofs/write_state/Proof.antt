@@ -1,4 +1,4 @@
--- `images::write_state` meets its contract: the parts are the whole. Assumes nothing.
+-- `images::write_state` meets its contract: the parts are the whole.
 use mathlib.Core.Path.{_≡_, sym, ap, _∙_}
 use Prim.Native.Nat.{_%_}
 use native.Mathlib.Omega.{arith}
@@ -10,24 +10,6 @@ use Rattle.images.proofs.Whole.{Sized, parts-whole}
 use borrow.Author.Needs.{needs}
 use Rattle.images.proofs.write_state.Statement.{statement}
 use Rattle.images.proofs.write_state.Tie as tie
-
-put-numbers-requires : tie.Need-put-numbers-requires
-put-numbers-requires c κs = search needs
-
-put-listed-requires : tie.Need-put-listed-requires
-put-listed-requires c κs = search needs
-
-put-buffer-requires : tie.Need-put-buffer-requires
-put-buffer-requires c κs = search needs
-
-put-partitions-requires : tie.Need-put-partitions-requires
-put-partitions-requires c κs = search needs
-
-put-last-requires : tie.Need-put-last-requires
-put-last-requires c κs = search needs
-
-same-length : tie.Need-same-length
-same-length c = search needs
 
 returns : tie.Need-returns
 returns c =
@@ -48,10 +30,10 @@ pub write-state-spec : {M : Type 1} → statement M
 write-state-spec =
     tie.close
     (tie.spec
-    put-numbers-requires
-    put-listed-requires
-    put-buffer-requires
-    put-partitions-requires
-    put-last-requires
-    same-length
+    (λ c κs. search needs)
+    (λ c κs. search needs)
+    (λ c κs. search needs)
+    (λ c κs. search needs)
+    (λ c κs. search needs)
+    (λ c. search needs)
     returns)

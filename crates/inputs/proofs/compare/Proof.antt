@@ -1,4 +1,4 @@
--- `inputs::compare` meets its contract: a sum of 0 has no word, another is compared with the head. Assumes nothing.
+-- `inputs::compare` meets its contract: a sum of 0 has no word, another is compared with the head.
 use mir.Facts.{toZ-ofZ}
 use mir.Syntax.{w16}
 use mir.Val.{SFits}
@@ -16,18 +16,12 @@ use Rattle.card.proofs.Cursors.{ahead-more, good-moved}
 use Rattle.inputs.proofs.compare.Statement.{statement}
 use Rattle.inputs.proofs.compare.Tie as tie
 
-is-zero-requires : tie.Need-is-zero-requires
-is-zero-requires c κs = search needs
-
 returns : tie.Need-returns
 unfolding nonzero
 returns c =
     let s = c .before .before .before in
     let e : isZero (s .args .p .count) ≡ true = sym (c .before .is-zero .ensures) ∙ c .if1 .taken in
     (rw e (record { same = refl; rest = refl }), s .pre .0)
-
-pack-requires : tie.Need-pack-requires
-pack-requires c κs = search needs
 
 head-requires : tie.Need-head-requires
 unfolding nonzero
@@ -60,4 +54,4 @@ returns-2 c =
 pub compare-spec : {M : Type 1} → statement M
 compare-spec =
     tie.close
-    (tie.spec is-zero-requires returns pack-requires head-requires moved-requires returns-2)
+    (tie.spec (λ c κs. search needs) returns (λ c κs. search needs) head-requires moved-requires returns-2)

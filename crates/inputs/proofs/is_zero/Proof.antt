@@ -1,4 +1,4 @@
--- `inputs::is_zero` meets its contract: the bits of a count are 0 where it is 0. Assumes nothing.
+-- `inputs::is_zero` meets its contract: the bits of a count are 0 where it is 0.
 use borrow.Author.Needs.{needs}
 use mir.Syntax.{w16}
 use mir.Val.{SFits}

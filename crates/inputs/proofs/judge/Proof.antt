@@ -8,23 +8,11 @@ use borrow.Author.Needs.{needs}
 use Rattle.inputs.proofs.judge.Statement.{statement}
 use Rattle.inputs.proofs.judge.Tie as tie
 
-cast-n : tie.Need-cast-n
-cast-n c = search needs
-
-open-heads-requires : tie.Need-open-heads-requires
-open-heads-requires c κs = search needs
-
 walk-requires : tie.Need-walk-requires
 walk-requires c κs =
     let s = c .before .before .before .before .before .before .before .before .before .before in
     let o = c .before .before .before .before .open-heads in
     (record { few = s .pre .0; fits = omega (arith, o .ensures .0, s .pre .2); kept = o .ensures .1; top = o .ensures .3 }, s .pre .4)
-
-same-length : tie.Need-same-length
-same-length c = search needs
-
-same-length-2 : tie.Need-same-length-2
-same-length-2 c = search needs
 
 returns : tie.Need-returns
 returns c =
@@ -42,4 +30,4 @@ returns c =
 
 pub judge-spec : {M : Type 1} → statement M
 judge-spec =
-    tie.close (tie.spec cast-n open-heads-requires walk-requires same-length same-length-2 returns)
+    tie.close (tie.spec (λ c. search needs) (λ c κs. search needs) walk-requires (λ c. search needs) (λ c. search needs) returns)

@@ -1,4 +1,4 @@
--- `inputs::kept` meets its contract: a sum of 0, and another at the next place. Assumes nothing.
+-- `inputs::kept` meets its contract: a sum of 0, and another at the next place.
 use mathlib.Core.Bool.{true, false}
 use mathlib.Core.List.{append-nil}
 use mathlib.Core.Path.{_≡_, sym, _∙_}
@@ -13,27 +13,12 @@ use Rattle.inputs.specs.Ahead.{batched}
 use Rattle.inputs.proofs.kept.Statement.{statement}
 use Rattle.inputs.proofs.kept.Tie as tie
 
-is-zero-requires : tie.Need-is-zero-requires
-is-zero-requires c κs = search needs
-
 returns : tie.Need-returns
 unfolding nonzero
 returns c =
     let s = c .before .before in
     let e : isZero (s .args .p .count) ≡ true = sym (c .before .is-zero .ensures) ∙ c .if1 .taken in
     (rw e (sym (append-nil (batched (s .args .b)))), omega arith)
-
-cast-n : tie.Need-cast-n
-cast-n c = search needs
-
-mul-p : tie.Need-mul-p
-mul-p c = search needs
-
-element-set-from-p : tie.Need-element-set-from-p
-element-set-from-p c = search needs
-
-add-next : tie.Need-add-next
-add-next c = search needs
 
 returns-2 : tie.Need-returns-2
 unfolding nonzero
@@ -46,4 +31,4 @@ returns-2 c =
 pub kept-spec : {M : Type 1} → statement M
 kept-spec =
     tie.close
-    (tie.spec is-zero-requires returns cast-n mul-p element-set-from-p add-next returns-2)
+    (tie.spec (λ c κs. search needs) returns (λ c. search needs) (λ c. search needs) (λ c. search needs) (λ c. search needs) returns-2)

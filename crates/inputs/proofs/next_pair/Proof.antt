@@ -18,9 +18,6 @@ use borrow.Author.Needs.{needs}
 use Rattle.inputs.proofs.next_pair.Statement.{statement}
 use Rattle.inputs.proofs.next_pair.Tie as tie
 
-sub-key : tie.Need-sub-key
-sub-key c = search needs
-
 take-requires : tie.Need-take-requires
 take-requires c κs =
     let s = c .before .before .before in
@@ -37,9 +34,6 @@ pair-of-requires c κs =
     let is : s .args .top ≡ suc (s .args .top - 1) = omega (arith, s .pre .1) in
     let low = top-low W small (s .args .n) (s .args .heads .now) (s .args .top) (s .pre .0) in
     (omega arith, rw (toZ-ofZ f, t .ensures .1 .0) (first-range W small (s .args .n) (s .args .heads .now) (s .args .top) (s .pre .0) (s .args .top - 1) is))
-
-same-length : tie.Need-same-length
-same-length c = search needs
 
 returns : tie.Need-returns
 returns c =
@@ -60,4 +54,4 @@ returns c =
     )
 
 pub next-pair-spec : {M : Type 1} → statement M
-next-pair-spec = tie.close (tie.spec sub-key take-requires pair-of-requires same-length returns)
+next-pair-spec = tie.close (tie.spec (λ c. search needs) take-requires pair-of-requires (λ c. search needs) returns)

@@ -8,12 +8,6 @@ use borrow.Author.Needs.{needs}
 use Rattle.inputs.proofs.open_inputs.Statement.{statement}
 use Rattle.inputs.proofs.open_inputs.Tie as tie
 
-open-heads-requires : tie.Need-open-heads-requires
-open-heads-requires c κs = search needs
-
-same-length : tie.Need-same-length
-same-length c = search needs
-
 returns : tie.Need-returns
 returns c =
     let s = c .before .before .before .before .before .before in
@@ -27,4 +21,4 @@ returns c =
     )
 
 pub open-inputs-spec : {M : Type 1} → statement M
-open-inputs-spec = tie.close (tie.spec open-heads-requires same-length returns)
+open-inputs-spec = tie.close (tie.spec (λ c κs. search needs) (λ c. search needs) returns)

@@ -75,9 +75,6 @@ compare-requires c κs =
       leb-true _ 32767 (and-left (inRange (p .count)) _ (sym (ap allInRange e) ∙ v .2 .sums)),
     )
 
-both-requires : tie.Need-both-requires Inv-loop μ-loop
-both-requires c κs = search needs
-
 add-i : tie.Need-add-i Inv-loop μ-loop
 add-i c = omega (arith, c .before .before .before .before .before .before .before .before .before .loop-test .taken)
 
@@ -132,7 +129,7 @@ pass-spec =
     returns
     next-pair-requires
     compare-requires
-    both-requires
+    (λ c κs. search needs)
     add-i
     loop-less
     loop-again

@@ -1,11 +1,8 @@
--- `inputs::risen` meets its contract: one identifier more, where it had no posting. Assumes nothing.
+-- `inputs::risen` meets its contract: one identifier more, where it had no posting.
 use borrow.Author.Needs.{needs}
 use borrow.Author.Tests.{eq-eqb, ne-eqb}
 use Rattle.inputs.proofs.risen.Statement.{statement}
 use Rattle.inputs.proofs.risen.Tie as tie
-
-add-result : tie.Need-add-result
-add-result c = search needs
 
 returns : tie.Need-returns
 returns c = rw (eq-eqb _ 0 (c .if1 .taken))
@@ -14,4 +11,4 @@ returns-2 : tie.Need-returns-2
 returns-2 c = rw (ne-eqb _ 0 (c .if1 .left))
 
 pub risen-spec : {M : Type 1} → statement M
-risen-spec = tie.close (tie.spec add-result returns returns-2)
+risen-spec = tie.close (tie.spec (λ c. search needs) returns returns-2)

@@ -32,12 +32,6 @@ next-pair-requires c κs = (c .before .before .before .pairs .inv .3, omega arit
 kept-requires : tie.Need-kept-requires Inv-pairs μ-pairs
 kept-requires c κs = omega (arith, c .before .before .before .before .before .before .before .pairs .inv .0, c .before .before .before .before .before .before .before .pairs .inv .1, c .before .before .before .before .before .before .if1 .left)
 
-add-i : tie.Need-add-i Inv-pairs μ-pairs
-add-i c = omega arith
-
-pairs-less : tie.Need-pairs-less Inv-pairs μ-pairs
-pairs-less c = omega arith
-
 pairs-again : tie.Need-pairs-again Inv-pairs μ-pairs
 pairs-again c =
     let a = c .before .before .before .before .before .before .before .before in
@@ -96,8 +90,8 @@ sixteen-spec =
     pairs-holds
     next-pair-requires
     kept-requires
-    add-i
-    pairs-less
+    (λ c. omega arith)
+    (λ c. omega arith)
     pairs-again
     same-length
     returns

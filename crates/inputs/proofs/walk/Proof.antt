@@ -32,9 +32,6 @@ Inv-loop card heads₀ n first counts₀ top₀ bound₀ t₀ heads counts top b
 abbrev μ-loop : tie.MeasureT-loop
 μ-loop card heads₀ n first counts₀ top₀ bound₀ t₀ heads counts top bound t = bound
 
-zeros-requires : tie.Need-zeros-requires Inv-loop μ-loop
-zeros-requires c κs = search needs
-
 loop-holds : tie.Need-loop-holds Inv-loop μ-loop
 loop-holds c = let e = c .zeros .ensures in let s = c .before .before .before .before in (refl, refl, s .pre .0, rw (e, s .pre .1) room-none, rw (e, s .pre .1) refl)
 
@@ -54,9 +51,6 @@ returns c =
       room-small (a .loop .t) (a .loop .counts) (a .loop .bound) (v .3),
     )
 
-zeros-requires-2 : tie.Need-zeros-requires-2 Inv-loop μ-loop
-zeros-requires-2 c κs = search needs
-
 same-length-3 : tie.Need-same-length-3 Inv-loop μ-loop
 same-length-3 c = c .before .before .before .loop .inv .0
 
@@ -71,17 +65,11 @@ returns-2 c =
     let v = a .loop .inv in
     told-broken _ _ _ (v .4 ∙ too-high (a .loop .bound) (views W (s .args .n) (a .loop .heads)) (record { totals = a .loop .t; counts = a .loop .counts }) (rw (v .2 .top) at (c .before .if2 .taken))) (c .zeros2 .ensures)
 
-sub-key : tie.Need-sub-key Inv-loop μ-loop
-sub-key c = omega arith
-
 take-requires : tie.Need-take-requires Inv-loop μ-loop
 take-requires c κs =
     let a = c .before .before .before in
     let r = a .loop .inv .2 in
     (r .fits, omega (arith, r .few), omega arith, r .kept)
-
-zeros-requires-3 : tie.Need-zeros-requires-3 Inv-loop μ-loop
-zeros-requires-3 c κs = search needs
 
 same-length-5 : tie.Need-same-length-5 Inv-loop μ-loop
 same-length-5 c = c .before .before .before .before .before .take .ensures .0 .0 ∙ c .before .before .before .before .before .before .before .before .before .loop .inv .0
@@ -99,12 +87,6 @@ returns-3 c =
     let top : topFrom 0 (views W (s .args .n) (a .loop .heads)) ≡ suc k = sym (v .2 .top) ∙ omega (arith, c .before .before .before .before .before .before .before .before .if1 .left) in
     told-broken _ _ _ (v .4 ∙ malformed (a .loop .bound) (views W (s .args .n) (a .loop .heads)) (record { totals = a .loop .t; counts = a .loop .counts }) k top (omega (arith, c .before .before .before .before .before .before .before .before .if1 .left, c .before .before .before .before .before .before .before .if2 .left))
     (sym (c .before .before .before .before .before .take .ensures .1 .1) ∙ not-true _ (c .before .if3 .taken))) (c .zeros3 .ensures)
-
-in-range-requires : tie.Need-in-range-requires Inv-loop μ-loop
-in-range-requires c κs = search needs
-
-zeros-requires-4 : tie.Need-zeros-requires-4 Inv-loop μ-loop
-zeros-requires-4 c κs = search needs
 
 same-length-7 : tie.Need-same-length-7 Inv-loop μ-loop
 same-length-7 c = c .before .before .before .before .before .before .before .before .take .ensures .0 .0 ∙ c .before .before .before .before .before .before .before .before .before .before .before .before .loop .inv .0
@@ -190,23 +172,23 @@ walk-spec =
     (tie.spec
     Inv-loop
     μ-loop
-    zeros-requires
+    (λ c κs. search needs)
     loop-holds
     same-length
     same-length-2
     returns
-    zeros-requires-2
+    (λ c κs. search needs)
     same-length-3
     same-length-4
     returns-2
-    sub-key
+    (λ c. omega arith)
     take-requires
-    zeros-requires-3
+    (λ c κs. search needs)
     same-length-5
     same-length-6
     returns-3
-    in-range-requires
-    zeros-requires-4
+    (λ c κs. search needs)
+    (λ c κs. search needs)
     same-length-7
     same-length-8
     returns-4

@@ -22,21 +22,6 @@ use Rattle.merges.proofs.Planning.{planned-stop, planned-go}
 use Rattle.merges.proofs.begin.Statement.{statement}
 use Rattle.merges.proofs.begin.Tie as tie
 
-output-length-requires : tie.Need-output-length-requires
-output-length-requires c κs = search needs
-
-blocks-for-requires : tie.Need-blocks-for-requires
-blocks-for-requires c κs = search needs
-
-enough-free-requires : tie.Need-enough-free-requires
-enough-free-requires c κs = search needs
-
-no-plan-requires : tie.Need-no-plan-requires
-no-plan-requires c κs = search needs
-
-same-length : tie.Need-same-length
-same-length c = search needs
-
 returns : tie.Need-returns
 returns c =
     let i = c .before .before in
@@ -47,12 +32,6 @@ returns c =
     let idle = ap not (eq-eqb (s .args .s .merge .steps) 0 (s .pre .4)) in
     let e = sym (i .enough-free .ensures) ∙ not-true _ (c .before .if1 .taken) in
     planned-stop (s .args .s) (s .args .is) (s .args .t) (s .args .card .now) _ (c .no-plan .ensures .0) (rw (c .no-plan .ensures .1) (passed _ 3 _ (rw idle) (begin-few W (s .args .s) (s .args .is) (s .args .t) (s .pre .1) (s .args .card .now) idle (rw nn at e))))
-
-no-plan-requires-2 : tie.Need-no-plan-requires-2
-no-plan-requires-2 c κs = search needs
-
-same-length-2 : tie.Need-same-length-2
-same-length-2 c = search needs
 
 returns-2 : tie.Need-returns-2
 returns-2 c =
@@ -88,9 +67,6 @@ take-blocks-requires c κs =
     let e = sym (i .enough-free .ensures) ∙ not-false _ (c .before .before .before .before .before .if1 .left) in
     let l = leb-true k (length (freeBlocks W (blocks (s .args .s)) (s .args .s .taken))) e in
     (s .pre .0, s .pre .1 .long, s .pre .1 .few, s .pre .3, l)
-
-same-length-3 : tie.Need-same-length-3
-same-length-3 c = search needs
 
 returns-3 : tie.Need-returns-3
 returns-3 c =
@@ -128,16 +104,16 @@ pub begin-spec : {M : Type 1} → statement M
 begin-spec =
     tie.close
     (tie.spec
-    output-length-requires
-    blocks-for-requires
-    enough-free-requires
-    no-plan-requires
-    same-length
+    (λ c κs. search needs)
+    (λ c κs. search needs)
+    (λ c κs. search needs)
+    (λ c κs. search needs)
+    (λ c. search needs)
     returns
-    no-plan-requires-2
-    same-length-2
+    (λ c κs. search needs)
+    (λ c. search needs)
     returns-2
     first-batch-requires
     take-blocks-requires
-    same-length-3
+    (λ c. search needs)
     returns-3)

@@ -20,9 +20,6 @@ use borrow.Author.Needs.{needs}
 use Rattle.merges.proofs.finish.Statement.{statement}
 use Rattle.merges.proofs.finish.Tie as tie
 
-is-last-requires : tie.Need-is-last-requires
-is-last-requires c κs = search needs
-
 put-output-requires : tie.Need-put-output-requires
 put-output-requires c κs =
     let s = c .before .before .before .before .before .before in
@@ -165,7 +162,7 @@ pub finish-spec : {M : Type 1} → statement M
 finish-spec =
     tie.close
     (tie.spec
-    is-last-requires
+    (λ c κs. search needs)
     put-output-requires
     release-inputs-requires
     same-length

@@ -12,12 +12,6 @@ use borrow.Author.Needs.{needs}
 use Rattle.merges.proofs.go_on.Statement.{statement}
 use Rattle.merges.proofs.go_on.Tie as tie
 
-output-ok-requires : tie.Need-output-ok-requires
-output-ok-requires c κs = search needs
-
-no-plan-requires : tie.Need-no-plan-requires
-no-plan-requires c κs = search needs
-
 returns : tie.Need-returns
 returns c =
     let i = c .before in
@@ -27,12 +21,6 @@ returns c =
     let ok = i .before .before .output-ok .ensures .0 in
     planned-stop st (s .args .is) (s .args .t) (s .args .card .now) _ (c .no-plan .ensures .0)
     (rw (c .no-plan .ensures .1) (stopped _ 3 _ (rw busy (ap not (sym ok) ∙ i .if1 .taken))))
-
-output-length-requires : tie.Need-output-length-requires
-output-length-requires c κs = search needs
-
-blocks-for-requires : tie.Need-blocks-for-requires
-blocks-for-requires c κs = search needs
 
 returns-2 : tie.Need-returns-2
 returns-2 c =
@@ -58,9 +46,9 @@ pub go-on-spec : {M : Type 1} → statement M
 go-on-spec =
     tie.close
     (tie.spec
-    output-ok-requires
-    no-plan-requires
+    (λ c κs. search needs)
+    (λ c κs. search needs)
     returns
-    output-length-requires
-    blocks-for-requires
+    (λ c κs. search needs)
+    (λ c κs. search needs)
     returns-2)

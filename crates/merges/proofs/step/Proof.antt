@@ -10,7 +10,7 @@ use Rattle.state.specs.Views.{finished}
 use Rattle.state.specs.Probe.{Store}
 use Rattle.state.proofs.Kept.{state-kept}
 use Rattle.inputs.specs.declared.Totals.{Totals}
-use Rattle.inputs.specs.Judging.{inputsFormed, countsOf}
+use Rattle.inputs.specs.Judging.{inputsFormed, countsById}
 use Rattle.inputs.proofs.Judged.{judged-fine}
 use Rattle.windows.proofs.Outcomes.{stopped, passed}
 use Rattle.merges.specs.Merging.{inputs, isLast}
@@ -23,23 +23,11 @@ use Rattle.merges.proofs.Planning.{formed-plan}
 use Rattle.merges.proofs.step.Statement.{statement}
 use Rattle.merges.proofs.step.Tie as tie
 
-state-ok-requires : tie.Need-state-ok-requires
-state-ok-requires c κs = search needs
-
-refuse-requires : tie.Need-refuse-requires
-refuse-requires c κs = search needs
-
 returns : tie.Need-returns
 unfolding stepOf
 returns c =
     let a = c .before in
     rw (c .refuse .ensures) (stopped _ 1 _ (ap not (sym (a .before .state-ok .ensures)) ∙ a .if1 .taken))
-
-cast-if2 : tie.Need-cast-if2
-cast-if2 c = search needs
-
-refuse-requires-2 : tie.Need-refuse-requires-2
-refuse-requires-2 c κs = search needs
 
 returns-2 : tie.Need-returns-2
 unfolding stepOf
@@ -58,12 +46,6 @@ partitions-ok-requires c κs =
     let same = i2 .if2 .left in
     let k = state-kept (s .args .s) ok in
     (card-long (s .args .s) (s .args .card .now) ok same, k .lengths .mostBlocks, k .partitions .used, k .partitions .rules)
-
-refuse-requires-3 : tie.Need-refuse-requires-3
-refuse-requires-3 c κs = search needs
-
-same-length : tie.Need-same-length
-same-length c = search needs
 
 returns-3 : tie.Need-returns-3
 unfolding stepOf
@@ -88,12 +70,6 @@ inputs-of-requires c κs =
     let k = state-kept (s .args .s) ok in
     (k .partitions .used, k .partitions .form)
 
-slice-aggregate-judge : tie.Need-slice-aggregate-judge
-slice-aggregate-judge c = search needs
-
-slice-aggregate-judge-2 : tie.Need-slice-aggregate-judge-2
-slice-aggregate-judge-2 c = search needs
-
 judge-requires : tie.Need-judge-requires
 judge-requires c κs =
     let i2 = c .before .before .before .before .before .before .before .before in
@@ -105,12 +81,6 @@ judge-requires c κs =
     let pok = sym (c .before .before .before .before .before .partitions-ok .ensures) ∙ not-false _ (c .before .before .before .before .if3 .left) in
     let r = inputs-read (s .args .s) (s .args .card .now) ok same pok (c .before .before .before .inputs-of .result) (c .before .before .before .inputs-of .ensures) in
     (omega (arith, r .0), r .1, omega (arith, r .0), search needs, search needs)
-
-refuse-requires-4 : tie.Need-refuse-requires-4
-refuse-requires-4 c κs = search needs
-
-same-length-2 : tie.Need-same-length-2
-same-length-2 c = search needs
 
 returns-4 : tie.Need-returns-4
 unfolding stepOf
@@ -144,12 +114,6 @@ prepare-requires c κs =
     let fine = ap (λ (t : Totals). t .fine) (ju .ensures .0) ∙ judged-fine W (finished (io .result)) in
     let formed : inputsFormed W (inputs st) ≡ true = rw f at (sym fine ∙ yes) in
     (card-words st (s .args .card .now) ok same, judged st (s .args .card .now) ok same pok formed (io .result) (ju .result) (io .ensures) (ju .ensures .0) (ju .ensures .2), formed, state-kept st ok .taken)
-
-refuse-requires-5 : tie.Need-refuse-requires-5
-refuse-requires-5 c κs = search needs
-
-same-length-3 : tie.Need-same-length-3
-same-length-3 c = search needs
 
 returns-5 : tie.Need-returns-5
 unfolding stepOf
@@ -185,9 +149,6 @@ output-level-requires c κs =
     let formed : inputsFormed W (inputs st) ≡ true = rw f at (sym fine ∙ yes) in
     state-kept st ok .partitions .used
 
-slice-aggregate-finish : tie.Need-slice-aggregate-finish
-slice-aggregate-finish c = search needs
-
 finish-requires : tie.Need-finish-requires
 finish-requires c κs =
     let s = c .before .before .before .before .before .before .before .before .before .before .before .before .before .before .before .before .before .before .before .before .before .before .before .before .before .before .before .before .before in
@@ -208,7 +169,7 @@ finish-requires c κs =
     let due : Due (words (pr .last .1 .0)) st (io .result) (ju .result) (ju .last .1 .1 .1 .0) (pr .result .output) (pr .result .batch) =
     record {
       judged = pr .ensures .judged on;
-      counts = ju .ensures .1 yes ∙ ap countsOf (pairs-read W st (io .result) (ju .result) g ∙ sym (pr .ensures .pairs on));
+      counts = ju .ensures .1 yes ∙ ap countsById (pairs-read W st (io .result) (ju .result) g ∙ sym (pr .ensures .pairs on));
       acts = pr .ensures .acts on;
     } in
     (omega (arith, pr .kept .1 .0, card-words st (s .args .card .now) ok same), record { state = st; due = due; steps = refl; level = c .before .before .before .before .output-level .ensures })
@@ -254,7 +215,7 @@ returns-6 c =
     let due : Due (words (pr .last .1 .0)) st (io .result) (ju .result) (ju .last .1 .1 .1 .0) (pr .result .output) (pr .result .batch) =
     record {
       judged = pr .ensures .judged on;
-      counts = ju .ensures .1 yes ∙ ap countsOf (pairs-read W st (io .result) (ju .result) g ∙ sym (pr .ensures .pairs on));
+      counts = ju .ensures .1 yes ∙ ap countsById (pairs-read W st (io .result) (ju .result) g ∙ sym (pr .ensures .pairs on));
       acts = pr .ensures .acts on;
     } in
     let fin = c .before .before .before .finish in
@@ -266,29 +227,29 @@ pub step-spec : {M : Type 1} → statement M
 step-spec =
     tie.close
     (tie.spec
-    state-ok-requires
-    refuse-requires
+    (λ c κs. search needs)
+    (λ c κs. search needs)
     returns
-    cast-if2
-    refuse-requires-2
+    (λ c. search needs)
+    (λ c κs. search needs)
     returns-2
     partitions-ok-requires
-    refuse-requires-3
-    same-length
+    (λ c κs. search needs)
+    (λ c. search needs)
     returns-3
     inputs-of-requires
-    slice-aggregate-judge
-    slice-aggregate-judge-2
+    (λ c. search needs)
+    (λ c. search needs)
     judge-requires
-    refuse-requires-4
-    same-length-2
+    (λ c κs. search needs)
+    (λ c. search needs)
     returns-4
     prepare-requires
-    refuse-requires-5
-    same-length-3
+    (λ c κs. search needs)
+    (λ c. search needs)
     returns-5
     output-level-requires
-    slice-aggregate-finish
+    (λ c. search needs)
     finish-requires
     next-state-requires
     same-length-4

@@ -1,4 +1,4 @@
--- `merges::take_blocks` meets its contract. Assumes nothing.
+-- `merges::take_blocks` meets its contract.
 use mathlib.Core.Path.{_≡_, refl, sym, ap, _∙_}
 use Prim.Native.Nat.{ℕ, _-_, _≤_}
 use native.Mathlib.Omega.{arith}
@@ -16,12 +16,6 @@ returns : tie.Need-returns
 unfolding store
 returns c = let e = c .if1 .taken in rw e (refl, refl, refl, refl, refl)
 
-link-free-requires : tie.Need-link-free-requires
-link-free-requires c κs = search needs
-
-same-length : tie.Need-same-length
-same-length c = search needs
-
 returns-2 : tie.Need-returns-2
 returns-2 c =
     let s = c .before .before .before .before .before .before in
@@ -32,4 +26,4 @@ returns-2 c =
     (l .0, l .1 ∙ first-at bs h, refl, refl, l .2 ∙ sym (last-at (s .args .taken) bs h ∙ ap (λ (k : ℕ). getD bs (k - 1) 0) m))
 
 pub take-blocks-spec : {M : Type 1} → statement M
-take-blocks-spec = tie.close (tie.spec returns link-free-requires same-length returns-2)
+take-blocks-spec = tie.close (tie.spec returns (λ c κs. search needs) (λ c. search needs) returns-2)

@@ -1,4 +1,4 @@
--- `outputs::free_after` meets its contract: as some block is free, one is found. Assumes nothing.
+-- `outputs::free_after` meets its contract: as some block is free, one is found.
 use denote.Enum.Declared.{tagOf}
 use mathlib.Core.Path.{refl, sym, ap, _∙_}
 use borrow.Author.Needs.{needs}

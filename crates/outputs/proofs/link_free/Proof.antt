@@ -1,4 +1,4 @@
--- `outputs::link_free` meets its contract. The invariant: so many of the wanted blocks are found, and linking the others gives the whole. Assumes nothing.
+-- `outputs::link_free` meets its contract. The invariant: so many of the wanted blocks are found, and linking the others gives the whole.
 use mathlib.Core.Path.{_≡_, refl, sym, _∙_}
 use Prim.Native.Nat.{_-_}
 use native.Mathlib.Omega.{arith}

@@ -1,4 +1,4 @@
--- `outputs::place_at` meets its contract. The invariant: whole blocks were passed over, and k words are still to go. Assumes nothing.
+-- `outputs::place_at` meets its contract. The invariant: whole blocks were passed over, and k words are still to go.
 use mathlib.Core.Path.{refl}
 use native.Mathlib.Omega.{arith}
 use Rattle.words.specs.Words.{words}

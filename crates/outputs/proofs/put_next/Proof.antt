@@ -1,4 +1,4 @@
--- `outputs::put_next` meets its contract. Assumes nothing.
+-- `outputs::put_next` meets its contract.
 use mathlib.Core.Logic.{⊎-elim}
 use mathlib.Core.Path.{_≡_}
 use Prim.Native.Nat.{_+_, _-_}

@@ -1,5 +1,5 @@
 -- `outputs::release_inputs` meets its contract. The invariant: freeing the blocks of the partitions from i on gives the whole; they are different
--- blocks of the card. Assumes nothing.
+-- blocks of the card.
 use mathlib.Core.Path.{_≡_, refl, _∙_}
 use Prim.Native.Nat.{_-_}
 use native.Mathlib.Omega.{arith}

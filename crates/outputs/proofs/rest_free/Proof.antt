@@ -1,4 +1,4 @@
--- `outputs::rest_free` meets its contract. The invariant: the answer is that for the words still to come. Assumes nothing.
+-- `outputs::rest_free` meets its contract. The invariant: the answer is that for the words still to come.
 use mathlib.Core.Path.{_≡_, refl, sym, _∙_}
 use Prim.Native.Nat.{_-_}
 use native.Mathlib.Omega.{arith}

@@ -1,4 +1,4 @@
--- `outputs::write_postings` meets its contract. The invariant: writing the words of the postings from i on gives the whole. Assumes nothing.
+-- `outputs::write_postings` meets its contract. The invariant: writing the words of the postings from i on gives the whole.
 use mathlib.Core.List.{map}
 use mathlib.Core.Path.{_≡_, refl, _∙_}
 use Prim.Native.Nat.{_-_}

@@ -1,4 +1,4 @@
--- `outputs::write_words` meets its contract. The invariant: writing the words that are left gives the whole, and the links are as they were. Assumes nothing.
+-- `outputs::write_words` meets its contract. The invariant: writing the words that are left gives the whole, and the links are as they were.
 use mathlib.Core.Path.{_≡_, refl, _∙_}
 use Prim.Native.Nat.{_-_}
 use native.Mathlib.Omega.{arith}

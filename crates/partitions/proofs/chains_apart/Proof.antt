@@ -1,4 +1,4 @@
--- `partitions::chains_apart` meets its contract. The invariant: that all chains differ is that those from i on are apart from the marks. Assumes nothing.
+-- `partitions::chains_apart` meets its contract. The invariant: that all chains differ is that those from i on are apart from the marks.
 use mathlib.Core.Path.{_≡_, sym, _∙_}
 use Prim.Native.Nat.{_-_, _≤_}
 use native.Mathlib.Omega.{arith}
@@ -27,26 +27,11 @@ Inv-loop card blocks all n marks₀ i₀ marks i =
 abbrev μ-loop : tie.MeasureT-loop
 μ-loop card blocks all n marks₀ i₀ marks i = n - i
 
-cast-n : tie.Need-cast-n Inv-loop μ-loop
-cast-n c = omega arith
-
-no-marks-requires : tie.Need-no-marks-requires Inv-loop μ-loop
-no-marks-requires c κs = search needs
-
 loop-holds : tie.Need-loop-holds Inv-loop μ-loop
 loop-holds c =
     let s = c .before .before in
     let len : length (s .args .t3 .records) ≡ 51 = search (unmapped, needs) in
     (len, omega arith, sym (unmarked-first (c .no-marks .result) (chainsOf (words (s .args .card .now)) (finished (s .args .t3))) (c .no-marks .ensures)))
-
-mul-p : tie.Need-mul-p Inv-loop μ-loop
-mul-p c = omega arith
-
-element-copy-out-p : tie.Need-element-copy-out-p Inv-loop μ-loop
-element-copy-out-p c = omega arith
-
-blocks-for-requires : tie.Need-blocks-for-requires Inv-loop μ-loop
-blocks-for-requires c κs = search needs
 
 mark-chain-requires : tie.Need-mark-chain-requires Inv-loop μ-loop
 mark-chain-requires c κs =
@@ -66,12 +51,6 @@ returns c =
     let ps = s .args .t3 in
     let t = rw (c .before .before .before .blocks-for .ensures) at (failed (c .before .before .mark-chain .ensures .0) (c .if1 .taken)) in
     sym (a .inv .2 ∙ apart-fails W (a .marks) (ps .records) (ps .used) (a .i) noPartition (omega (arith, a .inv .0)) (c .before .before .before .before .before .loop-test .taken) t)
-
-add-i : tie.Need-add-i Inv-loop μ-loop
-add-i c = omega arith
-
-loop-less : tie.Need-loop-less Inv-loop μ-loop
-loop-less c = omega arith
 
 loop-again : tie.Need-loop-again Inv-loop μ-loop
 loop-again c =
@@ -98,15 +77,15 @@ chains-apart-spec =
     (tie.spec
     Inv-loop
     μ-loop
-    cast-n
-    no-marks-requires
+    (λ c. omega arith)
+    (λ c κs. search needs)
     loop-holds
-    mul-p
-    element-copy-out-p
-    blocks-for-requires
+    (λ c. omega arith)
+    (λ c. omega arith)
+    (λ c κs. search needs)
     mark-chain-requires
     returns
-    add-i
-    loop-less
+    (λ c. omega arith)
+    (λ c. omega arith)
     loop-again
     returns-2)

@@ -1,4 +1,4 @@
--- `partitions::each_ok` meets its contract. The invariant: the answer for all is the answer for those from i on. Assumes nothing.
+-- `partitions::each_ok` meets its contract. The invariant: the answer for all is the answer for those from i on.
 use mathlib.Core.Path.{_≡_, refl, sym, _∙_}
 use Prim.Native.Nat.{_+_, _-_, _≤_}
 use native.Mathlib.Omega.{arith}
@@ -24,19 +24,10 @@ Inv-loop card blocks all n i₀ i =
 abbrev μ-loop : tie.MeasureT-loop
 μ-loop card blocks all n i₀ i = n - i
 
-cast-n : tie.Need-cast-n Inv-loop μ-loop
-cast-n c = omega arith
-
 loop-holds : tie.Need-loop-holds Inv-loop μ-loop
 loop-holds c =
     let len : length (c .before .args .t3 .records) ≡ 51 = search (unmapped, needs) in
     (len, omega arith, refl)
-
-mul-p : tie.Need-mul-p Inv-loop μ-loop
-mul-p c = omega arith
-
-element-copy-out-p : tie.Need-element-copy-out-p Inv-loop μ-loop
-element-copy-out-p c = omega arith
 
 partition-ok-requires : tie.Need-partition-ok-requires Inv-loop μ-loop
 partition-ok-requires c κs =
@@ -57,12 +48,6 @@ returns c =
     let t = failed (c .before .partition-ok .ensures) (c .if1 .taken) in
     sym (used-turn (every (partitionRule W (s .args .blocks))) (ps .records) (ps .used) (a .i) noPartition (omega (arith, a .inv .0)) (c .before .before .before .loop-test .taken) (a .inv .2)
     ∙ and-stop (partitionRule W (s .args .blocks) (getD (ps .records) (a .i) noPartition)) (every (partitionRule W (s .args .blocks)) (drop (a .i + 1) (finished ps))) t)
-
-add-i : tie.Need-add-i Inv-loop μ-loop
-add-i c = omega arith
-
-loop-less : tie.Need-loop-less Inv-loop μ-loop
-loop-less c = omega arith
 
 loop-again : tie.Need-loop-again Inv-loop μ-loop
 loop-again c =
@@ -91,13 +76,13 @@ each-ok-spec =
     (tie.spec
     Inv-loop
     μ-loop
-    cast-n
+    (λ c. omega arith)
     loop-holds
-    mul-p
-    element-copy-out-p
+    (λ c. omega arith)
+    (λ c. omega arith)
     partition-ok-requires
     returns
-    add-i
-    loop-less
+    (λ c. omega arith)
+    (λ c. omega arith)
     loop-again
     returns-2)

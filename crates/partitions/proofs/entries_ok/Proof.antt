@@ -1,5 +1,5 @@
 -- `partitions::entries_ok` meets its contract. The invariant: the answer for all entries is the answer resumed at the entry that comes next. A first
--- index is of 32 bits and equals the sum before it, so that the sum stays small. Assumes nothing.
+-- index is of 32 bits and equals the sum before it, so that the sum stays small.
 use mathlib.Core.Path.{_≡_, refl, sym, ap, _∙_}
 use Prim.Native.Nat.{_%_, _≤_}
 use native.Mathlib.Omega.{arith}
@@ -30,17 +30,11 @@ block-word-requires c κs =
     let i = first-block W (s .args .p .first) (blocksFor (s .args .p .length)) (s .pre .0) (r .some) in
     omega (arith, i .inside)
 
-first-entry-requires : tie.Need-first-entry-requires Inv-loop μ-loop
-first-entry-requires c κs = search needs
-
 loop-holds : tie.Need-loop-holds Inv-loop μ-loop
 loop-holds c = (omega (arith, c .first-entry .ensures .terms), omega arith, omega arith, c .first-entry .ensures .good, refl)
 
 entry-at-requires : tie.Need-entry-at-requires Inv-loop μ-loop
 entry-at-requires c κs = (omega arith, c .before .before .loop .inv .3)
-
-entry-ok-requires : tie.Need-entry-ok-requires Inv-loop μ-loop
-entry-ok-requires c κs = search needs
 
 returns : tie.Need-returns Inv-loop μ-loop
 returns c =
@@ -65,9 +59,6 @@ add-next c =
     let q = entry-passed W (a .loop .e) (omega arith) (a .loop .inv .3) x (c .before .before .before .entry-at .ensures) in
     let t = term-facts (a .loop .next) (a .loop .sum) (x .number) (x .count) (x .first) (passed (c .before .before .entry-ok .ensures) (c .before .if2 .left)) in
     omega (arith, t .small)
-
-cast-sum : tie.Need-cast-sum Inv-loop μ-loop
-cast-sum c = omega arith
 
 add-sum : tie.Need-add-sum Inv-loop μ-loop
 add-sum c =
@@ -104,9 +95,6 @@ loop-again c =
           ∙ resumed-step (c .before .before .before .before .before .before .before .before .before .before .block-word .result) (a .loop .next) (a .loop .sum) (x .number) (x .count) (x .first) (ahead W (x .rest)) (passed (c .before .before .before .before .entry-ok .ensures) (c .before .before .before .if2 .left)),
     )
 
-cast-result : tie.Need-cast-result Inv-loop μ-loop
-cast-result c = omega arith
-
 returns-2 : tie.Need-returns-2 Inv-loop μ-loop
 returns-2 c =
     let s = c .before .before .before .before .before .before in
@@ -123,15 +111,15 @@ entries-ok-spec =
     Inv-loop
     μ-loop
     block-word-requires
-    first-entry-requires
+    (λ c κs. search needs)
     loop-holds
     entry-at-requires
-    entry-ok-requires
+    (λ c κs. search needs)
     returns
     add-next
-    cast-sum
+    (λ c. omega arith)
     add-sum
     loop-less
     loop-again
-    cast-result
+    (λ c. omega arith)
     returns-2)

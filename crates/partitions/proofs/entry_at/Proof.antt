@@ -1,4 +1,4 @@
--- `partitions::entry_at` meets its contract: three words are to come, so each cursor on the way is good. Assumes nothing.
+-- `partitions::entry_at` meets its contract: three words are to come, so each cursor on the way is good.
 use mathlib.Core.Path.{ap, _∙_}
 use Rattle.words.specs.Words.{words}
 use Rattle.card.specs.Cursors.{movedOf}
@@ -6,12 +6,6 @@ use Rattle.partitions.proofs.Listed.{second-word, third-word}
 use borrow.Author.Needs.{needs}
 use Rattle.partitions.proofs.entry_at.Statement.{statement}
 use Rattle.partitions.proofs.entry_at.Tie as tie
-
-head-requires : tie.Need-head-requires
-head-requires c κs = search needs
-
-moved-requires : tie.Need-moved-requires
-moved-requires c κs = search needs
 
 head-requires-2 : tie.Need-head-requires-2
 head-requires-2 c κs =
@@ -49,4 +43,4 @@ returns c =
 pub entry-at-spec : {M : Type 1} → statement M
 entry-at-spec =
     tie.close
-    (tie.spec head-requires moved-requires head-requires-2 moved-requires-2 head-requires-3 moved-requires-3 returns)
+    (tie.spec (λ c κs. search needs) (λ c κs. search needs) head-requires-2 moved-requires-2 head-requires-3 moved-requires-3 returns)

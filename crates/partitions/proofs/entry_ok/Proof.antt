@@ -1,4 +1,4 @@
--- `partitions::entry_ok` meets its contract: a test that fails breaks a fact of the rule. Assumes nothing.
+-- `partitions::entry_ok` meets its contract: a test that fails breaks a fact of the rule.
 use mathlib.Core.Path.{sym}
 use native.Mathlib.Omega.{arith}
 use Rattle.lists.proofs.Sections.{untrue}
@@ -22,13 +22,10 @@ returns-3 c =
     let a = c .before .before .before .before .before .before .args in
     sym (untrue _ (λ e. let f = term-facts (a .next) (a .sum) (a .e .number) (a .e .count) (a .e .first) e in omega (arith, c .if3 .taken)))
 
-cast-result : tie.Need-cast-result
-cast-result c = search needs
-
 returns-4 : tie.Need-returns-4
 returns-4 c =
     let a = c .before .before .before .before .before .before .before .args in
     sym (term-last (a .next) (a .sum) (a .e .number) (a .e .count) (a .e .first) (omega (arith, c .before .before .before .before .before .if1 .left)) (omega (arith, c .before .before .before .if2 .left)) (omega (arith, c .before .if3 .left)))
 
 pub entry-ok-spec : {M : Type 1} → statement M
-entry-ok-spec = tie.close (tie.spec returns returns-2 returns-3 cast-result returns-4)
+entry-ok-spec = tie.close (tie.spec returns returns-2 returns-3 (λ c. search needs) returns-4)

@@ -1,4 +1,4 @@
--- `partitions::find_list` meets its contract. The invariant: the postings under the identifier are those that the entries to come lead to. Assumes nothing.
+-- `partitions::find_list` meets its contract. The invariant: the postings under the identifier are those that the entries to come lead to.
 use mathlib.Core.List.{List, map}
 use mathlib.Core.Path.{_≡_, sym, ap, _∙_}
 use Prim.Native.Nat.{ℕ, _%_}
@@ -52,9 +52,6 @@ loop-holds c =
 
 entry-at-requires : tie.Need-entry-at-requires Inv-loop μ-loop
 entry-at-requires c κs = (omega arith, c .before .before .loop .inv .1)
-
-blocks-for-requires : tie.Need-blocks-for-requires Inv-loop μ-loop
-blocks-for-requires c κs = search needs
 
 mul-seek : tie.Need-mul-seek Inv-loop μ-loop
 mul-seek c =
@@ -163,7 +160,7 @@ find-list-spec =
     first-entry-requires
     loop-holds
     entry-at-requires
-    blocks-for-requires
+    (λ c κs. search needs)
     mul-seek
     add-seek
     add-seek-2

@@ -1,4 +1,4 @@
--- `partitions::first_entry` meets its contract: header and entries lie within the chain. Assumes nothing.
+-- `partitions::first_entry` meets its contract: header and entries lie within the chain.
 use native.Mathlib.Omega.{arith}
 use Rattle.words.specs.Words.{words}
 use Rattle.card.specs.Chains.{blocksFor}
@@ -15,9 +15,6 @@ block-word-requires c κs =
     let r = header-room W (s .args .p) (s .pre .0) (s .pre .1) in
     let i = first-block W (s .args .p .first) (blocksFor (s .args .p .length)) (s .pre .0) (r .some) in
     omega (arith, i .inside)
-
-blocks-for-requires : tie.Need-blocks-for-requires
-blocks-for-requires c κs = search needs
 
 mul-seek : tie.Need-mul-seek
 mul-seek c =
@@ -44,4 +41,4 @@ returns c =
 
 pub first-entry-spec : {M : Type 1} → statement M
 first-entry-spec =
-    tie.close (tie.spec block-word-requires blocks-for-requires mul-seek seek-requires returns)
+    tie.close (tie.spec block-word-requires (λ c κs. search needs) mul-seek seek-requires returns)

@@ -1,4 +1,4 @@
--- `partitions::header_fits` meets its contract: a test that fails breaks a fact of the rule. Assumes nothing.
+-- `partitions::header_fits` meets its contract: a test that fails breaks a fact of the rule.
 use mathlib.Core.Path.{sym}
 use native.Mathlib.Omega.{arith}
 use Rattle.lists.proofs.Sections.{untrue}
@@ -8,24 +8,6 @@ use Rattle.partitions.proofs.Headers.{header-last}
 use borrow.Author.Needs.{needs}
 use Rattle.partitions.proofs.header_fits.Statement.{statement}
 use Rattle.partitions.proofs.header_fits.Tie as tie
-
-cast-postings-at : tie.Need-cast-postings-at
-cast-postings-at c = search needs
-
-mul-postings-at : tie.Need-mul-postings-at
-mul-postings-at c = search needs
-
-add-postings-at : tie.Need-add-postings-at
-add-postings-at c = search needs
-
-cast-total : tie.Need-cast-total
-cast-total c = search needs
-
-mul-total : tie.Need-mul-total
-mul-total c = search needs
-
-add-total : tie.Need-add-total
-add-total c = search needs
 
 returns : tie.Need-returns
 returns c =
@@ -42,16 +24,10 @@ returns-3 c =
     let s = c .before .before .before .before .before .before .before .before in
     sym (untrue _ (λ e. let f = headed (s .args .p) (headerWords (s .args .h)) e in omega (arith, c .if3 .taken)))
 
-cast-if4 : tie.Need-cast-if4
-cast-if4 c = search needs
-
 returns-4 : tie.Need-returns-4
 returns-4 c =
     let s = c .before .before .before .before .before .before .before .before .before .before in
     sym (untrue _ (λ e. let f = headed (s .args .p) (headerWords (s .args .h)) e in omega (arith, c .if4 .taken)))
-
-cast-if5 : tie.Need-cast-if5
-cast-if5 c = search needs
 
 returns-5 : tie.Need-returns-5
 returns-5 c =
@@ -62,9 +38,6 @@ returns-6 : tie.Need-returns-6
 returns-6 c =
     let s = c .before .before .before .before .before .before .before .before .before .before .before .before .before .before .before in
     sym (untrue _ (λ e. let f = headed (s .args .p) (headerWords (s .args .h)) e in omega (arith, c .if6 .taken)))
-
-cast-if7 : tie.Need-cast-if7
-cast-if7 c = search needs
 
 returns-7 : tie.Need-returns-7
 returns-7 c =
@@ -86,21 +59,21 @@ pub header-fits-spec : {M : Type 1} → statement M
 header-fits-spec =
     tie.close
     (tie.spec
-    cast-postings-at
-    mul-postings-at
-    add-postings-at
-    cast-total
-    mul-total
-    add-total
+    (λ c. search needs)
+    (λ c. search needs)
+    (λ c. search needs)
+    (λ c. search needs)
+    (λ c. search needs)
+    (λ c. search needs)
     returns
     returns-2
     returns-3
-    cast-if4
+    (λ c. search needs)
     returns-4
-    cast-if5
+    (λ c. search needs)
     returns-5
     returns-6
-    cast-if7
+    (λ c. search needs)
     returns-7
     returns-8
     returns-9)

@@ -1,4 +1,4 @@
--- `partitions::header_ok` meets its contract: the header lies in the first block, which is on the card. Assumes nothing.
+-- `partitions::header_ok` meets its contract: the header lies in the first block, which is on the card.
 use mathlib.Core.Path.{ap, _∙_}
 use Rattle.words.specs.Words.{words}
 use Rattle.card.specs.Chains.{blocksFor}
@@ -15,9 +15,6 @@ read-header-requires c κs =
     let s = c .before in
     first-block (words (s .args .card .now)) (s .args .p .first) (blocksFor (s .args .p .length)) (s .pre .0) (s .pre .1)
 
-header-fits-requires : tie.Need-header-fits-requires
-header-fits-requires c κs = search needs
-
 returns : tie.Need-returns
 returns c =
     let s = c .before .before .before in
@@ -25,4 +22,4 @@ returns c =
     ∙ header-in (words (s .args .card .now)) (s .args .p) (s .pre .0) (s .pre .1)
 
 pub header-ok-spec : {M : Type 1} → statement M
-header-ok-spec = tie.close (tie.spec read-header-requires header-fits-requires returns)
+header-ok-spec = tie.close (tie.spec read-header-requires (λ c κs. search needs) returns)

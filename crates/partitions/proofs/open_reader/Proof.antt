@@ -1,4 +1,4 @@
--- `partitions::open_reader` meets its contract: the entries after the first lie ahead of one cursor, all postings ahead of the other. Assumes nothing.
+-- `partitions::open_reader` meets its contract: the entries after the first lie ahead of one cursor, all postings ahead of the other.
 use mathlib.Core.Path.{refl}
 use native.Mathlib.Omega.{arith}
 use Rattle.words.specs.Words.{words}
@@ -42,9 +42,6 @@ entry-at-requires c κs =
     let p = s .args .p in
     let r = header-room W p (s .pre .chained) (s .pre .header) in
     (omega (arith, r .terms, c .first-entry .ensures .terms), c .first-entry .ensures .good)
-
-blocks-for-requires : tie.Need-blocks-for-requires
-blocks-for-requires c κs = search needs
 
 mul-seek : tie.Need-mul-seek
 mul-seek c =
@@ -103,7 +100,7 @@ open-reader-spec =
     block-word-requires-2
     first-entry-requires
     entry-at-requires
-    blocks-for-requires
+    (λ c κs. search needs)
     mul-seek
     add-seek
     seek-requires

@@ -1,4 +1,4 @@
--- `partitions::partition_ok` meets its contract: the parts of the rule in their order. Assumes nothing.
+-- `partitions::partition_ok` meets its contract: the parts of the rule in their order.
 use mathlib.Core.Path.{sym, ap, _∙_}
 use Rattle.lists.proofs.Turns.{passed, failed}
 use Rattle.words.specs.Words.{words}
@@ -8,12 +8,6 @@ use Rattle.partitions.proofs.Starts.{rule-some, fails-chain, fails-head
 use borrow.Author.Needs.{needs}
 use Rattle.partitions.proofs.partition_ok.Statement.{statement}
 use Rattle.partitions.proofs.partition_ok.Tie as tie
-
-blocks-for-requires : tie.Need-blocks-for-requires
-blocks-for-requires c κs = search needs
-
-chain-ok-requires : tie.Need-chain-ok-requires
-chain-ok-requires c κs = search needs
 
 returns : tie.Need-returns
 returns c =
@@ -63,8 +57,8 @@ pub partition-ok-spec : {M : Type 1} → statement M
 partition-ok-spec =
     tie.close
     (tie.spec
-    blocks-for-requires
-    chain-ok-requires
+    (λ c κs. search needs)
+    (λ c κs. search needs)
     returns
     header-ok-requires
     returns-2

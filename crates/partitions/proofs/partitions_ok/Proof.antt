@@ -1,4 +1,4 @@
--- `partitions::partitions_ok` meets its contract. Assumes nothing.
+-- `partitions::partitions_ok` meets its contract.
 use mathlib.Core.Bool.{Bool, _&&_}
 use mathlib.Core.Path.{sym, ap, _∙_}
 use Rattle.lists.proofs.Turns.{passed, failed}
@@ -9,9 +9,6 @@ use Rattle.partitions.specs.Formed.{chainsOf, partitionsFormed}
 use borrow.Author.Needs.{needs}
 use Rattle.partitions.proofs.partitions_ok.Statement.{statement}
 use Rattle.partitions.proofs.partitions_ok.Tie as tie
-
-each-ok-requires : tie.Need-each-ok-requires
-each-ok-requires c κs = search needs
 
 returns : tie.Need-returns
 unfolding partitionsFormed
@@ -33,4 +30,4 @@ returns-2 c =
     c .chains-apart .ensures ∙ sym (ap (λ (b : Bool). b && different (chainsOf (words (s .args .card .now)) (finished (s .args .ps)))) t)
 
 pub partitions-ok-spec : {M : Type 1} → statement M
-partitions-ok-spec = tie.close (tie.spec each-ok-requires returns chains-apart-requires returns-2)
+partitions-ok-spec = tie.close (tie.spec (λ c κs. search needs) returns chains-apart-requires returns-2)

@@ -1,4 +1,4 @@
--- `partitions::reader_moved` meets its contract: past the last posting of an identifier comes the next entry. Assumes nothing.
+-- `partitions::reader_moved` meets its contract: past the last posting of an identifier comes the next entry.
 use native.Mathlib.Omega.{arith}
 use borrow.Author.Tests.{lt-ltb, le-ltb}
 use Rattle.words.specs.Words.{words}
@@ -7,12 +7,6 @@ use Rattle.partitions.proofs.Readers.{numbered-more, reader-step}
 use borrow.Author.Needs.{needs}
 use Rattle.partitions.proofs.reader_moved.Statement.{statement}
 use Rattle.partitions.proofs.reader_moved.Tie as tie
-
-moved-requires : tie.Need-moved-requires
-moved-requires c κs = search needs
-
-sub-t9 : tie.Need-sub-t9
-sub-t9 c = search needs
 
 returns : tie.Need-returns
 unfolding movedReader
@@ -27,9 +21,6 @@ returns-2 c =
     let s = c .before .before .before .before .before .before in
     reader-step (words (s .args .card .now)) (s .args .r) (s .pre .0) (s .pre .1) _
     (rw (le-ltb 1 (s .args .r .here) (c .before .before .if1 .left), le-ltb 0 (s .args .r .entries .left) (omega arith), c .before .before .before .before .moved .ensures))
-
-entry-at-requires : tie.Need-entry-at-requires
-entry-at-requires c κs = search needs
 
 cast-t10 : tie.Need-cast-t10
 cast-t10 c =
@@ -47,4 +38,4 @@ returns-3 c =
 pub reader-moved-spec : {M : Type 1} → statement M
 reader-moved-spec =
     tie.close
-    (tie.spec moved-requires sub-t9 returns returns-2 entry-at-requires cast-t10 returns-3)
+    (tie.spec (λ c κs. search needs) (λ c. search needs) returns returns-2 (λ c κs. search needs) cast-t10 returns-3)

@@ -7,14 +7,8 @@ use Rattle.postings.proofs.unpack.Tie as tie
 cast-count-of : tie.Need-cast-count-of
 cast-count-of c = record { fits = mask-lt (c .args .word) 16 }
 
-count-of-requires : tie.Need-count-of-requires
-count-of-requires c κs = search needs
-
-cast-t5 : tie.Need-cast-t5
-cast-t5 c = search needs
-
 returns : tie.Need-returns
 returns c = rw (toZ-ofZ (record { sfits = c .count-of .ok }), c .count-of .ensures, and-mask (c .before .args .word) 16)
 
 pub unpack-spec : {M : Type 1} → statement M
-unpack-spec = tie.close (tie.spec cast-count-of count-of-requires cast-t5 returns)
+unpack-spec = tie.close (tie.spec cast-count-of (λ c κs. search needs) (λ c. search needs) returns)

@@ -35,18 +35,6 @@ loop-holds c = (
   refl,
 )
 
-sub-take-some : tie.Need-sub-take-some Inv-loop μ-loop
-sub-take-some c = search needs
-
-part-take-some-start : tie.Need-part-take-some-start Inv-loop μ-loop
-part-take-some-start c = search needs
-
-part-take-some-end : tie.Need-part-take-some-end Inv-loop μ-loop
-part-take-some-end c = search needs
-
-take-some-requires : tie.Need-take-some-requires Inv-loop μ-loop
-take-some-requires c κs = search needs
-
 add-i : tie.Need-add-i Inv-loop μ-loop
 add-i c =
     let piece = c .before .before .before .before .before .before .before .before .before .before .before .before .before .before .before .before .before .before .before .before .before .before .before .args .piece .now in
@@ -54,14 +42,8 @@ add-i c =
     let w : c .before .before .before .before .before .before .before .before .before .before .take-some .result .passed ≤ length (take (length piece - i) (drop i piece)) = c .before .before .before .before .before .before .before .before .before .before .take-some .ensures .within in
     omega (arith, w, rest-length piece i, c .before .before .before .before .before .before .before .before .before .before .before .before .before .before .before .before .before .loop .inv .2, c .before .before .before .before .before .before .before .before .before .before .before .before .before .before .before .before .before .before .before .before .before .before .before .good .1 .1 .1 .1 .1 .0)
 
-slice-reshare-prefix-write-all : tie.Need-slice-reshare-prefix-write-all Inv-loop μ-loop
-slice-reshare-prefix-write-all c = search needs
-
 slice-aggregate-write-all : tie.Need-slice-aggregate-write-all Inv-loop μ-loop
 slice-aggregate-write-all c = sym (length-take-le _ _ (c .before .before .before .before .before .before .before .before .before .before .before .take-some .ensures .fits))
-
-write-all-requires : tie.Need-write-all-requires Inv-loop μ-loop
-write-all-requires c κs = search needs
 
 loop-less : tie.Need-loop-less Inv-loop μ-loop
 loop-less c =
@@ -92,18 +74,6 @@ loop-again c =
       omega (arith, c .before .before .before .before .before .before .out .given, a .inv .8),
     )
 
-same-length : tie.Need-same-length Inv-loop μ-loop
-same-length c = search needs
-
-same-length-2 : tie.Need-same-length-2 Inv-loop μ-loop
-same-length-2 c = search needs
-
-same-length-3 : tie.Need-same-length-3 Inv-loop μ-loop
-same-length-3 c = search needs
-
-same-length-4 : tie.Need-same-length-4 Inv-loop μ-loop
-same-length-4 c = search needs
-
 returns : tie.Need-returns Inv-loop μ-loop
 returns c = serve-ended {i = c .before .loop .i} _ (c .before .loop .inv .0) (omega arith) (c .before .loop .inv .1)
 
@@ -129,20 +99,20 @@ serve-spec =
     Inv-loop
     μ-loop
     loop-holds
-    sub-take-some
-    part-take-some-start
-    part-take-some-end
-    take-some-requires
+    (λ c. search needs)
+    (λ c. search needs)
+    (λ c. search needs)
+    (λ c κs. search needs)
     add-i
-    slice-reshare-prefix-write-all
+    (λ c. search needs)
     slice-aggregate-write-all
-    write-all-requires
+    (λ c κs. search needs)
     loop-less
     loop-again
-    same-length
-    same-length-2
-    same-length-3
-    same-length-4
+    (λ c. search needs)
+    (λ c. search needs)
+    (λ c. search needs)
+    (λ c. search needs)
     returns
     same-length-5
     same-length-6

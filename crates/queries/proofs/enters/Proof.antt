@@ -7,11 +7,8 @@ use Rattle.queries.proofs.enters.Tie as tie
 returns : tie.Need-returns
 returns c = let a = c .before .args in rw (lt-ltb (a .used) (a .places) (c .if1 .taken))
 
-outranks-requires : tie.Need-outranks-requires
-outranks-requires c κs = search needs
-
 returns-2 : tie.Need-returns-2
 returns-2 c = let a = c .before .before .args in rw (le-ltb (a .used) (a .places) (c .before .if1 .left)) (c .outranks .ensures)
 
 pub enters-spec : {M : Type 1} → statement M
-enters-spec = tie.close (tie.spec returns outranks-requires returns-2)
+enters-spec = tie.close (tie.spec returns (λ c κs. search needs) returns-2)

@@ -23,27 +23,6 @@ loop-holds : tie.Need-loop-holds Inv-loop μ-loop
 loop-holds c =
     (search (unmapped, needs), omega arith, omega arith, sym (raised-none (c .args .last) (c .args .t .hits)))
 
-sub-h : tie.Need-sub-h Inv-loop μ-loop
-sub-h c = omega arith
-
-mul-h : tie.Need-mul-h Inv-loop μ-loop
-mul-h c = omega arith
-
-element-copy-out-h : tie.Need-element-copy-out-h Inv-loop μ-loop
-element-copy-out-h c = omega arith
-
-mul-h-2 : tie.Need-mul-h-2 Inv-loop μ-loop
-mul-h-2 c = omega arith
-
-element-set-from-h : tie.Need-element-set-from-h Inv-loop μ-loop
-element-set-from-h c = omega arith
-
-sub-i : tie.Need-sub-i Inv-loop μ-loop
-sub-i c = omega arith
-
-loop-less : tie.Need-loop-less Inv-loop μ-loop
-loop-less c = omega arith
-
 loop-again : tie.Need-loop-again Inv-loop μ-loop
 loop-again c =
     let a = c .before .before in
@@ -57,18 +36,6 @@ loop-again c =
       omega arith,
       ap (λ (xs : List Hit). set xs i (getD xs (i - 1) noHit)) (v .3) ∙ raised-more noHit last i (t .hits) (omega arith) (omega arith) (omega arith),
     )
-
-mul-g : tie.Need-mul-g Inv-loop μ-loop
-mul-g c = omega arith
-
-element-set-from-g : tie.Need-element-set-from-g Inv-loop μ-loop
-element-set-from-g c = omega arith
-
-cast-u : tie.Need-cast-u Inv-loop μ-loop
-cast-u c = omega arith
-
-add-u : tie.Need-add-u Inv-loop μ-loop
-add-u c = omega arith
 
 returns : tie.Need-returns Inv-loop μ-loop
 returns c =
@@ -89,16 +56,16 @@ insert-hit-spec =
     Inv-loop
     μ-loop
     loop-holds
-    sub-h
-    mul-h
-    element-copy-out-h
-    mul-h-2
-    element-set-from-h
-    sub-i
-    loop-less
+    (λ c. omega arith)
+    (λ c. omega arith)
+    (λ c. omega arith)
+    (λ c. omega arith)
+    (λ c. omega arith)
+    (λ c. omega arith)
+    (λ c. omega arith)
     loop-again
-    mul-g
-    element-set-from-g
-    cast-u
-    add-u
+    (λ c. omega arith)
+    (λ c. omega arith)
+    (λ c. omega arith)
+    (λ c. omega arith)
     returns)

@@ -9,12 +9,6 @@ use Rattle.queries.proofs.Tops.{clean-used, rank-le, place-out, place-i
 use Rattle.queries.proofs.place_hit.Statement.{statement}
 use Rattle.queries.proofs.place_hit.Tie as tie
 
-rank-of-requires : tie.Need-rank-of-requires
-rank-of-requires c κs = search needs
-
-last-place-requires : tie.Need-last-place-requires
-last-place-requires c κs = search needs
-
 returns : tie.Need-returns
 returns c =
     let s = c .before .before .before in
@@ -23,9 +17,6 @@ returns c =
     let k = c .before .before .rank-of .ensures in
     let e = c .before .last-place .ensures in
     s .pre .clean ∙ ap topOf (sym (place-out (s .args .g) (s .args .places) l (omega arith) (omega (arith, k, e, rank-le (s .args .g) l))))
-
-insert-hit-requires : tie.Need-insert-hit-requires
-insert-hit-requires c κs = search needs
 
 returns-2 : tie.Need-returns-2
 returns-2 c =
@@ -43,4 +34,4 @@ returns-2 c =
 
 pub place-hit-spec : {M : Type 1} → statement M
 place-hit-spec =
-    tie.close (tie.spec rank-of-requires last-place-requires returns insert-hit-requires returns-2)
+    tie.close (tie.spec (λ c κs. search needs) (λ c κs. search needs) returns (λ c κs. search needs) returns-2)

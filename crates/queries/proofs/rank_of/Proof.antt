@@ -16,17 +16,8 @@ Inv-loop g t n i₀ i =
 abbrev μ-loop : tie.MeasureT-loop
 μ-loop g t n i₀ i = n - i
 
-cast-n : tie.Need-cast-n Inv-loop μ-loop
-cast-n c = omega arith
-
 loop-holds : tie.Need-loop-holds Inv-loop μ-loop
 loop-holds c = (search (unmapped, needs), omega arith, omega arith)
-
-mul-h : tie.Need-mul-h Inv-loop μ-loop
-mul-h c = omega arith
-
-element-copy-out-h : tie.Need-element-copy-out-h Inv-loop μ-loop
-element-copy-out-h c = omega arith
 
 outranks-requires : tie.Need-outranks-requires Inv-loop μ-loop
 outranks-requires c κs = tt
@@ -39,12 +30,6 @@ returns c =
     let e = sym (c .before .outranks .ensures) ∙ c .if1 .taken in
     let r = rank-here (a .before .args .g) (t .hits) (t .used) (a .loop .i) (omega arith) (omega arith) e in
     omega (arith, a .loop .inv .2)
-
-add-i : tie.Need-add-i Inv-loop μ-loop
-add-i c = omega arith
-
-loop-less : tie.Need-loop-less Inv-loop μ-loop
-loop-less c = omega arith
 
 loop-again : tie.Need-loop-again Inv-loop μ-loop
 loop-again c =
@@ -69,13 +54,13 @@ rank-of-spec =
     (tie.spec
     Inv-loop
     μ-loop
-    cast-n
+    (λ c. omega arith)
     loop-holds
-    mul-h
-    element-copy-out-h
+    (λ c. omega arith)
+    (λ c. omega arith)
     outranks-requires
     returns
-    add-i
-    loop-less
+    (λ c. omega arith)
+    (λ c. omega arith)
     loop-again
     returns-2)

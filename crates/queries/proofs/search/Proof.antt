@@ -1,4 +1,4 @@
--- `queries::search` meets its contract: the refusals in order. Assumes nothing.
+-- `queries::search` meets its contract: the refusals in order.
 use borrow.Author.Needs.{needs}
 use borrow.Author.Tests.{not-true, not-false}
 use mathlib.Core.Bool.{true}
@@ -15,23 +15,11 @@ use Rattle.queries.proofs.Outcomes.{refused-as, finds-broken, finds-car
 use Rattle.queries.proofs.search.Statement.{statement}
 use Rattle.queries.proofs.search.Tie as tie
 
-state-ok-requires : tie.Need-state-ok-requires
-state-ok-requires c κs = search needs
-
-refuse-requires : tie.Need-refuse-requires
-refuse-requires c κs = search needs
-
 returns : tie.Need-returns
 returns c =
     let one = c .before in
     let a = one .before .before .before .before .args in
     refused-as (probeOf (a .s) (a .card .now) (a .register .now)) _ _ BrokenState _ (c .refuse .ensures) (finds-broken _ _ _ _ _ (sym (one .before .state-ok .ensures) ∙ not-true _ (one .if1 .taken)))
-
-cast-if2 : tie.Need-cast-if2
-cast-if2 c = search needs
-
-refuse-requires-2 : tie.Need-refuse-requires-2
-refuse-requires-2 c κs = search needs
 
 returns-2 : tie.Need-returns-2
 returns-2 c =
@@ -41,12 +29,6 @@ returns-2 c =
     let ns = map now (a .ids .now) in
     let ok : stateRule (a .s) ≡ true = sym (one .before .state-ok .ensures) ∙ not-false _ (one .if1 .left) in
     refused-as (probeOf (a .s) (a .card .now) (a .register .now)) ns (a .places) WrongLength _ (c .refuse2 .ensures) (finds-card (a .s) (a .card .now) (a .register .now) ns (a .places) ok (c .before .if2 .taken))
-
-cast-if3 : tie.Need-cast-if3
-cast-if3 c = search needs
-
-refuse-requires-3 : tie.Need-refuse-requires-3
-refuse-requires-3 c κs = search needs
 
 returns-3 : tie.Need-returns-3
 returns-3 c =
@@ -67,9 +49,6 @@ register-ok-requires c κs =
     let k = state-kept (a .s) ok .lengths in
     omega (arith, c .if3 .left, k .register, k .mostEntries)
 
-refuse-requires-4 : tie.Need-refuse-requires-4
-refuse-requires-4 c κs = search needs
-
 returns-4 : tie.Need-returns-4
 returns-4 c =
     let one = c .before .before .before .before .before .before .before in
@@ -88,9 +67,6 @@ partitions-ok-requires c κs =
     let ok : stateRule (a .s) ≡ true = sym (one .before .state-ok .ensures) ∙ not-false _ (one .if1 .left) in
     let k = state-kept (a .s) ok in
     (omega (arith, length-words (a .card .now), c .before .before .before .before .before .if2 .left, k .lengths .card), k .lengths .mostBlocks, k .partitions .used, k .partitions .rules)
-
-refuse-requires-5 : tie.Need-refuse-requires-5
-refuse-requires-5 c κs = search needs
 
 returns-5 : tie.Need-returns-5
 returns-5 c =
@@ -124,20 +100,20 @@ pub search-spec : {M : Type 1} → statement M
 search-spec =
     tie.close
     (tie.spec
-    state-ok-requires
-    refuse-requires
+    (λ c κs. search needs)
+    (λ c κs. search needs)
     returns
-    cast-if2
-    refuse-requires-2
+    (λ c. search needs)
+    (λ c κs. search needs)
     returns-2
-    cast-if3
-    refuse-requires-3
+    (λ c. search needs)
+    (λ c κs. search needs)
     returns-3
     register-ok-requires
-    refuse-requires-4
+    (λ c κs. search needs)
     returns-4
     partitions-ok-requires
-    refuse-requires-5
+    (λ c κs. search needs)
     returns-5
     search-sound-requires
     returns-6)

@@ -12,29 +12,11 @@ use borrow.Author.Needs.{needs}
 use Rattle.queries.proofs.search_sound.Statement.{statement}
 use Rattle.queries.proofs.search_sound.Tie as tie
 
-slice-aggregate-pack-run : tie.Need-slice-aggregate-pack-run
-slice-aggregate-pack-run c = search needs
-
 pack-run-requires : tie.Need-pack-run-requires
 pack-run-requires c κs =
     let s = c .before .before .before in
     let k = state-kept (s .args .s) (s .pre .rule) .buffer in
     (k .used, omega arith, rule-sizes (s .args .s .windows) (buffered (s .args .s .buffer)) (k .rules))
-
-cast-end : tie.Need-cast-end
-cast-end c = search needs
-
-mul-end : tie.Need-mul-end
-mul-end c = search needs
-
-add-end : tie.Need-add-end
-add-end c = search needs
-
-slice-aggregate-search-with : tie.Need-slice-aggregate-search-with
-slice-aggregate-search-with c = search needs
-
-slice-aggregate-search-with-2 : tie.Need-slice-aggregate-search-with-2
-slice-aggregate-search-with-2 c = search needs
 
 array-borrow-prefix-spare : tie.Need-array-borrow-prefix-spare
 array-borrow-prefix-spare c = let s = c .before .before .before .before .before .before .before .before in omega (arith, state-kept (s .args .s) (s .pre .rule) .partitions .used)
@@ -61,21 +43,18 @@ search-with-requires c κs =
       },
     )
 
-returns : tie.Need-returns
-returns c = search needs
-
 pub search-sound-spec : {M : Type 1} → statement M
 search-sound-spec =
     tie.close
     (tie.spec
-    slice-aggregate-pack-run
+    (λ c. search needs)
     pack-run-requires
-    cast-end
-    mul-end
-    add-end
-    slice-aggregate-search-with
-    slice-aggregate-search-with-2
+    (λ c. search needs)
+    (λ c. search needs)
+    (λ c. search needs)
+    (λ c. search needs)
+    (λ c. search needs)
     array-borrow-prefix-spare
     slice-aggregate-search-with-3
     search-with-requires
-    returns)
+    (λ c. search needs))

@@ -14,18 +14,6 @@ use borrow.Author.Needs.{needs}
 use Rattle.queries.proofs.search_with.Statement.{statement}
 use Rattle.queries.proofs.search_with.Tie as tie
 
-gather-requires : tie.Need-gather-requires
-gather-requires c κs = search needs
-
-refuse-requires : tie.Need-refuse-requires
-refuse-requires c κs = search needs
-
-same-length : tie.Need-same-length
-same-length c = search needs
-
-same-length-2 : tie.Need-same-length-2
-same-length-2 c = search needs
-
 returns : tie.Need-returns
 returns c =
     let s = c .before .before .before .before .before .before .before .before .before .before .before .before .before .before in
@@ -34,18 +22,6 @@ returns c =
     let g = c .before .before .before .before .before .before .gather in
     let H = g .last .1 .1 .1 .1 .1 .0 in
     refused-as (probeOf (a .s) (a .card .now) (a .register .now)) ns (a .places) Malformed _ (c .refuse .ensures) (finds-malformed (a .s) (a .card .now) (a .register .now) (s .pre .0) ns (a .places) (a .run .now) H (g .result) (g .ensures) (not-true _ (c .before .if1 .taken)))
-
-any-bad-requires : tie.Need-any-bad-requires
-any-bad-requires c κs = search needs
-
-refuse-requires-2 : tie.Need-refuse-requires-2
-refuse-requires-2 c κs = search needs
-
-same-length-3 : tie.Need-same-length-3
-same-length-3 c = search needs
-
-same-length-4 : tie.Need-same-length-4
-same-length-4 c = search needs
 
 returns-2 : tie.Need-returns-2
 returns-2 c =
@@ -56,18 +32,6 @@ returns-2 c =
     let H = g .last .1 .1 .1 .1 .1 .0 in
     refused-as (probeOf (a .s) (a .card .now) (a .register .now)) ns (a .places) BadIdentifier _ (c .refuse2 .ensures) (finds-identifier (a .s) (a .card .now) (a .register .now) (s .pre .0) ns (a .places) (a .run .now) H (g .result) (g .ensures) (not-false _ (c .before .before .before .if1 .left)) (sym (c .before .before .any-bad .ensures) ∙ c .before .if2 .taken))
 
-bad-query-requires : tie.Need-bad-query-requires
-bad-query-requires c κs = search needs
-
-refuse-requires-3 : tie.Need-refuse-requires-3
-refuse-requires-3 c κs = search needs
-
-same-length-5 : tie.Need-same-length-5
-same-length-5 c = search needs
-
-same-length-6 : tie.Need-same-length-6
-same-length-6 c = search needs
-
 returns-3 : tie.Need-returns-3
 returns-3 c =
     let s = c .before .before .before .before .before .before .before .before .before .before .before .before .before .before .before .before .before .before in
@@ -76,15 +40,6 @@ returns-3 c =
     let g = c .before .before .before .before .before .before .before .before .before .before .gather in
     let H = g .last .1 .1 .1 .1 .1 .0 in
     refused-as (probeOf (a .s) (a .card .now) (a .register .now)) ns (a .places) BadQuery _ (c .refuse3 .ensures) (finds-bad (a .s) (a .card .now) (a .register .now) (s .pre .0) ns (a .places) (a .run .now) H (g .result) (g .ensures) (not-false _ (c .before .before .before .before .before .if1 .left)) (sym (c .before .before .before .before .any-bad .ensures) ∙ c .before .before .before .if2 .left) (sym (c .before .before .bad-query .ensures) ∙ c .before .if3 .taken))
-
-cast-m : tie.Need-cast-m
-cast-m c = search needs
-
-add-m : tie.Need-add-m
-add-m c = search needs
-
-cast-walk : tie.Need-cast-walk
-cast-walk c = search needs
 
 cast-walk-2 : tie.Need-cast-walk-2
 cast-walk-2 c =
@@ -107,12 +62,6 @@ walk-requires c κs =
     let q = proper (a .places) ns e in
     (terms-walkable (a .s) (a .card .now) (a .register .now) (s .pre .0) ns (a .places) (a .run .now) H (g .result) (g .ensures) (not-false _ (c .before .before .before .before .before .before .before .if1 .left)) (sym (c .before .before .before .before .before .before .any-bad .ensures) ∙ c .before .before .before .before .before .if2 .left) e (length (a .spare .now)) (rw (c .before .before .before .before .before .before .before .before .before .before .before .heads .given) (s .pre .1)), q .some, q .most)
 
-same-length-7 : tie.Need-same-length-7
-same-length-7 c = search needs
-
-same-length-8 : tie.Need-same-length-8
-same-length-8 c = search needs
-
 returns-4 : tie.Need-returns-4
 returns-4 c =
     let s = c .before .before .before .before .before .before .before .before .before .before .before .before .before .before .before .before .before .before .before .before .before .before .before in
@@ -127,26 +76,26 @@ pub search-with-spec : {M : Type 1} → statement M
 search-with-spec =
     tie.close
     (tie.spec
-    gather-requires
-    refuse-requires
-    same-length
-    same-length-2
+    (λ c κs. search needs)
+    (λ c κs. search needs)
+    (λ c. search needs)
+    (λ c. search needs)
     returns
-    any-bad-requires
-    refuse-requires-2
-    same-length-3
-    same-length-4
+    (λ c κs. search needs)
+    (λ c κs. search needs)
+    (λ c. search needs)
+    (λ c. search needs)
     returns-2
-    bad-query-requires
-    refuse-requires-3
-    same-length-5
-    same-length-6
+    (λ c κs. search needs)
+    (λ c κs. search needs)
+    (λ c. search needs)
+    (λ c. search needs)
     returns-3
-    cast-m
-    add-m
-    cast-walk
+    (λ c. search needs)
+    (λ c. search needs)
+    (λ c. search needs)
     cast-walk-2
     walk-requires
-    same-length-7
-    same-length-8
+    (λ c. search needs)
+    (λ c. search needs)
     returns-4)

@@ -18,17 +18,8 @@ Inv-loop c n i₀ i =
 abbrev μ-loop : tie.MeasureT-loop
 μ-loop c n i₀ i = n - i
 
-cast-n : tie.Need-cast-n Inv-loop μ-loop
-cast-n c = omega arith
-
 loop-holds : tie.Need-loop-holds Inv-loop μ-loop
 loop-holds c = (search (unmapped, needs), omega arith, refl)
-
-mul-p : tie.Need-mul-p Inv-loop μ-loop
-mul-p c = omega arith
-
-element-copy-out-p : tie.Need-element-copy-out-p Inv-loop μ-loop
-element-copy-out-p c = omega arith
 
 counts-up-requires : tie.Need-counts-up-requires Inv-loop μ-loop
 counts-up-requires c κs = tt
@@ -41,12 +32,6 @@ returns c =
     let e = any-turn (λ p. isAbove (p .count)) (t .postings) noPosting (t .used) (a .loop .i) (omega arith) (omega arith) in
     let f = sym (c .before .counts-up .ensures) ∙ c .if1 .taken in
     sym (a .loop .inv .2 ∙ e ∙ rw f)
-
-add-i : tie.Need-add-i Inv-loop μ-loop
-add-i c = omega arith
-
-loop-less : tie.Need-loop-less Inv-loop μ-loop
-loop-less c = omega arith
 
 loop-again : tie.Need-loop-again Inv-loop μ-loop
 loop-again c =
@@ -69,13 +54,13 @@ is-live-spec =
     (tie.spec
     Inv-loop
     μ-loop
-    cast-n
+    (λ c. omega arith)
     loop-holds
-    mul-p
-    element-copy-out-p
+    (λ c. omega arith)
+    (λ c. omega arith)
     counts-up-requires
     returns
-    add-i
-    loop-less
+    (λ c. omega arith)
+    (λ c. omega arith)
     loop-again
     returns-2)

@@ -7,9 +7,6 @@ use borrow.Author.Needs.{needs}
 use Rattle.removals.proofs.must_flush.Statement.{statement}
 use Rattle.removals.proofs.must_flush.Tie as tie
 
-add-result : tie.Need-add-result
-add-result c = search needs
-
 returns : tie.Need-returns
 returns c =
     let a = c .before .before in
@@ -20,4 +17,4 @@ returns c =
     rw (length-take-le (b .used) (b .postings) (omega arith), length-take-le (t .used) (t .postings) (omega arith))
 
 pub must-flush-spec : {M : Type 1} → statement M
-must-flush-spec = tie.close (tie.spec add-result returns)
+must-flush-spec = tie.close (tie.spec (λ c. search needs) returns)

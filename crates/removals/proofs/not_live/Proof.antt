@@ -3,20 +3,11 @@ use borrow.Author.Needs.{needs}
 use Rattle.removals.proofs.not_live.Statement.{statement}
 use Rattle.removals.proofs.not_live.Tie as tie
 
-is-live-requires : tie.Need-is-live-requires
-is-live-requires c κs = search needs
-
 returns : tie.Need-returns
 returns c = rw (← c .before .is-live .ensures, c .if1 .taken)
 
-cast-if2 : tie.Need-cast-if2
-cast-if2 c = search needs
-
 returns-2 : tie.Need-returns-2
 returns-2 c = rw (← c .before .before .before .is-live .ensures, c .before .before .if1 .left, lt-ltb _ _ (c .if2 .taken))
-
-open-counted-requires : tie.Need-open-counted-requires
-open-counted-requires c κs = search needs
 
 returns-3 : tie.Need-returns-3
 returns-3 c =
@@ -25,4 +16,4 @@ returns-3 c =
 pub not-live-spec : {M : Type 1} → statement M
 not-live-spec =
     tie.close
-    (tie.spec is-live-requires returns cast-if2 returns-2 open-counted-requires returns-3)
+    (tie.spec (λ c κs. search needs) returns (λ c. search needs) returns-2 (λ c κs. search needs) returns-3)

@@ -6,12 +6,6 @@ use borrow.Author.Needs.{needs}
 use Rattle.removals.proofs.remove.Statement.{statement}
 use Rattle.removals.proofs.remove.Tie as tie
 
-state-ok-requires : tie.Need-state-ok-requires
-state-ok-requires c κs = search needs
-
-refuse-requires : tie.Need-refuse-requires
-refuse-requires c κs = search needs
-
 returns : tie.Need-returns
 returns c =
     let a = c .before .before .before .before in
@@ -20,12 +14,6 @@ returns c =
     let w = a .args .window in
     let ok = sym (c .before .before .state-ok .ensures) in
     rw (c .refuse .ensures) (broken-state s card w (ok ∙ not-true _ (c .before .if1 .taken)))
-
-cast-if2 : tie.Need-cast-if2
-cast-if2 c = search needs
-
-refuse-requires-2 : tie.Need-refuse-requires-2
-refuse-requires-2 c κs = search needs
 
 returns-2 : tie.Need-returns-2
 returns-2 c =
@@ -48,12 +36,6 @@ partitions-ok-requires c κs =
     let k = state-kept s rule in
     (card-words s card w rule (c .before .before .if2 .left), k .lengths .mostBlocks, k .partitions .used, k .partitions .rules)
 
-refuse-requires-3 : tie.Need-refuse-requires-3
-refuse-requires-3 c κs = search needs
-
-same-length : tie.Need-same-length
-same-length c = search needs
-
 returns-3 : tie.Need-returns-3
 returns-3 c =
     let a = c .before .before .before .before .before .before .before .before .before .before in
@@ -75,12 +57,6 @@ read-requires c κs =
     let size = c .before .before .before .before .before .if2 .left in
     let parts = sym (c .before .before .partitions-ok .ensures) ∙ not-false _ (c .before .if3 .left) in
     (rule, card-words s card w rule size, parts)
-
-refuse-requires-4 : tie.Need-refuse-requires-4
-refuse-requires-4 c κs = search needs
-
-same-length-2 : tie.Need-same-length-2
-same-length-2 c = search needs
 
 returns-4 : tie.Need-returns-4
 returns-4 c =
@@ -108,9 +84,6 @@ remove-counts-requires c κs =
     let r = c .before .before .before .read in
     removable s card w rule size parts (r .result) (r .ensures) (not-false _ (c .before .before .if4 .left))
 
-same-length-3 : tie.Need-same-length-3
-same-length-3 c = search needs
-
 returns-5 : tie.Need-returns-5
 returns-5 c =
     let a = c .before .before .before .before .before .before .before .before .before .before .before .before .before .before .before .before .before in
@@ -128,20 +101,20 @@ pub remove-spec : {M : Type 1} → statement M
 remove-spec =
     tie.close
     (tie.spec
-    state-ok-requires
-    refuse-requires
+    (λ c κs. search needs)
+    (λ c κs. search needs)
     returns
-    cast-if2
-    refuse-requires-2
+    (λ c. search needs)
+    (λ c κs. search needs)
     returns-2
     partitions-ok-requires
-    refuse-requires-3
-    same-length
+    (λ c κs. search needs)
+    (λ c. search needs)
     returns-3
     read-requires
-    refuse-requires-4
-    same-length-2
+    (λ c κs. search needs)
+    (λ c. search needs)
     returns-4
     remove-counts-requires
-    same-length-3
+    (λ c. search needs)
     returns-5)

@@ -11,12 +11,6 @@ use borrow.Author.Needs.{needs}
 use Rattle.removals.proofs.remove_counts.Statement.{statement}
 use Rattle.removals.proofs.remove_counts.Tie as tie
 
-names-open-requires : tie.Need-names-open-requires
-names-open-requires c κs = search needs
-
-refuse-requires : tie.Need-refuse-requires
-refuse-requires c κs = search needs
-
 returns : tie.Need-returns
 returns c =
     let a = c .before .before .before .before in
@@ -26,12 +20,6 @@ returns c =
     let k = a .args .c in
     let o = c .before .before in
     rw (c .refuse .ensures) (names-the-open s card w (countsIn k) (sym (o .names-open .ensures) ∙ c .before .if1 .taken))
-
-not-live-requires : tie.Need-not-live-requires
-not-live-requires c κs = search needs
-
-refuse-requires-2 : tie.Need-refuse-requires-2
-refuse-requires-2 c κs = search needs
 
 returns-2 : tie.Need-returns-2
 returns-2 c =
@@ -53,18 +41,6 @@ must-flush-requires c κs =
     let w = a .args .window in
     let k = a .args .c in
     (state-kept s (a .pre .rule) .buffer .used, a .pre .few)
-
-target-of-requires : tie.Need-target-of-requires
-target-of-requires c κs = search needs
-
-enum-known-target : tie.Need-enum-known-target
-enum-known-target c = search needs
-
-refuse-requires-3 : tie.Need-refuse-requires-3
-refuse-requires-3 c κs = search needs
-
-enum-known-target-2 : tie.Need-enum-known-target-2
-enum-known-target-2 c = search needs
 
 flush-to-requires : tie.Need-flush-to-requires
 flush-to-requires c κs =
@@ -96,12 +72,6 @@ without-requires c κs =
     rw (f .flush-to .ensures .0)
     (takeable-flushed s card w k (a .pre) _, rw (live-flushed s card w k (a .pre) _) n)
 
-done-requires : tie.Need-done-requires
-done-requires c κs = search needs
-
-enum-told : tie.Need-enum-told
-enum-told c = search needs
-
 without-requires-2 : tie.Need-without-requires-2
 without-requires-2 c κs =
     let a = c .before .before .before .before .before .before .before .before .before .before in
@@ -118,12 +88,6 @@ without-requires-2 c κs =
     let live = sym (l .not-live .ensures) ∙ i .if2 .left in
     let none = nothing-told (tagOf the-type) (λ x. refl) (λ x. refl) (m .target-of .result) (c .before .match .keys3) in
     (takeable-plain s card w k (a .pre) (judged s (countsIn k) card _ Target.Nothing (m .before .must-flush .ensures) (rw none at (m .target-of .ensures))), some-live s card w (countsIn k) shut live)
-
-done-requires-2 : tie.Need-done-requires-2
-done-requires-2 c κs = search needs
-
-same-length : tie.Need-same-length
-same-length c = search needs
 
 returns-3 : tie.Need-returns-3
 returns-3 c =
@@ -143,9 +107,6 @@ returns-3 c =
     rw (c .refuse3 .ensures)
     (flush-barred s card w (countsIn k) shut live (t .target .given .0 .0) (judged s (countsIn k) card _ (Target.Refused (t .target .given .0 .0)) (m .before .must-flush .ensures) (rw (t .target .given .1) at (m .target-of .ensures))))
 
-same-length-2 : tie.Need-same-length-2
-same-length-2 c = search needs
-
 returns-4 : tie.Need-returns-4
 returns-4 c =
     let a = c .before .before .before .before .before .before .before .before .before .before .before .before .before .before .before .before .before in
@@ -164,9 +125,6 @@ returns-4 c =
     let t = c .before .before .before .before .before .before .before in
     rw (c .done .ensures, c .before .without .ensures, f .flush-to .ensures .0, f .flush-to .ensures .1)
     (removed-flushed s card w (countsIn k) shut live (t .target2 .given .0 .0) (judged s (countsIn k) card _ (Target.Block (t .target2 .given .0 .0)) (m .before .must-flush .ensures) (rw (t .target2 .given .1) at (m .target-of .ensures))))
-
-same-length-3 : tie.Need-same-length-3
-same-length-3 c = search needs
 
 returns-5 : tie.Need-returns-5
 returns-5 c =
@@ -190,26 +148,26 @@ pub remove-counts-spec : {M : Type 1} → statement M
 remove-counts-spec =
     tie.close
     (tie.spec
-    names-open-requires
-    refuse-requires
+    (λ c κs. search needs)
+    (λ c κs. search needs)
     returns
-    not-live-requires
-    refuse-requires-2
+    (λ c κs. search needs)
+    (λ c κs. search needs)
     returns-2
     must-flush-requires
-    target-of-requires
-    enum-known-target
-    refuse-requires-3
-    enum-known-target-2
+    (λ c κs. search needs)
+    (λ c. search needs)
+    (λ c κs. search needs)
+    (λ c. search needs)
     flush-to-requires
     without-requires
-    done-requires
-    enum-told
+    (λ c κs. search needs)
+    (λ c. search needs)
     without-requires-2
-    done-requires-2
-    same-length
+    (λ c κs. search needs)
+    (λ c. search needs)
     returns-3
-    same-length-2
+    (λ c. search needs)
     returns-4
-    same-length-3
+    (λ c. search needs)
     returns-5)

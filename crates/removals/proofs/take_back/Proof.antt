@@ -20,23 +20,11 @@ Inv-loop c left₀ i₀ left i = (i ≤ i₀) × (left ≡ bufferOf (takenBack (
 abbrev μ-loop : tie.MeasureT-loop
 μ-loop c left₀ i₀ left i = i
 
-cast-i : tie.Need-cast-i Inv-loop μ-loop
-cast-i c = search needs
-
 loop-holds : tie.Need-loop-holds Inv-loop μ-loop
 loop-holds c =
     let wide : length (c .args .b .postings) ≡ 128 = search (unmapped, needs) in
     let long : length (c .args .t2 .postings) ≡ 64 = search (unmapped, needs) in
     (omega arith, start-buffer (c .args .b) (c .args .t2) (c .pre) wide long)
-
-sub-i : tie.Need-sub-i Inv-loop μ-loop
-sub-i c = search needs
-
-mul-p : tie.Need-mul-p Inv-loop μ-loop
-mul-p c = search needs
-
-element-copy-out-p : tie.Need-element-copy-out-p Inv-loop μ-loop
-element-copy-out-p c = search needs
 
 negate-requires : tie.Need-negate-requires Inv-loop μ-loop
 negate-requires c κs =
@@ -58,9 +46,6 @@ add-requires c κs =
     let k = small-count (a .args .b) (a .args .t2) (a .pre) wide long (l .loop .i) (l .loop .i - 1) noPosting (omega arith) (l .loop .inv .0) in
     rw (l .loop .inv .1, c .negate .ensures, toZ-ofZ (small-fits z k), toZ-ofZ (neg-fits z k))
     (buffer-canonical (a .args .b) (a .args .t2) (a .pre) wide long (l .loop .i), next-addable (a .args .b) (a .args .t2) (a .pre) wide long (l .loop .i) (l .loop .i - 1) noPosting (omega arith) (l .loop .inv .0))
-
-loop-less : tie.Need-loop-less Inv-loop μ-loop
-loop-less c = search needs
 
 loop-again : tie.Need-loop-again Inv-loop μ-loop
 loop-again c =
@@ -90,13 +75,13 @@ take-back-spec =
     (tie.spec
     Inv-loop
     μ-loop
-    cast-i
+    (λ c. search needs)
     loop-holds
-    sub-i
-    mul-p
-    element-copy-out-p
+    (λ c. search needs)
+    (λ c. search needs)
+    (λ c. search needs)
     negate-requires
     add-requires
-    loop-less
+    (λ c. search needs)
     loop-again
     returns)

@@ -26,17 +26,8 @@ Inv-loop card heads₀ ps n top₀ i₀ heads top i =
 abbrev μ-loop : tie.MeasureT-loop
 μ-loop card heads₀ ps n top₀ i₀ heads top i = n - i
 
-cast-n : tie.Need-cast-n Inv-loop μ-loop
-cast-n c = omega arith
-
 loop-holds : tie.Need-loop-holds Inv-loop μ-loop
 loop-holds c = (search (unmapped, needs), omega arith, opened-none _ _ _ _ _ _, top-none _ _ _)
-
-mul-p : tie.Need-mul-p Inv-loop μ-loop
-mul-p c = omega arith
-
-element-copy-out-p : tie.Need-element-copy-out-p Inv-loop μ-loop
-element-copy-out-p c = omega arith
 
 open-reader-requires : tie.Need-open-reader-requires Inv-loop μ-loop
 open-reader-requires c κs =
@@ -54,12 +45,6 @@ add-end c = omega (arith, c .before .before .before .before .before .before .pre
 mul-put : tie.Need-mul-put Inv-loop μ-loop
 mul-put c = omega (arith, c .before .before .before .before .before .before .pre)
 
-sub-put : tie.Need-sub-put Inv-loop μ-loop
-sub-put c = omega arith
-
-part-put-start : tie.Need-part-put-start Inv-loop μ-loop
-part-put-start c = omega arith
-
 part-put-end : tie.Need-part-put-end Inv-loop μ-loop
 part-put-end c = omega (arith, c .before .before .before .loop .inv .2 .long, c .before .before .before .before .before .before .pre)
 
@@ -69,15 +54,6 @@ put-requires c κs =
     let s = a .before .before .before in
     let i = a .loop .i in
     (mid-len (10 * i) (10 * i + 10) (a .loop .heads) (omega (arith, a .loop .inv .2 .long, s .pre)) ∙ width 10 i, c .before .open-reader .ensures .1)
-
-larger-requires : tie.Need-larger-requires Inv-loop μ-loop
-larger-requires c κs = search needs
-
-add-i : tie.Need-add-i Inv-loop μ-loop
-add-i c = omega arith
-
-loop-less : tie.Need-loop-less Inv-loop μ-loop
-loop-less c = omega arith
 
 loop-again : tie.Need-loop-again Inv-loop μ-loop
 loop-again c =
@@ -117,21 +93,21 @@ open-heads-spec =
     (tie.spec
     Inv-loop
     μ-loop
-    cast-n
+    (λ c. omega arith)
     loop-holds
-    mul-p
-    element-copy-out-p
+    (λ c. omega arith)
+    (λ c. omega arith)
     open-reader-requires
     mul-at
     add-end
     mul-put
-    sub-put
-    part-put-start
+    (λ c. omega arith)
+    (λ c. omega arith)
     part-put-end
     put-requires
-    larger-requires
-    add-i
-    loop-less
+    (λ c κs. search needs)
+    (λ c. omega arith)
+    (λ c. omega arith)
     loop-again
     same-length
     returns)

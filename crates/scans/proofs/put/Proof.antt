@@ -11,30 +11,6 @@ use borrow.Author.Needs.{needs}
 use Rattle.scans.proofs.put.Statement.{statement}
 use Rattle.scans.proofs.put.Tie as tie
 
-cast-head : tie.Need-cast-head
-cast-head c = search needs
-
-slice-write-head : tie.Need-slice-write-head
-slice-write-head c = search needs
-
-cast-head-2 : tie.Need-cast-head-2
-cast-head-2 c = search needs
-
-slice-write-head-2 : tie.Need-slice-write-head-2
-slice-write-head-2 c = search needs
-
-slice-write-head-3 : tie.Need-slice-write-head-3
-slice-write-head-3 c = search needs
-
-cast-head-3 : tie.Need-cast-head-3
-cast-head-3 c = search needs
-
-slice-write-head-4 : tie.Need-slice-write-head-4
-slice-write-head-4 c = search needs
-
-cast-head-4 : tie.Need-cast-head-4
-cast-head-4 c = search needs
-
 slice-write-head-5 : tie.Need-slice-write-head-5
 slice-write-head-5 c =
     simp length-set (omega (arith, c .before .before .before .before .before .before .before .before .pre .0))
@@ -42,9 +18,6 @@ slice-write-head-5 c =
 slice-write-head-6 : tie.Need-slice-write-head-6
 slice-write-head-6 c =
     simp length-set (omega (arith, c .before .before .before .before .before .before .before .before .pre .0))
-
-cast-head-5 : tie.Need-cast-head-5
-cast-head-5 c = search needs
 
 slice-write-head-7 : tie.Need-slice-write-head-7
 slice-write-head-7 c =
@@ -68,24 +41,6 @@ returns c =
     let f : Fits w16 (r .entries .word) = search needs in
     let n : Narrow r = record { block = omega (arith, a .fits); word = omega (arith, b .fits); block2 = omega (arith, d .fits); word2 = omega (arith, f .fits); id = omega (arith, s .pre .1 .small) } in
     put-none (words (s .args .card .now)) (s .args .head .now) (s .pre .0) r n (s .pre .1) (c .if1 .taken)
-
-head-requires : tie.Need-head-requires
-head-requires c κs = search needs
-
-cast-top : tie.Need-cast-top
-cast-top c = search needs
-
-sub-top : tie.Need-sub-top
-sub-top c = search needs
-
-mul-top : tie.Need-mul-top
-mul-top c = search needs
-
-add-top : tie.Need-add-top
-add-top c = search needs
-
-add-top-2 : tie.Need-add-top-2
-add-top-2 c = search needs
 
 slice-write-head-10 : tie.Need-slice-write-head-10
 slice-write-head-10 c =
@@ -116,28 +71,28 @@ pub put-spec : {M : Type 1} → statement M
 put-spec =
     tie.close
     (tie.spec
-    cast-head
-    slice-write-head
-    cast-head-2
-    slice-write-head-2
-    slice-write-head-3
-    cast-head-3
-    slice-write-head-4
-    cast-head-4
+    (λ c. search needs)
+    (λ c. search needs)
+    (λ c. search needs)
+    (λ c. search needs)
+    (λ c. search needs)
+    (λ c. search needs)
+    (λ c. search needs)
+    (λ c. search needs)
     slice-write-head-5
     slice-write-head-6
-    cast-head-5
+    (λ c. search needs)
     slice-write-head-7
     slice-write-head-8
     slice-write-head-9
     same-length
     returns
-    head-requires
-    cast-top
-    sub-top
-    mul-top
-    add-top
-    add-top-2
+    (λ c κs. search needs)
+    (λ c. search needs)
+    (λ c. search needs)
+    (λ c. search needs)
+    (λ c. search needs)
+    (λ c. search needs)
     slice-write-head-10
     slice-write-head-11
     same-length-2

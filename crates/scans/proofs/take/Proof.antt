@@ -31,12 +31,6 @@ add-end c = omega (arith, c .before .before .before .before .pre)
 mul-take-one : tie.Need-mul-take-one Inv-loop μ-loop
 mul-take-one c = omega (arith, c .before .before .before .before .pre)
 
-sub-take-one : tie.Need-sub-take-one Inv-loop μ-loop
-sub-take-one c = omega arith
-
-part-take-one-start : tie.Need-part-take-one-start Inv-loop μ-loop
-part-take-one-start c = omega arith
-
 part-take-one-end : tie.Need-part-take-one-end Inv-loop μ-loop
 part-take-one-end c = omega (arith, c .before .loop .inv .1 .heads .long, c .before .before .before .before .pre)
 
@@ -51,18 +45,6 @@ take-one-requires c κs =
 
 added-requires : tie.Need-added-requires Inv-loop μ-loop
 added-requires c κs = omega (arith, c .before .before .before .before .before .before .loop .inv .1 .size, c .before .before .before .before .before .before .before .before .before .pre .1)
-
-both-requires : tie.Need-both-requires Inv-loop μ-loop
-both-requires c κs = search needs
-
-larger-requires : tie.Need-larger-requires Inv-loop μ-loop
-larger-requires c κs = search needs
-
-add-i : tie.Need-add-i Inv-loop μ-loop
-add-i c = omega arith
-
-loop-less : tie.Need-loop-less Inv-loop μ-loop
-loop-less c = omega arith
 
 loop-again : tie.Need-loop-again Inv-loop μ-loop
 loop-again c =
@@ -99,15 +81,15 @@ take-spec =
     mul-at
     add-end
     mul-take-one
-    sub-take-one
-    part-take-one-start
+    (λ c. omega arith)
+    (λ c. omega arith)
     part-take-one-end
     take-one-requires
     added-requires
-    both-requires
-    larger-requires
-    add-i
-    loop-less
+    (λ c κs. search needs)
+    (λ c κs. search needs)
+    (λ c. omega arith)
+    (λ c. omega arith)
     loop-again
     same-length
     returns)

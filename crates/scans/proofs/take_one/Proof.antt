@@ -14,12 +14,6 @@ use borrow.Author.Needs.{needs}
 use Rattle.scans.proofs.take_one.Statement.{statement}
 use Rattle.scans.proofs.take_one.Tie as tie
 
-slice-read-top : tie.Need-slice-read-top
-slice-read-top c = search needs
-
-add-if1 : tie.Need-add-if1
-add-if1 c = search needs
-
 returns : tie.Need-returns
 returns c =
     let s = c .before .before .before .before in
@@ -27,64 +21,10 @@ returns c =
     let m = missed (s .args .key) (view W (s .args .head .now)) (λ q. c .if1 .taken (s .pre .0 .top ∙ q)) in
     (s .pre .0, m .0, m .1, m .2, s .pre .0 .top)
 
-slice-read-word : tie.Need-slice-read-word
-slice-read-word c = search needs
-
-slice-read-t14 : tie.Need-slice-read-t14
-slice-read-t14 c = search needs
-
-cast-t18 : tie.Need-cast-t18
-cast-t18 c = search needs
-
-slice-read-t20 : tie.Need-slice-read-t20
-slice-read-t20 c = search needs
-
-cast-t21 : tie.Need-cast-t21
-cast-t21 c = search needs
-
-slice-read-t23 : tie.Need-slice-read-t23
-slice-read-t23 c = search needs
-
-slice-read-t14-2 : tie.Need-slice-read-t14-2
-slice-read-t14-2 c = search needs
-
-cast-t18-2 : tie.Need-cast-t18-2
-cast-t18-2 c = search needs
-
-slice-read-t23-2 : tie.Need-slice-read-t23-2
-slice-read-t23-2 c = search needs
-
-cast-t21-2 : tie.Need-cast-t21-2
-cast-t21-2 c = search needs
-
-slice-read-t20-2 : tie.Need-slice-read-t20-2
-slice-read-t20-2 c = search needs
-
-slice-read-t14-3 : tie.Need-slice-read-t14-3
-slice-read-t14-3 c = search needs
-
-cast-t18-3 : tie.Need-cast-t18-3
-cast-t18-3 c = search needs
-
-slice-read-t20-3 : tie.Need-slice-read-t20-3
-slice-read-t20-3 c = search needs
-
 reader-moved-requires : tie.Need-reader-moved-requires
 reader-moved-requires c κs =
     let s = c .before .before .before .before .before .before .before .before .before .before .before .before .before in
     (some (words (s .args .card .now)) (s .args .head .now) (s .pre .0) (s .args .key) (c .before .before .before .before .before .before .before .before .before .if1 .left), s .pre .0 .good)
-
-put-requires : tie.Need-put-requires
-put-requires c κs = search needs
-
-unpack-requires : tie.Need-unpack-requires
-unpack-requires c κs = search needs
-
-is-posting-requires : tie.Need-is-posting-requires
-is-posting-requires c κs = search needs
-
-same-length : tie.Need-same-length
-same-length c = search needs
 
 returns-2 : tie.Need-returns-2
 returns-2 c =
@@ -102,26 +42,26 @@ pub take-one-spec : {M : Type 1} → statement M
 take-one-spec =
     tie.close
     (tie.spec
-    slice-read-top
-    add-if1
+    (λ c. search needs)
+    (λ c. search needs)
     returns
-    slice-read-word
-    slice-read-t14
-    cast-t18
-    slice-read-t20
-    cast-t21
-    slice-read-t23
-    slice-read-t14-2
-    cast-t18-2
-    slice-read-t23-2
-    cast-t21-2
-    slice-read-t20-2
-    slice-read-t14-3
-    cast-t18-3
-    slice-read-t20-3
+    (λ c. search needs)
+    (λ c. search needs)
+    (λ c. search needs)
+    (λ c. search needs)
+    (λ c. search needs)
+    (λ c. search needs)
+    (λ c. search needs)
+    (λ c. search needs)
+    (λ c. search needs)
+    (λ c. search needs)
+    (λ c. search needs)
+    (λ c. search needs)
+    (λ c. search needs)
+    (λ c. search needs)
     reader-moved-requires
-    put-requires
-    unpack-requires
-    is-posting-requires
-    same-length
+    (λ c κs. search needs)
+    (λ c κs. search needs)
+    (λ c κs. search needs)
+    (λ c. search needs)
     returns-2)

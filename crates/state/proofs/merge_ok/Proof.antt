@@ -16,15 +16,6 @@ returns-2 : tie.Need-returns-2
 unfolding mergeRule
 returns-2 c = rw (eq-eqb _ _ (c .before .before .before .if1 .taken), eq-eqb _ _ (c .before .if2 .left))
 
-due-level-requires : tie.Need-due-level-requires
-due-level-requires c κs = search needs
-
-enum-known-due : tie.Need-enum-known-due
-enum-known-due c = search needs
-
-enum-told : tie.Need-enum-told
-enum-told c = search needs
-
 returns-3 : tie.Need-returns-3
 returns-3 c = let d = c .before .before .before in merge-due (d .before .before .before .args .p) (d .before .before .before .args .m) (d .before .if1 .left) (tagOf the-type) refl (d .due-level .result) (d .due-level .ensures) (c .before .before .match .keys1)
 
@@ -34,4 +25,4 @@ returns-4 c = let d = c .before .before in merge-none (d .before .before .before
 pub merge-ok-spec : {M : Type 1} → statement M
 merge-ok-spec =
     tie.close
-    (tie.spec returns returns-2 due-level-requires enum-known-due enum-told returns-3 returns-4)
+    (tie.spec returns returns-2 (λ c κs. search needs) (λ c. search needs) (λ c. search needs) returns-3 returns-4)

@@ -6,24 +6,15 @@ use Rattle.state.proofs.Kept.{lengths-kept, partitions-kept}
 use Rattle.state.proofs.state_ok.Statement.{statement}
 use Rattle.state.proofs.state_ok.Tie as tie
 
-lengths-ok-requires : tie.Need-lengths-ok-requires
-lengths-ok-requires c κs = search needs
-
 returns : tie.Need-returns
 unfolding stateRule
 returns c = rw (failed (c .before .lengths-ok .ensures) (c .if1 .taken))
-
-windows-ok-requires : tie.Need-windows-ok-requires
-windows-ok-requires c κs = search needs
 
 returns-2 : tie.Need-returns-2
 unfolding stateRule
 returns-2 c =
     let a1 = c .before .before in
     rw (passed (a1 .before .lengths-ok .ensures) (a1 .if1 .left), failed (c .before .windows-ok .ensures) (c .if2 .taken))
-
-listed-ok-requires : tie.Need-listed-ok-requires
-listed-ok-requires c κs = search needs
 
 returns-3 : tie.Need-returns-3
 unfolding stateRule
@@ -35,9 +26,6 @@ returns-3 c =
       passed (a2 .before .windows-ok .ensures) (a2 .if2 .left),
       failed (c .before .listed-ok .ensures) (c .if3 .taken),
     )
-
-buffer-ok-requires : tie.Need-buffer-ok-requires
-buffer-ok-requires c κs = search needs
 
 returns-4 : tie.Need-returns-4
 unfolding stateRule
@@ -72,9 +60,6 @@ returns-5 c =
       passed (a4 .before .buffer-ok .ensures) (a4 .if4 .left),
       failed (c .before .partitions-ok .ensures) (c .if5 .taken),
     )
-
-cast-if6 : tie.Need-cast-if6
-cast-if6 c = search needs
 
 returns-6 : tie.Need-returns-6
 unfolding stateRule
@@ -122,17 +107,17 @@ pub state-ok-spec : {M : Type 1} → statement M
 state-ok-spec =
     tie.close
     (tie.spec
-    lengths-ok-requires
+    (λ c κs. search needs)
     returns
-    windows-ok-requires
+    (λ c κs. search needs)
     returns-2
-    listed-ok-requires
+    (λ c κs. search needs)
     returns-3
-    buffer-ok-requires
+    (λ c κs. search needs)
     returns-4
     partitions-ok-requires
     returns-5
-    cast-if6
+    (λ c. search needs)
     returns-6
     merge-ok-requires
     returns-7)

@@ -10,18 +10,6 @@ use borrow.Author.Needs.{needs}
 use Rattle.sums.proofs.append.Statement.{statement}
 use Rattle.sums.proofs.append.Tie as tie
 
-cast-n : tie.Need-cast-n
-cast-n c = search needs
-
-mul-p : tie.Need-mul-p
-mul-p c = search needs
-
-element-set-from-p : tie.Need-element-set-from-p
-element-set-from-p c = search needs
-
-add-next : tie.Need-add-next
-add-next c = search needs
-
 returns : tie.Need-returns
 returns c =
     let t = c .before .before .args .c in
@@ -32,4 +20,4 @@ returns c =
     (e, record { few = omega arith; whole = rw e (omega (arith, length-append (take (t .used) (t .postings)) (p ∷ []))) })
 
 pub append-spec : {M : Type 1} → statement M
-append-spec = tie.close (tie.spec cast-n mul-p element-set-from-p add-next returns)
+append-spec = tie.close (tie.spec (λ c. search needs) (λ c. search needs) (λ c. search needs) (λ c. search needs) returns)

@@ -1,23 +1,12 @@
 use mathlib.Core.Bool.{_&&_}
-use mathlib.Core.Path.{_≡_, refl, sym, ap, _∙_}
-use native.Mathlib.Omega.{arith}
+use mathlib.Core.Path.{_≡_, sym, _∙_}
 use mir.Facts.{toZ-ofZ}
 use borrow.Author.Tests.{not-true, not-false}
 use borrow.Author.Needs.{needs}
 use Rattle.partitions.specs.Formed.{inRange}
-use Rattle.sums.specs.Steps.{Counted}
 use Rattle.sums.proofs.Keeps.{kept-out, kept-zero, kept-full, kept-more, total-fits, zero-word, nonzero-word}
 use Rattle.sums.proofs.keep_total.Statement.{statement}
 use Rattle.sums.proofs.keep_total.Tie as tie
-
-in-range-requires : tie.Need-in-range-requires
-in-range-requires c κs = search needs
-
-in-range-requires-2 : tie.Need-in-range-requires-2
-in-range-requires-2 c κs = search needs
-
-both-requires : tie.Need-both-requires
-both-requires c κs = search needs
 
 returns : tie.Need-returns
 returns c =
@@ -46,12 +35,6 @@ returns-3 c =
     let r : b .both .result ≡ (inRange z && inRange t) = b .both .ensures ∙ rw (b .before .in-range2 .ensures, b .before .before .in-range .ensures, toZ-ofZ (s .fits .sum), toZ-ofZ (s .fits .total)) in
     kept-full (s .args .c) (s .args .key) z t (s .pre .0) (sym r ∙ not-false _ (c .before .before .before .if1 .left)) (nonzero-word t (c .before .before .if2 .left)) (c .if3 .taken)
 
-key-id-requires : tie.Need-key-id-requires
-key-id-requires c κs = search needs
-
-key-window-requires : tie.Need-key-window-requires
-key-window-requires c κs = search needs
-
 cast-t13 : tie.Need-cast-t13
 cast-t13 c =
     let b = c .before .before .before .before .before .before in
@@ -60,9 +43,6 @@ cast-t13 c =
     let t = s .args .total in
     let r : b .both .result ≡ (inRange z && inRange t) = b .both .ensures ∙ rw (b .before .in-range2 .ensures, b .before .before .in-range .ensures, toZ-ofZ (s .fits .sum), toZ-ofZ (s .fits .total)) in
     rw (toZ-ofZ (s .fits .total)) (total-fits (s .args .c) (s .args .key) z t (s .pre .0) (sym r ∙ not-false _ (c .before .before .before .before .before .if1 .left)))
-
-append-requires : tie.Need-append-requires
-append-requires c κs = search needs
 
 returns-4 : tie.Need-returns-4
 returns-4 c =
@@ -80,14 +60,14 @@ pub keep-total-spec : {M : Type 1} → statement M
 keep-total-spec =
     tie.close
     (tie.spec
-    in-range-requires
-    in-range-requires-2
-    both-requires
+    (λ c κs. search needs)
+    (λ c κs. search needs)
+    (λ c κs. search needs)
     returns
     returns-2
     returns-3
-    key-id-requires
-    key-window-requires
+    (λ c κs. search needs)
+    (λ c κs. search needs)
     cast-t13
-    append-requires
+    (λ c κs. search needs)
     returns-4)

@@ -3,9 +3,6 @@ use borrow.Author.Needs.{needs}
 use Rattle.sums.proofs.past.Statement.{statement}
 use Rattle.sums.proofs.past.Tie as tie
 
-add-result : tie.Need-add-result
-add-result c = search needs
-
 returns : tie.Need-returns
 returns c = rw (eq-eqb _ _ (c .if1 .taken))
 
@@ -13,4 +10,4 @@ returns-2 : tie.Need-returns-2
 returns-2 c = rw (ne-eqb _ _ (c .if1 .left))
 
 pub past-spec : {M : Type 1} → statement M
-past-spec = tie.close (tie.spec add-result returns returns-2)
+past-spec = tie.close (tie.spec (λ c. search needs) returns returns-2)

@@ -8,18 +8,12 @@ use Rattle.kway.proofs.Readable.{all-readable}
 use Rattle.sums.proofs.read.Statement.{statement}
 use Rattle.sums.proofs.read.Tie as tie
 
-slice-aggregate-open-heads : tie.Need-slice-aggregate-open-heads
-slice-aggregate-open-heads c = search needs
-
 open-heads-requires : tie.Need-open-heads-requires
 open-heads-requires c κs =
     let s = c .before .before in
     let q = s .args .s in
     let k = state-kept q (s .pre .0) in
     (k .partitions .used, omega (arith, k .partitions .used), omega arith, all-readable (words (s .args .card .now)) (blocks q) (finished (q .partitions)) (s .pre .1) (k .lengths .mostBlocks) (s .pre .2))
-
-slice-aggregate-walk : tie.Need-slice-aggregate-walk
-slice-aggregate-walk c = search needs
 
 walk-requires : tie.Need-walk-requires
 walk-requires c κs =
@@ -34,4 +28,4 @@ returns c = c .before .walk .ensures
 pub read-spec : {M : Type 1} → statement M
 read-spec =
     tie.close
-    (tie.spec slice-aggregate-open-heads open-heads-requires slice-aggregate-walk walk-requires returns)
+    (tie.spec (λ c. search needs) open-heads-requires (λ c. search needs) walk-requires returns)

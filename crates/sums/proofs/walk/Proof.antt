@@ -1,7 +1,6 @@
-use mathlib.Core.Bool.{Bool, true, false, _&&_}
 use mathlib.Core.Logic.{⊎-elim}
-use mathlib.Core.Path.{_≡_, refl, sym, ap, _∙_}
-use Prim.Native.Nat.{suc, _-_, _+_, _≤_}
+use mathlib.Core.Path.{_≡_, refl, sym, _∙_}
+use Prim.Native.Nat.{suc, _-_, _+_}
 use native.Mathlib.Omega.{arith}
 use lib.IntN.{_+ℤ_}
 use lib.ListN.{length}
@@ -9,14 +8,13 @@ use mir.Syntax.{w16, w32}
 use mir.Val.{Fits, SFits}
 use mir.Facts.{toZ-ofZ}
 use borrow.Author.Needs.{needs}
-use borrow.Author.Tests.{not-true, not-false, eq-eqb, ne-eqb}
+use borrow.Author.Tests.{not-true, not-false}
 use Rattle.lists.proofs.Arrays.{unmapped}
 use Rattle.keyed.specs.Keys.{headVal}
 use Rattle.words.specs.Words.{words}
 use Rattle.words.proofs.Views.{words-below}
 use Rattle.state.proofs.Kept.{state-kept}
-use Rattle.sums.specs.Views.{countsIn, Neat}
-use Rattle.sums.proofs.Tally.{faulty, tallied, tallyOf, keptOf, told, bufferItems, groups}
+use Rattle.sums.proofs.Tally.{tallyOf, bufferItems, groups}
 use Rattle.sums.proofs.Buffers.{Shown, shown-under, shown-some, shown-none, buffer-small, buffer-past}
 use Rattle.sums.proofs.Keeps.{told-fine, told-faulty, Step, step-other, step-own}
 use Rattle.sums.proofs.ReadBack.{buffer-walkable, read-back}
@@ -30,15 +28,6 @@ Inv-loop card heads₀ start w b n used at₀ next₀ bound₀ c₀ heads at nex
 
 abbrev μ-loop : tie.MeasureT-loop
 μ-loop card heads₀ start w b n used at₀ next₀ bound₀ c₀ heads at next bound c = bound
-
-cast-n : tie.Need-cast-n Inv-loop μ-loop
-cast-n c = search needs
-
-cast-used : tie.Need-cast-used Inv-loop μ-loop
-cast-used c = search needs
-
-none-requires : tie.Need-none-requires Inv-loop μ-loop
-none-requires c κs = search needs
 
 loop-holds : tie.Need-loop-holds Inv-loop μ-loop
 loop-holds c =
@@ -62,9 +51,6 @@ front-of-requires c κs =
     let a = c .before .before in
     let v = a .loop .inv in
     buffer-small (s .args .t5) (v .ok) (a .loop .at) (v .len) (c .before .if1 .taken)
-
-larger-requires : tie.Need-larger-requires Inv-loop μ-loop
-larger-requires c κs = search needs
 
 same-length : tie.Need-same-length Inv-loop μ-loop
 same-length c = c .before .before .before .loop .inv .long
@@ -106,24 +92,12 @@ returns-2 c =
     let back = read-back (words (s .args .card .now)) (s .args .s) (s .args .t5) (s .args .w) (s .args .heads .now) (s .args .start) (s .pre) small (rw (s .pre .buffer) at (v .ok)) in
     back _ (told-faulty _ refl ∙ stop-high v f shown (l .result) (l .ensures) (c .if3 .taken)) (v .neat)
 
-sub-key : tie.Need-sub-key Inv-loop μ-loop
-sub-key c = omega arith
-
 take-requires : tie.Need-take-requires Inv-loop μ-loop
 take-requires c κs =
     let s = c .before .before .before .before .before .before .before .before .before .before in
     let a = c .before .before .before .before .before in
     let v = a .loop .inv in
     (omega (arith, v .room, v .long), omega (arith, v .few), omega arith, v .kept)
-
-key-window-requires : tie.Need-key-window-requires Inv-loop μ-loop
-key-window-requires c κs = search needs
-
-cast-if4 : tie.Need-cast-if4 Inv-loop μ-loop
-cast-if4 c = search needs
-
-count-under-requires : tie.Need-count-under-requires Inv-loop μ-loop
-count-under-requires c κs = search needs
 
 added-requires : tie.Need-added-requires Inv-loop μ-loop
 added-requires c κs =
@@ -140,9 +114,6 @@ keep-total-requires c κs =
     let a = c .before .before .before .before .before .before .before .before .before .before .before .before .before .before in
     let v = a .loop .inv in
     (v .neat, omega (arith, v .low, c .before .before .before .before .before .before .before .before .before .before .before .if2 .left, c .before .before .before .before .before .before .before .before .before .before .if3 .left))
-
-both-requires : tie.Need-both-requires Inv-loop μ-loop
-both-requires c κs = search needs
 
 same-length-3 : tie.Need-same-length-3 Inv-loop μ-loop
 same-length-3 c =
@@ -190,9 +161,6 @@ past-requires c κs =
     let v = a .loop .inv in
     omega (arith, v .place, v .ok .few)
 
-loop-less : tie.Need-loop-less Inv-loop μ-loop
-loop-less c = omega arith
-
 loop-again : tie.Need-loop-again Inv-loop μ-loop
 loop-again c =
     let s = c .before .before .before .before .before .before .before .before .before .before .before .before .before .before .before .before .before in
@@ -232,28 +200,28 @@ walk-spec =
     (tie.spec
     Inv-loop
     μ-loop
-    cast-n
-    cast-used
-    none-requires
+    (λ c. search needs)
+    (λ c. search needs)
+    (λ c κs. search needs)
     loop-holds
     mul-p
     element-copy-out-p
     front-of-requires
-    larger-requires
+    (λ c κs. search needs)
     same-length
     returns
     same-length-2
     returns-2
-    sub-key
+    (λ c. omega arith)
     take-requires
-    key-window-requires
-    cast-if4
-    count-under-requires
+    (λ c κs. search needs)
+    (λ c. search needs)
+    (λ c κs. search needs)
     added-requires
     keep-total-requires
-    both-requires
+    (λ c κs. search needs)
     same-length-3
     returns-3
     past-requires
-    loop-less
+    (λ c. omega arith)
     loop-again)

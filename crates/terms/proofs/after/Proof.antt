@@ -17,9 +17,6 @@ returns c =
     let s = c .before .before .before in
     after-run (words (s .args .card .now)) (s .args .run .now) (s .args .place) (s .args .left) (omega (arith, s .pre .0)) (s .pre .1) (s .pre .0) (c .if1 .taken)
 
-add-word-at : tie.Need-add-word-at
-add-word-at c = search needs
-
 word-at-requires : tie.Need-word-at-requires
 word-at-requires c κs =
     let s = c .before .before .before .before in
@@ -30,9 +27,6 @@ mul-result c =
     let s = c .before .before .before .before .before in
     let f = link-few (words (s .args .card .now)) (s .args .run .now) (s .args .place) (s .args .left) (omega (arith, s .pre .0)) (s .pre .1) (s .pre .0) (omega (arith, c .before .before .if1 .left)) (c .word-at .result) (c .before .if2 .taken) (c .word-at .ensures) in
     omega (arith, f)
-
-add-result-2 : tie.Need-add-result-2
-add-result-2 c = search needs
 
 returns-2 : tie.Need-returns-2
 returns-2 c =
@@ -50,9 +44,9 @@ after-spec =
     (tie.spec
     add-result
     returns
-    add-word-at
+    (λ c. search needs)
     word-at-requires
     mul-result
-    add-result-2
+    (λ c. search needs)
     returns-2
     returns-3)

@@ -7,15 +7,6 @@ use borrow.Author.Needs.{needs}
 use Rattle.terms.proofs.put.Statement.{statement}
 use Rattle.terms.proofs.put.Tie as tie
 
-slice-write-head : tie.Need-slice-write-head
-slice-write-head c = search needs
-
-slice-write-head-2 : tie.Need-slice-write-head-2
-slice-write-head-2 c = search needs
-
-same-length : tie.Need-same-length
-same-length c = search needs
-
 returns : tie.Need-returns
 returns c =
     let s = c .before .before .before .before in
@@ -27,24 +18,6 @@ returns c =
 word-of-requires : tie.Need-word-of-requires
 word-of-requires c κs = let s = c .before .before .before .before in (omega (arith, c .if1 .left), s .pre .1)
 
-add-top : tie.Need-add-top
-add-top c = search needs
-
-slice-write-head-3 : tie.Need-slice-write-head-3
-slice-write-head-3 c = search needs
-
-slice-write-head-4 : tie.Need-slice-write-head-4
-slice-write-head-4 c = search needs
-
-slice-write-head-5 : tie.Need-slice-write-head-5
-slice-write-head-5 c = search needs
-
-slice-write-head-6 : tie.Need-slice-write-head-6
-slice-write-head-6 c = search needs
-
-same-length-2 : tie.Need-same-length-2
-same-length-2 c = search needs
-
 returns-2 : tie.Need-returns-2
 returns-2 c =
     let s = c .before .before .before .before .before in
@@ -54,15 +27,15 @@ pub put-spec : {M : Type 1} → statement M
 put-spec =
     tie.close
     (tie.spec
-    slice-write-head
-    slice-write-head-2
-    same-length
+    (λ c. search needs)
+    (λ c. search needs)
+    (λ c. search needs)
     returns
     word-of-requires
-    add-top
-    slice-write-head-3
-    slice-write-head-4
-    slice-write-head-5
-    slice-write-head-6
-    same-length-2
+    (λ c. search needs)
+    (λ c. search needs)
+    (λ c. search needs)
+    (λ c. search needs)
+    (λ c. search needs)
+    (λ c. search needs)
     returns-2)

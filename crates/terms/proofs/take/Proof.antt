@@ -31,12 +31,6 @@ add-end c = omega (arith, c .before .before .before .before .before .pre)
 mul-took : tie.Need-mul-took Inv-loop μ-loop
 mul-took c = omega (arith, c .before .before .before .before .before .pre)
 
-sub-took : tie.Need-sub-took Inv-loop μ-loop
-sub-took c = omega arith
-
-part-took-start : tie.Need-part-took-start Inv-loop μ-loop
-part-took-start c = omega arith
-
 part-took-end : tie.Need-part-took-end Inv-loop μ-loop
 part-took-end c = omega (arith, c .before .loop .inv .1 .heads .long, c .before .before .before .before .before .pre)
 
@@ -50,18 +44,6 @@ took-requires c κs =
 
 added-requires : tie.Need-added-requires Inv-loop μ-loop
 added-requires c κs = omega (arith, c .before .before .before .before .before .before .loop .inv .1 .size, c .before .before .before .before .before .before .before .before .before .before .pre .1)
-
-both-requires : tie.Need-both-requires Inv-loop μ-loop
-both-requires c κs = search needs
-
-larger-requires : tie.Need-larger-requires Inv-loop μ-loop
-larger-requires c κs = search needs
-
-add-i : tie.Need-add-i Inv-loop μ-loop
-add-i c = omega arith
-
-loop-less : tie.Need-loop-less Inv-loop μ-loop
-loop-less c = omega arith
 
 loop-again : tie.Need-loop-again Inv-loop μ-loop
 loop-again c =
@@ -97,15 +79,15 @@ take-spec =
     mul-at
     add-end
     mul-took
-    sub-took
-    part-took-start
+    (λ c. omega arith)
+    (λ c. omega arith)
     part-took-end
     took-requires
     added-requires
-    both-requires
-    larger-requires
-    add-i
-    loop-less
+    (λ c κs. search needs)
+    (λ c κs. search needs)
+    (λ c. omega arith)
+    (λ c. omega arith)
     loop-again
     same-length
     returns)

@@ -14,12 +14,6 @@ use borrow.Author.Needs.{needs}
 use Rattle.terms.proofs.took.Statement.{statement}
 use Rattle.terms.proofs.took.Tie as tie
 
-slice-read-top : tie.Need-slice-read-top
-slice-read-top c = search needs
-
-add-if1 : tie.Need-add-if1
-add-if1 c = search needs
-
 returns : tie.Need-returns
 returns c =
     let s = c .before .before .before .before .before in
@@ -27,29 +21,8 @@ returns c =
     let m = missed (words (s .args .card .now)) (s .args .run .now) (s .args .key) v (λ q. c .if1 .taken (s .pre .0 .top ∙ q)) in
     (s .pre .0, m .0, m .1, m .2, s .pre .0 .top)
 
-slice-read-word : tie.Need-slice-read-word
-slice-read-word c = search needs
-
-slice-read-place : tie.Need-slice-read-place
-slice-read-place c = search needs
-
-slice-read-left : tie.Need-slice-read-left
-slice-read-left c = search needs
-
-unpack-requires : tie.Need-unpack-requires
-unpack-requires c κs = search needs
-
-is-posting-requires : tie.Need-is-posting-requires
-is-posting-requires c κs = search needs
-
-slice-write-head : tie.Need-slice-write-head
-slice-write-head c = search needs
-
 slice-write-head-2 : tie.Need-slice-write-head-2
 slice-write-head-2 c = let s = c .before .before .before .before .before .before .before .before .before .before .before in lt-length-set (s .args .head .now) 0 0 (omega (arith, s .pre .0 .four))
-
-same-length : tie.Need-same-length
-same-length c = search needs
 
 returns-2 : tie.Need-returns-2
 returns-2 c =
@@ -80,9 +53,6 @@ sub-put c =
 put-requires : tie.Need-put-requires
 put-requires c κs = let s = c .before .before .before .before .before .before .before .before .before .before .before .before .before in (s .pre .0 .four, c .before .after .ensures .0)
 
-same-length-2 : tie.Need-same-length-2
-same-length-2 c = search needs
-
 returns-3 : tie.Need-returns-3
 returns-3 c =
     let s = c .before .before .before .before .before .before .before .before .before .before .before .before .before .before .before .before .before in
@@ -100,20 +70,20 @@ pub took-spec : {M : Type 1} → statement M
 took-spec =
     tie.close
     (tie.spec
-    slice-read-top
-    add-if1
+    (λ c. search needs)
+    (λ c. search needs)
     returns
-    slice-read-word
-    slice-read-place
-    slice-read-left
-    unpack-requires
-    is-posting-requires
-    slice-write-head
+    (λ c. search needs)
+    (λ c. search needs)
+    (λ c. search needs)
+    (λ c κs. search needs)
+    (λ c κs. search needs)
+    (λ c. search needs)
     slice-write-head-2
-    same-length
+    (λ c. search needs)
     returns-2
     after-requires
     sub-put
     put-requires
-    same-length-2
+    (λ c. search needs)
     returns-3)

@@ -12,12 +12,6 @@ word-at-requires c κs =
     let s = c .before .before .before in
     place-in (words (s .args .card .now)) (s .args .run .now) (s .args .place) (s .args .left) (s .pre .0) (s .pre .1) (c .if1 .taken)
 
-cast-at : tie.Need-cast-at
-cast-at c = search needs
-
-mul-result : tie.Need-mul-result
-mul-result c = search needs
-
 shared-slice-read-result : tie.Need-shared-slice-read-result
 shared-slice-read-result c =
     let s = c .before .before .before .before in
@@ -37,4 +31,4 @@ returns-2 c =
 pub word-of-spec : {M : Type 1} → statement M
 word-of-spec =
     tie.close
-    (tie.spec word-at-requires cast-at mul-result shared-slice-read-result returns returns-2)
+    (tie.spec word-at-requires (λ c. search needs) (λ c. search needs) shared-slice-read-result returns returns-2)

@@ -1,6 +1,5 @@
 -- `texts::read_number` meets its contract: the number of the whole field is that of what is left after the digits read.
-use mathlib.Core.Path.{_≡_, refl, sym, _∙_}
-use Prim.Native.Nat.{_≤_, _-_}
+use Prim.Native.Nat.{_-_}
 use native.Mathlib.Omega.{arith}
 use lib.ListN.{length}
 use Rattle.texts.proofs.Reading.{Reading, none-short, none-long, start-reading, room, below-digits, above-digits, on-digit, all-read}
@@ -22,9 +21,6 @@ returns-2 c = none-long _ (omega arith)
 loop-holds : tie.Need-loop-holds Inv-loop μ-loop
 loop-holds c = start-reading _ (omega arith) (omega arith)
 
-shared-slice-read-wide : tie.Need-shared-slice-read-wide Inv-loop μ-loop
-shared-slice-read-wide c = omega arith
-
 wide-requires : tie.Need-wide-requires Inv-loop μ-loop
 wide-requires c κs = tt
 
@@ -39,12 +35,6 @@ mul-n c = omega (arith, room (c .before .before .before .before .before .loop .i
 
 add-n : tie.Need-add-n Inv-loop μ-loop
 add-n c = omega (arith, room (c .before .before .before .before .before .loop .inv) (omega arith))
-
-add-i : tie.Need-add-i Inv-loop μ-loop
-add-i c = omega arith
-
-loop-less : tie.Need-loop-less Inv-loop μ-loop
-loop-less c = omega arith
 
 loop-again : tie.Need-loop-again Inv-loop μ-loop
 loop-again c = on-digit (c .before .before .before .before .before .loop .inv) _ (omega arith) (c .before .before .wide .ensures) (omega arith) (omega arith)
@@ -61,13 +51,13 @@ read-number-spec =
     returns
     returns-2
     loop-holds
-    shared-slice-read-wide
+    (λ c. omega arith)
     wide-requires
     returns-3
     returns-4
     mul-n
     add-n
-    add-i
-    loop-less
+    (λ c. omega arith)
+    (λ c. omega arith)
     loop-again
     returns-5)

@@ -1,6 +1,6 @@
 -- `texts::split` meets its contract. Each field has a byte at least and a space after it, so that 512 bytes have at most 256.
 use mathlib.Core.Logic.{⊎-elim}
-use mathlib.Core.Path.{_≡_, refl, sym, _∙_}
+use mathlib.Core.Path.{refl, sym}
 use Prim.Native.Nat.{_≤_, _<_, _-_}
 use native.Mathlib.Omega.{arith}
 use borrow.Author.Needs.{needs}
@@ -22,43 +22,10 @@ returns c = (sym (too-long _ (omega arith)), omega arith, search needs)
 loop-holds : tie.Need-loop-holds Inv-loop μ-loop
 loop-holds c = (start-split _ _, omega arith, c .before .pre)
 
-shared-slice-read-if2 : tie.Need-shared-slice-read-if2 Inv-loop μ-loop
-shared-slice-read-if2 c = search needs
-
-same-length : tie.Need-same-length Inv-loop μ-loop
-same-length c = search needs
-
 returns-2 : tie.Need-returns-2 Inv-loop μ-loop
 returns-2 c =
     let a = c .before .before .before .before in
     (sym (on-gap (a .loop .inv .0) (omega arith) (eq-eqb _ _ (c .before .if2 .taken)) (omega arith) (a .loop .inv .1)), omega arith, a .loop .inv .0 .long)
-
-sub-part : tie.Need-sub-part Inv-loop μ-loop
-sub-part c = search needs
-
-part-part-start : tie.Need-part-part-start Inv-loop μ-loop
-part-part-start c = search needs
-
-part-part-end : tie.Need-part-part-end Inv-loop μ-loop
-part-part-end c = search needs
-
-mul-part : tie.Need-mul-part Inv-loop μ-loop
-mul-part c = search needs
-
-slice-set-from-part : tie.Need-slice-set-from-part Inv-loop μ-loop
-slice-set-from-part c = search needs
-
-add-n : tie.Need-add-n Inv-loop μ-loop
-add-n c = search needs
-
-add-start : tie.Need-add-start Inv-loop μ-loop
-add-start c = search needs
-
-add-i : tie.Need-add-i Inv-loop μ-loop
-add-i c = search needs
-
-loop-less : tie.Need-loop-less Inv-loop μ-loop
-loop-less c = search needs
 
 loop-again : tie.Need-loop-again Inv-loop μ-loop
 loop-again c =
@@ -73,34 +40,10 @@ loop-again c =
     (λ w. (rw (w .1, w .2, w .3) (on-byte (i .0) h (ne-eqb _ _ (w .0 .left))), i .1, i .2))
     (c .if2 .came)
 
-same-length-2 : tie.Need-same-length-2 Inv-loop μ-loop
-same-length-2 c = search needs
-
 returns-3 : tie.Need-returns-3 Inv-loop μ-loop
 returns-3 c =
     let a = c .before .before in
     (sym (on-nothing (a .loop .inv .0) (omega arith) (a .loop .inv .1) (omega arith)), omega arith, a .loop .inv .0 .long)
-
-sub-last : tie.Need-sub-last Inv-loop μ-loop
-sub-last c = search needs
-
-part-last-start : tie.Need-part-last-start Inv-loop μ-loop
-part-last-start c = search needs
-
-part-last-end : tie.Need-part-last-end Inv-loop μ-loop
-part-last-end c = search needs
-
-mul-last : tie.Need-mul-last Inv-loop μ-loop
-mul-last c = search needs
-
-slice-set-from-last : tie.Need-slice-set-from-last Inv-loop μ-loop
-slice-set-from-last c = search needs
-
-add-result : tie.Need-add-result Inv-loop μ-loop
-add-result c = search needs
-
-same-length-3 : tie.Need-same-length-3 Inv-loop μ-loop
-same-length-3 c = search needs
 
 returns-4 : tie.Need-returns-4 Inv-loop μ-loop
 returns-4 c =
@@ -115,26 +58,26 @@ split-spec =
     μ-loop
     returns
     loop-holds
-    shared-slice-read-if2
-    same-length
+    (λ c. search needs)
+    (λ c. search needs)
     returns-2
-    sub-part
-    part-part-start
-    part-part-end
-    mul-part
-    slice-set-from-part
-    add-n
-    add-start
-    add-i
-    loop-less
+    (λ c. search needs)
+    (λ c. search needs)
+    (λ c. search needs)
+    (λ c. search needs)
+    (λ c. search needs)
+    (λ c. search needs)
+    (λ c. search needs)
+    (λ c. search needs)
+    (λ c. search needs)
     loop-again
-    same-length-2
+    (λ c. search needs)
     returns-3
-    sub-last
-    part-last-start
-    part-last-end
-    mul-last
-    slice-set-from-last
-    add-result
-    same-length-3
+    (λ c. search needs)
+    (λ c. search needs)
+    (λ c. search needs)
+    (λ c. search needs)
+    (λ c. search needs)
+    (λ c. search needs)
+    (λ c. search needs)
     returns-4)

@@ -1,4 +1,4 @@
--- `weights::fourth` meets its contract: neither the square nor its square goes past 64 bits. Assumes nothing.
+-- `weights::fourth` meets its contract: neither the square nor its square goes past 64 bits.
 use mathlib.Core.Path.{sym}
 use Prim.Native.Nat.{_*_, _≤_}
 use native.Mathlib.Nat.{mul-le-mul}

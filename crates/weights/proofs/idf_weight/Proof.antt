@@ -1,4 +1,4 @@
--- `weights::idf_weight` meets its contract: the highest set bit of the quotient is the weight. Assumes nothing.
+-- `weights::idf_weight` meets its contract: the highest set bit of the quotient is the weight.
 use mathlib.Core.Path.{_≡_, sym, ap, _∙_}
 use native.Mathlib.Omega.{arith}
 use borrow.Author.Needs.{needs}
@@ -17,12 +17,6 @@ returns c =
 returns-2 : tie.Need-returns-2
 returns-2 c = sym (idf-past (c .before .before .args .n) (c .before .before .args .f) (omega arith))
 
-fourth-requires : tie.Need-fourth-requires
-fourth-requires c κs = search needs
-
-fourth-requires-2 : tie.Need-fourth-requires-2
-fourth-requires-2 c κs = search needs
-
 div-result : tie.Need-div-result
 div-result c = rw (c .fourth2 .ensures) (fourth-positive _ (omega arith))
 
@@ -40,4 +34,4 @@ returns-3 c =
 pub idf-weight-spec : {M : Type 1} → statement M
 idf-weight-spec =
     tie.close
-    (tie.spec returns returns-2 fourth-requires fourth-requires-2 div-result sub-result returns-3)
+    (tie.spec returns returns-2 (λ c κs. search needs) (λ c κs. search needs) div-result sub-result returns-3)

@@ -1,4 +1,4 @@
--- `weights::tf_weight` meets its contract: the highest set bit of a fourth power is the weight. Assumes nothing.
+-- `weights::tf_weight` meets its contract: the highest set bit of a fourth power is the weight.
 use mathlib.Core.Path.{refl}
 use Prim.Native.Nat.{_≤_}
 use native.Mathlib.Omega.{arith}
@@ -7,12 +7,6 @@ use Rattle.weights.proofs.Laws.{tf-bit, tf-highest}
 use Rattle.weights.proofs.Powers.{fourth-fits, fourth-positive, leading-fits}
 use Rattle.weights.proofs.tf_weight.Statement.{statement}
 use Rattle.weights.proofs.tf_weight.Tie as tie
-
-add-fourth : tie.Need-add-fourth
-add-fourth c = search needs
-
-fourth-requires : tie.Need-fourth-requires
-fourth-requires c κs = search needs
 
 sub-result : tie.Need-sub-result
 sub-result c =
@@ -25,4 +19,4 @@ returns c =
     rw (c .fourth .ensures, tf-bit f h) (refl, tf-highest f h)
 
 pub tf-weight-spec : {M : Type 1} → statement M
-tf-weight-spec = tie.close (tie.spec add-fourth fourth-requires sub-result returns)
+tf-weight-spec = tie.close (tie.spec (λ c. search needs) (λ c κs. search needs) sub-result returns)

@@ -12,18 +12,9 @@ use Rattle.windows.proofs.Outcomes.{stopped, passed, given}
 use Rattle.windows.proofs.close.Statement.{statement}
 use Rattle.windows.proofs.close.Tie as tie
 
-state-ok-requires : tie.Need-state-ok-requires
-state-ok-requires c κs = search needs
-
-refuse-requires : tie.Need-refuse-requires
-refuse-requires c κs = search needs
-
 returns : tie.Need-returns
 unfolding closeOf
 returns c = rw (c .refuse .ensures) (stopped _ 1 _ (ap not (sym (c .before .before .state-ok .ensures)) ∙ c .before .if1 .taken))
-
-refuse-requires-2 : tie.Need-refuse-requires-2
-refuse-requires-2 c κs = search needs
 
 returns-2 : tie.Need-returns-2
 unfolding closeOf
@@ -40,9 +31,6 @@ sub-last c =
     let a = b .before .before in
     let k = state-kept _ (sym (a .before .state-ok .ensures) ∙ not-false _ (a .if1 .left)) in
     ⊎-elim (λ (h : Shut _). absurd (b .if2 .left (h .number))) (λ (o : Opened _). omega (arith, o .some, o .number)) (k .windows .window)
-
-done-requires : tie.Need-done-requires
-done-requires c κs = search needs
 
 returns-3 : tie.Need-returns-3
 unfolding closeOf closed
@@ -61,11 +49,11 @@ pub close-spec : {M : Type 1} → statement M
 close-spec =
     tie.close
     (tie.spec
-    state-ok-requires
-    refuse-requires
+    (λ c κs. search needs)
+    (λ c κs. search needs)
     returns
-    refuse-requires-2
+    (λ c κs. search needs)
     returns-2
     sub-last
-    done-requires
+    (λ c κs. search needs)
     returns-3)

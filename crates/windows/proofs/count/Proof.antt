@@ -31,15 +31,6 @@ target-of-requires c κs =
     let i = a .args .i in
     (a .pre .rule, card-size (probeOf s card register) n i (a .pre))
 
-enum-known-target : tie.Need-enum-known-target
-enum-known-target c = search needs
-
-refuse-requires : tie.Need-refuse-requires
-refuse-requires c κs = search needs
-
-enum-known-target-2 : tie.Need-enum-known-target-2
-enum-known-target-2 c = search needs
-
 flush-to-requires : tie.Need-flush-to-requires
 flush-to-requires c κs =
     let a = c .before .before .before .before .before .before .before .before .before .before in
@@ -73,12 +64,6 @@ count-event-requires c κs =
     let f = c .before .before .before .before .before .before in
     rw (f .flush-to .ensures .0) (countable-flushed (probeOf s card register) n i (a .pre) _)
 
-done-requires : tie.Need-done-requires
-done-requires c κs = search needs
-
-enum-told : tie.Need-enum-told
-enum-told c = search needs
-
 note-requires-2 : tie.Need-note-requires-2
 note-requires-2 c κs =
     let a = c .before .before .before .before .before .before .before .before .before in
@@ -101,12 +86,6 @@ count-event-requires-2 c κs =
     let none = nothing-told (tagOf the-type) (λ x. refl) (λ x. refl) (m .target-of .result) (c .before .before .before .before .before .match .keys3) in
     countable-plain (probeOf s card register) n i (a .pre) (judged s i card _ Target.Nothing (m .before .before .must-flush .ensures) (rw none at (m .target-of .ensures)))
 
-done-requires-2 : tie.Need-done-requires-2
-done-requires-2 c κs = search needs
-
-same-length : tie.Need-same-length
-same-length c = search needs
-
 returns : tie.Need-returns
 returns c =
     let a = c .before .before .before .before .before .before .before .before .before .before in
@@ -119,12 +98,6 @@ returns c =
     let m = t .before .before in
     rw (c .refuse .ensures)
     (event-barred (probeOf s card register) n i (a .pre) (t .target .given .0 .0) (judged s i card _ (Target.Refused (t .target .given .0 .0)) (m .before .before .must-flush .ensures) (rw (t .target .given .1) at (m .target-of .ensures))))
-
-same-length-2 : tie.Need-same-length-2
-same-length-2 c = search needs
-
-same-length-3 : tie.Need-same-length-3
-same-length-3 c = search needs
 
 returns-2 : tie.Need-returns-2
 returns-2 c =
@@ -140,12 +113,6 @@ returns-2 c =
     let m = t .before .before in
     rw (c .done .ensures, c .before .count-event .ensures, f .flush-to .ensures .0, f .flush-to .ensures .1, o .note .ensures)
     (event-flushed (probeOf s card register) n i (a .pre) (t .target2 .given .0 .0) (judged s i card _ (Target.Block (t .target2 .given .0 .0)) (m .before .before .must-flush .ensures) (rw (t .target2 .given .1) at (m .target-of .ensures))))
-
-same-length-4 : tie.Need-same-length-4
-same-length-4 c = search needs
-
-same-length-5 : tie.Need-same-length-5
-same-length-5 c = search needs
 
 returns-3 : tie.Need-returns-3
 returns-3 c =
@@ -168,22 +135,22 @@ count-spec =
     (tie.spec
     must-flush-requires
     target-of-requires
-    enum-known-target
-    refuse-requires
-    enum-known-target-2
+    (λ c. search needs)
+    (λ c κs. search needs)
+    (λ c. search needs)
     flush-to-requires
     note-requires
     count-event-requires
-    done-requires
-    enum-told
+    (λ c κs. search needs)
+    (λ c. search needs)
     note-requires-2
     count-event-requires-2
-    done-requires-2
-    same-length
+    (λ c κs. search needs)
+    (λ c. search needs)
     returns
-    same-length-2
-    same-length-3
+    (λ c. search needs)
+    (λ c. search needs)
     returns-2
-    same-length-4
-    same-length-5
+    (λ c. search needs)
+    (λ c. search needs)
     returns-3)

@@ -10,23 +10,11 @@ use Rattle.windows.proofs.Flushes.{flush-refused, flush-nothing, flush-
 use Rattle.windows.proofs.flush.Statement.{statement}
 use Rattle.windows.proofs.flush.Tie as tie
 
-state-ok-requires : tie.Need-state-ok-requires
-state-ok-requires c κs = search needs
-
-refuse-requires : tie.Need-refuse-requires
-refuse-requires c κs = search needs
-
 returns : tie.Need-returns
 unfolding flushOf
 returns c =
     let a = c .before in
     rw (c .refuse .ensures) (stopped _ 1 _ (ap not (sym (a .before .state-ok .ensures)) ∙ a .if1 .taken))
-
-cast-if2 : tie.Need-cast-if2
-cast-if2 c = search needs
-
-refuse-requires-2 : tie.Need-refuse-requires-2
-refuse-requires-2 c κs = search needs
 
 returns-2 : tie.Need-returns-2
 unfolding flushOf
@@ -42,15 +30,6 @@ target-of-requires c κs =
     let a = b .before .before in
     (sym (a .before .state-ok .ensures) ∙ not-false _ (a .if1 .left), b .if2 .left)
 
-enum-known-target : tie.Need-enum-known-target
-enum-known-target c = search needs
-
-refuse-requires-3 : tie.Need-refuse-requires-3
-refuse-requires-3 c κs = search needs
-
-enum-known-target-2 : tie.Need-enum-known-target-2
-enum-known-target-2 c = search needs
-
 flush-to-requires : tie.Need-flush-to-requires
 flush-to-requires c κs =
     let t = c .before .before in
@@ -62,18 +41,6 @@ flush-to-requires c κs =
       b .if2 .left,
       (rw (t .target2 .given .1) at (m .target-of .ensures)) .1,
     )
-
-done-requires : tie.Need-done-requires
-done-requires c κs = search needs
-
-enum-told : tie.Need-enum-told
-enum-told c = search needs
-
-done-requires-2 : tie.Need-done-requires-2
-done-requires-2 c κs = search needs
-
-same-length : tie.Need-same-length
-same-length c = search needs
 
 returns-3 : tie.Need-returns-3
 unfolding flushOf
@@ -88,9 +55,6 @@ returns-3 c =
     (passed _ 2 _ (ap not (eq-eqb _ _ (b .if2 .left)))
     (flush-refused (s .s) (s .card .now) (t .target .given .0 .0) (rw (t .target .given .1) at (m .target-of .ensures)))))
 
-same-length-2 : tie.Need-same-length-2
-same-length-2 c = search needs
-
 returns-4 : tie.Need-returns-4
 unfolding flushOf
 returns-4 c =
@@ -104,9 +68,6 @@ returns-4 c =
     (passed _ 1 _ (ap not (sym (a .before .state-ok .ensures)) ∙ a .if1 .left)
     (passed _ 2 _ (ap not (eq-eqb _ _ (b .if2 .left)))
     (flush-written (s .s) (s .card .now) (t .target2 .given .0 .0) (rw (t .target2 .given .1) at (m .target-of .ensures)))))
-
-same-length-3 : tie.Need-same-length-3
-same-length-3 c = search needs
 
 returns-5 : tie.Need-returns-5
 unfolding flushOf
@@ -125,23 +86,23 @@ pub flush-spec : {M : Type 1} → statement M
 flush-spec =
     tie.close
     (tie.spec
-    state-ok-requires
-    refuse-requires
+    (λ c κs. search needs)
+    (λ c κs. search needs)
     returns
-    cast-if2
-    refuse-requires-2
+    (λ c. search needs)
+    (λ c κs. search needs)
     returns-2
     target-of-requires
-    enum-known-target
-    refuse-requires-3
-    enum-known-target-2
+    (λ c. search needs)
+    (λ c κs. search needs)
+    (λ c. search needs)
     flush-to-requires
-    done-requires
-    enum-told
-    done-requires-2
-    same-length
+    (λ c κs. search needs)
+    (λ c. search needs)
+    (λ c κs. search needs)
+    (λ c. search needs)
     returns-3
-    same-length-2
+    (λ c. search needs)
     returns-4
-    same-length-3
+    (λ c. search needs)
     returns-5)

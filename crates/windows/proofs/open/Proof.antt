@@ -9,9 +9,6 @@ use Rattle.windows.proofs.Outcomes.{stopped, passed, given}
 use Rattle.windows.proofs.open.Statement.{statement}
 use Rattle.windows.proofs.open.Tie as tie
 
-state-ok-requires : tie.Need-state-ok-requires
-state-ok-requires c κs = search needs
-
 returns : tie.Need-returns
 unfolding openOf
 returns c = stopped _ 1 _ (ap not (sym (c .before .state-ok .ensures)) ∙ c .if1 .taken)
@@ -32,9 +29,6 @@ returns-3 c =
     passed _ 1 _ (ap not (sym (a .before .state-ok .ensures)) ∙ a .if1 .left)
     (passed _ 5 _ (ap not (eq-eqb _ _ (b .if2 .left))) (stopped _ 6 _ (le-leb 65535 (s .windows .last) (omega arith))))
 
-add-number : tie.Need-add-number
-add-number c = search needs
-
 returns-4 : tie.Need-returns-4
 unfolding openOf opened
 returns-4 c =
@@ -48,4 +42,4 @@ returns-4 c =
 
 pub open-spec : {M : Type 1} → statement M
 open-spec =
-    tie.close (tie.spec state-ok-requires returns returns-2 returns-3 add-number returns-4)
+    tie.close (tie.spec (λ c κs. search needs) returns returns-2 returns-3 (λ c. search needs) returns-4)

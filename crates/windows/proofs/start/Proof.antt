@@ -10,15 +10,6 @@ use Rattle.windows.proofs.Lengths.{lengths-started}
 use Rattle.windows.proofs.start.Statement.{statement}
 use Rattle.windows.proofs.start.Tie as tie
 
-lengths-ok-requires : tie.Need-lengths-ok-requires
-lengths-ok-requires c κs = search needs
-
-empty-state-requires : tie.Need-empty-state-requires
-empty-state-requires c κs = search needs
-
-refuse-requires : tie.Need-refuse-requires
-refuse-requires c κs = search needs
-
 returns : tie.Need-returns
 unfolding startOf unstarted
 returns c =
@@ -49,24 +40,6 @@ cast-empty-state-3 c =
     let k = lengths-started (length (a .card .now)) (length (a .register .now)) (sym (c .before .lengths-ok .ensures) ∙ not-false _ (c .if1 .left)) in
     omega (arith, k .mostBlocks)
 
-empty-state-requires-2 : tie.Need-empty-state-requires-2
-empty-state-requires-2 c κs = search needs
-
-fill-requires : tie.Need-fill-requires
-fill-requires c κs = search needs
-
-fill-requires-2 : tie.Need-fill-requires-2
-fill-requires-2 c κs = search needs
-
-done-requires : tie.Need-done-requires
-done-requires c κs = search needs
-
-same-length : tie.Need-same-length
-same-length c = search needs
-
-same-length-2 : tie.Need-same-length-2
-same-length-2 c = search needs
-
 returns-2 : tie.Need-returns-2
 unfolding startOf unstarted fresh
 returns-2 c =
@@ -81,18 +54,18 @@ pub start-spec : {M : Type 1} → statement M
 start-spec =
     tie.close
     (tie.spec
-    lengths-ok-requires
-    empty-state-requires
-    refuse-requires
+    (λ c κs. search needs)
+    (λ c κs. search needs)
+    (λ c κs. search needs)
     returns
     cast-empty-state
     cast-empty-state-2
     sub-empty-state
     cast-empty-state-3
-    empty-state-requires-2
-    fill-requires
-    fill-requires-2
-    done-requires
-    same-length
-    same-length-2
+    (λ c κs. search needs)
+    (λ c κs. search needs)
+    (λ c κs. search needs)
+    (λ c κs. search needs)
+    (λ c. search needs)
+    (λ c. search needs)
     returns-2)

@@ -1,4 +1,4 @@
--- `words::join` meets its contract: the shifted bytes share no bit, so that their or is their sum. Assumes nothing.
+-- `words::join` meets its contract: the shifted bytes share no bit, so that their or is their sum.
 use native.Mathlib.Omega.{arith}
 use Rattle.words.proofs.Bits.{four}
 use Rattle.words.proofs.join.Statement.{statement}

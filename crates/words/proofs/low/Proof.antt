@@ -1,4 +1,4 @@
--- `words::low` meets its contract: a mask of eight bits is a remainder. Assumes nothing.
+-- `words::low` meets its contract: a mask of eight bits is a remainder.
 use lib.Bits.{and-mask, mask-lt}
 use Rattle.words.proofs.low.Statement.{statement}
 use Rattle.words.proofs.low.Tie as tie

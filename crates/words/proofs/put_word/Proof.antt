@@ -1,5 +1,5 @@
 -- `words::put_word` meets its contract: the four bytes that it writes join to the value, and none is past the last word.
--- Assumes nothing.
+--
 use mathlib.Core.Path.{_≡_, ap, _∙_}
 use Prim.Native.Nat.{_/_, _%_}
 use native.Mathlib.Omega.{arith}
@@ -13,14 +13,8 @@ use Rattle.words.proofs.put_word.Tie as tie
 mul-k : tie.Need-mul-k
 mul-k c = omega (arith, room (c .before .args .bytes .now) (c .before .args .at) (c .before .pre))
 
-low-requires : tie.Need-low-requires
-low-requires c κs = search needs
-
 slice-write-bytes : tie.Need-slice-write-bytes
 slice-write-bytes c = omega (arith, room (c .before .before .args .bytes .now) (c .before .before .args .at) (c .before .before .pre))
-
-low-requires-2 : tie.Need-low-requires-2
-low-requires-2 c κs = search needs
 
 add-bytes : tie.Need-add-bytes
 add-bytes c = omega (arith, room (c .before .before .before .args .bytes .now) (c .before .before .before .args .at) (c .before .before .before .pre))
@@ -28,26 +22,17 @@ add-bytes c = omega (arith, room (c .before .before .before .args .bytes .now) (
 slice-write-bytes-2 : tie.Need-slice-write-bytes-2
 slice-write-bytes-2 c = simp length-set (omega (arith, room (c .before .before .before .args .bytes .now) (c .before .before .before .args .at) (c .before .before .before .pre)))
 
-low-requires-3 : tie.Need-low-requires-3
-low-requires-3 c κs = search needs
-
 add-bytes-2 : tie.Need-add-bytes-2
 add-bytes-2 c = omega (arith, room (c .before .before .before .before .args .bytes .now) (c .before .before .before .before .args .at) (c .before .before .before .before .pre))
 
 slice-write-bytes-3 : tie.Need-slice-write-bytes-3
 slice-write-bytes-3 c = simp length-set (omega (arith, room (c .before .before .before .before .args .bytes .now) (c .before .before .before .before .args .at) (c .before .before .before .before .pre)))
 
-low-requires-4 : tie.Need-low-requires-4
-low-requires-4 c κs = search needs
-
 add-bytes-3 : tie.Need-add-bytes-3
 add-bytes-3 c = omega (arith, room (c .before .before .before .before .before .args .bytes .now) (c .before .before .before .before .before .args .at) (c .before .before .before .before .before .pre))
 
 slice-write-bytes-4 : tie.Need-slice-write-bytes-4
 slice-write-bytes-4 c = simp length-set (omega (arith, room (c .before .before .before .before .before .args .bytes .now) (c .before .before .before .before .before .args .at) (c .before .before .before .before .before .pre)))
-
-same-length : tie.Need-same-length
-same-length c = search needs
 
 returns : tie.Need-returns
 returns c =
@@ -66,16 +51,16 @@ put-word-spec =
     tie.close
     (tie.spec
     mul-k
-    low-requires
+    (λ c κs. search needs)
     slice-write-bytes
-    low-requires-2
+    (λ c κs. search needs)
     add-bytes
     slice-write-bytes-2
-    low-requires-3
+    (λ c κs. search needs)
     add-bytes-2
     slice-write-bytes-3
-    low-requires-4
+    (λ c κs. search needs)
     add-bytes-3
     slice-write-bytes-4
-    same-length
+    (λ c. search needs)
     returns)

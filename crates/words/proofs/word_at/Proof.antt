@@ -1,4 +1,4 @@
--- `words::word_at` meets its contract: a word has room for its four bytes, and is those four joined. Assumes nothing.
+-- `words::word_at` meets its contract: a word has room for its four bytes, and is those four joined.
 use mathlib.Core.Path.{sym, _∙_}
 use native.Mathlib.Omega.{arith}
 use Rattle.words.proofs.Views.{room, word-at}
@@ -30,9 +30,6 @@ add-join-3 c = omega (arith, room (c .before .before .before .before .args .byte
 shared-slice-read-join-4 : tie.Need-shared-slice-read-join-4
 shared-slice-read-join-4 c = omega (arith, room (c .before .before .before .before .before .args .bytes .now) (c .before .before .before .before .before .args .at) (c .before .before .before .before .before .pre))
 
-join-requires : tie.Need-join-requires
-join-requires c κs = search needs
-
 returns : tie.Need-returns
 returns c = c .join .ensures ∙ sym (word-at (c .before .before .before .before .before .before .args .bytes .now) (c .before .before .before .before .before .before .args .at) (c .before .before .before .before .before .before .pre))
 
@@ -48,5 +45,5 @@ word-at-spec =
     shared-slice-read-join-3
     add-join-3
     shared-slice-read-join-4
-    join-requires
+    (λ c κs. search needs)
     returns)

@@ -1,4 +1,4 @@
--- `merges::judging::output_ok` meets its contract. Assumes nothing.
+-- `merges::judging::output_ok` meets its contract.
 use mathlib.Core.Bool.{true, true≢false}
 use mathlib.Core.Path.{_≡_, refl, sym, ap, _∙_}
 use Prim.Native.Nat.{_*_, _<_}
@@ -19,18 +19,6 @@ use Rattle.merges.proofs.Refusing.{rule-late, rule-long, rule-none, rul
 use Rattle.merges.proofs.judging.output_ok.Statement.{statement}
 use Rattle.merges.proofs.judging.output_ok.Tie as tie
 
-cast-if1 : tie.Need-cast-if1
-cast-if1 c = search needs
-
-cast-if1-2 : tie.Need-cast-if1-2
-cast-if1-2 c = search needs
-
-mul-if1 : tie.Need-mul-if1
-mul-if1 c = search needs
-
-no-draft-requires : tie.Need-no-draft-requires
-no-draft-requires c κs = search needs
-
 returns : tie.Need-returns
 returns c =
     let i1 = c .before in
@@ -38,12 +26,6 @@ returns c =
     let W = words (s .args .card .now) in
     let e = c .no-draft .ensures .0 in
     (e ∙ rule-late W (s .args .s) (s .args .is) (s .args .t) (s .pre .0) (i1 .if1 .taken), λ y. absurd (true≢false (sym y ∙ e)))
-
-output-length-requires : tie.Need-output-length-requires
-output-length-requires c κs = search needs
-
-no-draft-requires-2 : tie.Need-no-draft-requires-2
-no-draft-requires-2 c κs = search needs
 
 returns-2 : tie.Need-returns-2
 returns-2 c =
@@ -54,12 +36,6 @@ returns-2 c =
     let W = words (s .args .card .now) in
     let e = c .no-draft2 .ensures .0 in
     (e ∙ rule-long W (s .args .s) (s .args .is) (s .args .t) (s .pre .0) (i1 .if1 .left) (λ q. i2 .if2 .taken (q ∙ sym ol)), λ y. absurd (true≢false (sym y ∙ e)))
-
-blocks-for-requires : tie.Need-blocks-for-requires
-blocks-for-requires c κs = search needs
-
-no-draft-requires-3 : tie.Need-no-draft-requires-3
-no-draft-requires-3 c κs = search needs
 
 returns-3 : tie.Need-returns-3
 returns-3 c =
@@ -76,12 +52,6 @@ returns-3 c =
       d .0 ∙ rule-none W (s .args .s) (s .args .is) (s .args .t) (s .pre .0) (i1 .if1 .left) (i2 .if2 .left ∙ ol) z,
       λ y. acts-none W (s .args .s) (s .args .is) (s .args .t) (s .pre .0) _ _ refl refl z (eqb-true _ _ (sym (d .0) ∙ y)) (d .1) (d .2) (d .3),
     )
-
-chain-ok-requires : tie.Need-chain-ok-requires
-chain-ok-requires c κs = search needs
-
-no-draft-requires-4 : tie.Need-no-draft-requires-4
-no-draft-requires-4 c κs = search needs
 
 returns-4 : tie.Need-returns-4
 returns-4 c =
@@ -114,9 +84,6 @@ stands-apart-requires c κs =
     let g = s .pre .0 in
     (g .used, all-chained W (blocks (s .args .s)) (g .long) (g .few) (finished (s .args .s .partitions)) (rules W (s .args .s) (s .args .is) (s .args .t) (s .pre .0)), rw nn (rule-chained W (blocks (s .args .s)) (s .args .s .merge .first) _ (g .long) (g .few) ck))
 
-no-draft-requires-5 : tie.Need-no-draft-requires-5
-no-draft-requires-5 c κs = search needs
-
 returns-5 : tie.Need-returns-5
 returns-5 c =
     let i5 = c .before in
@@ -134,18 +101,6 @@ returns-5 c =
     let e = c .no-draft5 .ensures .0 in
     let f = rw nn at (sym (i5 .before .stands-apart .ensures) ∙ not-true _ (i5 .if5 .taken)) in
     (e ∙ rule-apart W (s .args .s) (s .args .is) (s .args .t) (s .pre .0) (i1 .if1 .left) (i2 .if2 .left ∙ ol) (λ z. i3 .if3 .left (nn ∙ z)) ck f, λ y. absurd (true≢false (sym y ∙ e)))
-
-cast-read-draft : tie.Need-cast-read-draft
-cast-read-draft c = search needs
-
-mul-read-draft : tie.Need-mul-read-draft
-mul-read-draft c = search needs
-
-add-read-draft : tie.Need-add-read-draft
-add-read-draft c = search needs
-
-mul-read-draft-2 : tie.Need-mul-read-draft-2
-mul-read-draft-2 c = search needs
 
 read-draft-requires : tie.Need-read-draft-requires
 read-draft-requires c κs =
@@ -198,26 +153,26 @@ pub output-ok-spec : {M : Type 1} → statement M
 output-ok-spec =
     tie.close
     (tie.spec
-    cast-if1
-    cast-if1-2
-    mul-if1
-    no-draft-requires
+    (λ c. search needs)
+    (λ c. search needs)
+    (λ c. search needs)
+    (λ c κs. search needs)
     returns
-    output-length-requires
-    no-draft-requires-2
+    (λ c κs. search needs)
+    (λ c κs. search needs)
     returns-2
-    blocks-for-requires
-    no-draft-requires-3
+    (λ c κs. search needs)
+    (λ c κs. search needs)
     returns-3
-    chain-ok-requires
-    no-draft-requires-4
+    (λ c κs. search needs)
+    (λ c κs. search needs)
     returns-4
     stands-apart-requires
-    no-draft-requires-5
+    (λ c κs. search needs)
     returns-5
-    cast-read-draft
-    mul-read-draft
-    add-read-draft
-    mul-read-draft-2
+    (λ c. search needs)
+    (λ c. search needs)
+    (λ c. search needs)
+    (λ c. search needs)
     read-draft-requires
     returns-6)

@@ -1,4 +1,4 @@
--- `merges::listing::inputs_of` meets its contract. Assumes nothing.
+-- `merges::listing::inputs_of` meets its contract.
 use denote.Enum.Declared.{tagOf}
 use mathlib.Core.Path.{_≡_, refl, sym, ap, _∙_}
 use native.Mathlib.Omega.{arith}
@@ -13,18 +13,6 @@ use Rattle.merges.proofs.Choosing.{levelOf, due-is, due-none, due-withi
 use Rattle.merges.proofs.listing.inputs_of.Statement.{statement}
 use Rattle.merges.proofs.listing.inputs_of.Tie as tie
 
-due-level-requires : tie.Need-due-level-requires
-due-level-requires c κs = search needs
-
-enum-known-due : tie.Need-enum-known-due
-enum-known-due c = search needs
-
-place-of-requires : tie.Need-place-of-requires
-place-of-requires c κs = search needs
-
-due-at-requires : tie.Need-due-at-requires
-due-at-requires c κs = search needs
-
 run-of-requires : tie.Need-run-of-requires
 run-of-requires c κs =
     let m = c .before .before .before .before .before in
@@ -34,12 +22,6 @@ run-of-requires c κs =
     let len : length (s .args .p .records) ≡ 51 = search (unmapped, needs) in
     let l : length (finished (s .args .p)) ≡ s .args .p .used = length-take-le (s .args .p .used) (s .args .p .records) (omega (arith, s .pre .0)) in
     (s .pre .0, rw (c .due-at .ensures, c .before .place-of .ensures) (omega (arith, due-within (finished (s .args .p)) (g .0 .0) d)), s .pre .1 len)
-
-enum-told : tie.Need-enum-told
-enum-told c = search needs
-
-no-partitions-requires : tie.Need-no-partitions-requires
-no-partitions-requires c κs = search needs
 
 returns : tie.Need-returns
 returns c =
@@ -60,12 +42,12 @@ pub inputs-of-spec : {M : Type 1} → statement M
 inputs-of-spec =
     tie.close
     (tie.spec
-    due-level-requires
-    enum-known-due
-    place-of-requires
-    due-at-requires
+    (λ c κs. search needs)
+    (λ c. search needs)
+    (λ c κs. search needs)
+    (λ c κs. search needs)
     run-of-requires
-    enum-told
-    no-partitions-requires
+    (λ c. search needs)
+    (λ c κs. search needs)
     returns
     returns-2)

@@ -1,4 +1,4 @@
--- `merges::listing::output_level` meets its contract. Assumes nothing.
+-- `merges::listing::output_level` meets its contract.
 use denote.Enum.Declared.{tagOf}
 use mathlib.Core.Path.{refl, sym, ap, _∙_}
 use native.Mathlib.Omega.{arith}
@@ -10,12 +10,6 @@ use Rattle.state.proofs.Due.{the-type}
 use Rattle.merges.proofs.Choosing.{levelOf, due-is, due-none, due-low, due-level}
 use Rattle.merges.proofs.listing.output_level.Statement.{statement}
 use Rattle.merges.proofs.listing.output_level.Tie as tie
-
-due-level-requires : tie.Need-due-level-requires
-due-level-requires c κs = search needs
-
-enum-known-due : tie.Need-enum-known-due
-enum-known-due c = search needs
 
 returns : tie.Need-returns
 returns c =
@@ -32,9 +26,6 @@ add-result c =
     let g = c .before .before .due .given in
     let d = due-is (finished (s .args .p)) (g .0 .0) (sym (g .1) ∙ m .due-level .ensures) in
     omega (arith, due-low (finished (s .args .p)) (g .0 .0) d)
-
-enum-told : tie.Need-enum-told
-enum-told c = search needs
 
 returns-2 : tie.Need-returns-2
 returns-2 c =
@@ -54,4 +45,4 @@ returns-3 c =
 pub output-level-spec : {M : Type 1} → statement M
 output-level-spec =
     tie.close
-    (tie.spec due-level-requires enum-known-due returns add-result enum-told returns-2 returns-3)
+    (tie.spec (λ c κs. search needs) (λ c. search needs) returns add-result (λ c. search needs) returns-2 returns-3)

@@ -1,4 +1,4 @@
--- `merges::listing::replaced_by` meets its contract. Assumes nothing.
+-- `merges::listing::replaced_by` meets its contract.
 use denote.Enum.Declared.{tagOf}
 use mathlib.Core.List.{[], _∷_}
 use mathlib.Core.Path.{_≡_, refl, sym, ap, _∙_}
@@ -13,18 +13,6 @@ use Rattle.state.proofs.Due.{the-type}
 use Rattle.merges.proofs.Choosing.{levelOf, due-is, due-none, due-within, due-level, due-replaced, due-some}
 use Rattle.merges.proofs.listing.replaced_by.Statement.{statement}
 use Rattle.merges.proofs.listing.replaced_by.Tie as tie
-
-due-level-requires : tie.Need-due-level-requires
-due-level-requires c κs = search needs
-
-enum-known-due : tie.Need-enum-known-due
-enum-known-due c = search needs
-
-place-of-requires : tie.Need-place-of-requires
-place-of-requires c κs = search needs
-
-due-at-requires : tie.Need-due-at-requires
-due-at-requires c κs = search needs
 
 replace-requires : tie.Need-replace-requires
 replace-requires c κs =
@@ -55,9 +43,6 @@ cut-requires c κs =
     let l : length (finished (s .args .p)) ≡ s .args .p .used = length-take-le (s .args .p .used) (s .args .p .records) (omega (arith, s .pre .0)) in
     rw (c .before .due-at .ensures, c .before .before .place-of .ensures) (omega (arith, due-within (finished (s .args .p)) (g .0 .0) d), s .pre .1 len)
 
-enum-told : tie.Need-enum-told
-enum-told c = search needs
-
 returns-2 : tie.Need-returns-2
 returns-2 c =
     let m = c .before .before .before .before .before .before .before in
@@ -79,13 +64,13 @@ pub replaced-by-spec : {M : Type 1} → statement M
 replaced-by-spec =
     tie.close
     (tie.spec
-    due-level-requires
-    enum-known-due
-    place-of-requires
-    due-at-requires
+    (λ c κs. search needs)
+    (λ c. search needs)
+    (λ c κs. search needs)
+    (λ c κs. search needs)
     replace-requires
     returns
     cut-requires
-    enum-told
+    (λ c. search needs)
     returns-2
     returns-3)

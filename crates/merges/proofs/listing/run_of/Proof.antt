@@ -1,4 +1,4 @@
--- `merges::listing::run_of` meets its contract. Assumes nothing.
+-- `merges::listing::run_of` meets its contract.
 use mathlib.Core.Path.{_≡_, sym, ap, _∙_}
 use Prim.Native.Nat.{_+_, _-_}
 use native.Mathlib.Omega.{arith}
@@ -10,15 +10,6 @@ use Rattle.state.specs.Views.{finished, partitionsOf}
 use Rattle.merges.proofs.Choosing.{finished-of, front-cut, part-cut}
 use Rattle.merges.proofs.listing.run_of.Statement.{statement}
 use Rattle.merges.proofs.listing.run_of.Tie as tie
-
-add-end : tie.Need-add-end
-add-end c = search needs
-
-sub-cut : tie.Need-sub-cut
-sub-cut c = search needs
-
-cut-requires : tie.Need-cut-requires
-cut-requires c κs = search needs
 
 cut-requires-2 : tie.Need-cut-requires-2
 cut-requires-2 c κs =
@@ -43,4 +34,4 @@ returns c =
     c .cut2 .ensures ∙ ap (λ x. partitionsOf (drop (s .args .at) x)) f ∙ ap partitionsOf (part-cut (finished p) (s .args .at) (s .args .count) (omega (arith, s .pre .1)))
 
 pub run-of-spec : {M : Type 1} → statement M
-run-of-spec = tie.close (tie.spec add-end sub-cut cut-requires cut-requires-2 returns)
+run-of-spec = tie.close (tie.spec (λ c. search needs) (λ c. search needs) (λ c κs. search needs) cut-requires-2 returns)

@@ -1,4 +1,4 @@
--- `merges::writing::add_batch` meets its contract. Assumes nothing.
+-- `merges::writing::add_batch` meets its contract.
 use mathlib.Core.Path.{_≡_}
 use native.Mathlib.Omega.{arith}
 use borrow.Author.Needs.{needs}
@@ -8,15 +8,6 @@ use Rattle.lists.proofs.Arrays.{unmapped}
 use Rattle.merges.proofs.writing.add_batch.Statement.{statement}
 use Rattle.merges.proofs.writing.add_batch.Tie as tie
 
-mul-offset : tie.Need-mul-offset
-mul-offset c = search needs
-
-add-offset : tie.Need-add-offset
-add-offset c = search needs
-
-add-offset-2 : tie.Need-add-offset-2
-add-offset-2 c = search needs
-
 write-postings-requires : tie.Need-write-postings-requires
 write-postings-requires c κs =
     let s = c .before .before .before .before in
@@ -24,13 +15,7 @@ write-postings-requires c κs =
     let len : length (b .pairs) ≡ 16 = search (unmapped, needs) in
     (s .pre .0, s .pre .1, s .pre .3, omega (arith, length-take-le (b .used) (b .pairs) (omega (arith, s .pre .3)), s .pre .4), s .pre .5, s .pre .6)
 
-same-length : tie.Need-same-length
-same-length c = search needs
-
-returns : tie.Need-returns
-returns c = search needs
-
 pub add-batch-spec : {M : Type 1} → statement M
 add-batch-spec =
     tie.close
-    (tie.spec mul-offset add-offset add-offset-2 write-postings-requires same-length returns)
+    (tie.spec (λ c. search needs) (λ c. search needs) (λ c. search needs) write-postings-requires (λ c. search needs) (λ c. search needs))

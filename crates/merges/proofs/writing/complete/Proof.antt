@@ -9,9 +9,6 @@ use Rattle.outputs.proofs.Writing.{chain-written, chained-written}
 use Rattle.merges.proofs.writing.complete.Statement.{statement}
 use Rattle.merges.proofs.writing.complete.Tie as tie
 
-write-header-requires : tie.Need-write-header-requires
-write-header-requires c κs = search needs
-
 write-entries-requires : tie.Need-write-entries-requires
 write-entries-requires c κs =
     let s = c .before .before .before .before .before .before .before in
@@ -20,9 +17,6 @@ write-entries-requires c κs =
     let h = c .before .before .before .write-header in
     let hs = header (s .args .level) (s .args .t .terms) (s .args .t .postings) in
     (omega (arith, h .kept .0, s .pre .0), s .pre .1, s .pre .3, rw (h .ensures) (chained-written (chain W (o .first) (o .blocks)) W 0 hs (o .first) (o .blocks) (s .pre .4)), s .pre .5)
-
-same-length : tie.Need-same-length
-same-length c = search needs
 
 returns : tie.Need-returns
 returns c =
@@ -35,4 +29,4 @@ returns c =
 
 pub complete-spec : {M : Type 1} → statement M
 complete-spec =
-    tie.close (tie.spec write-header-requires write-entries-requires same-length returns)
+    tie.close (tie.spec (λ c κs. search needs) write-entries-requires (λ c. search needs) returns)

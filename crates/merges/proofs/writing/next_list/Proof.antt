@@ -6,15 +6,6 @@ use borrow.Author.Needs.{needs}
 use Rattle.merges.proofs.writing.next_list.Statement.{statement}
 use Rattle.merges.proofs.writing.next_list.Tie as tie
 
-output-level-requires : tie.Need-output-level-requires
-output-level-requires c κs = search needs
-
-output-length-requires : tie.Need-output-length-requires
-output-length-requires c κs = search needs
-
-replaced-by-requires : tie.Need-replaced-by-requires
-replaced-by-requires c κs = search needs
-
 returns : tie.Need-returns
 returns c =
     let s = c .before .before .before .before in
@@ -23,4 +14,4 @@ returns c =
 
 pub next-list-spec : {M : Type 1} → statement M
 next-list-spec =
-    tie.close (tie.spec output-level-requires output-length-requires replaced-by-requires returns)
+    tie.close (tie.spec (λ c κs. search needs) (λ c κs. search needs) (λ c κs. search needs) returns)

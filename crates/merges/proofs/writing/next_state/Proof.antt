@@ -5,18 +5,9 @@ use borrow.Author.Needs.{needs}
 use Rattle.merges.proofs.writing.next_state.Statement.{statement}
 use Rattle.merges.proofs.writing.next_state.Tie as tie
 
-next-list-requires : tie.Need-next-list-requires
-next-list-requires c κs = search needs
-
 returns : tie.Need-returns
 unfolding nextState
 returns c = rw (c .next-list .ensures, c .before .if1 .taken)
-
-output-length-requires : tie.Need-output-length-requires
-output-length-requires c κs = search needs
-
-add-t11 : tie.Need-add-t11
-add-t11 c = search needs
 
 returns-2 : tie.Need-returns-2
 unfolding nextState
@@ -24,4 +15,4 @@ returns-2 c = rw (c .before .output-length .ensures, c .before .before .if1 .lef
 
 pub next-state-spec : {M : Type 1} → statement M
 next-state-spec =
-    tie.close (tie.spec next-list-requires returns output-length-requires add-t11 returns-2)
+    tie.close (tie.spec (λ c κs. search needs) returns (λ c κs. search needs) (λ c. search needs) returns-2)

@@ -10,9 +10,6 @@ use borrow.Author.Needs.{needs}
 use Rattle.merges.proofs.writing.put_output.Statement.{statement}
 use Rattle.merges.proofs.writing.put_output.Tie as tie
 
-add-batch-requires : tie.Need-add-batch-requires
-add-batch-requires c κs = search needs
-
 complete-requires : tie.Need-complete-requires
 complete-requires c κs =
     let s = c .before .before .before .before .before .before .before .before in
@@ -22,14 +19,8 @@ complete-requires c κs =
     let a = c .before .before .before .before .add-batch in
     (omega (arith, a .kept .0, s .pre .0), f .some, f .small, f .entries, rw (a .ensures) (chained-written (chain W (o .first) (o .blocks)) W _ (map wordOf (batched (s .args .b))) (o .first) (o .blocks) (f .chained)), f .long)
 
-same-length : tie.Need-same-length
-same-length c = search needs
-
 returns : tie.Need-returns
 returns c = rw (c .before .before .before .before .if1 .taken, ← c .before .before .before .before .before .before .before .add-batch .ensures) (c .before .before .complete .ensures)
-
-same-length-2 : tie.Need-same-length-2
-same-length-2 c = search needs
 
 returns-2 : tie.Need-returns-2
 returns-2 c = rw (c .if1 .left) (c .before .before .before .add-batch .ensures)
@@ -37,4 +28,4 @@ returns-2 c = rw (c .if1 .left) (c .before .before .before .add-batch .ensures)
 pub put-output-spec : {M : Type 1} → statement M
 put-output-spec =
     tie.close
-    (tie.spec add-batch-requires complete-requires same-length returns same-length-2 returns-2)
+    (tie.spec (λ c κs. search needs) complete-requires (λ c. search needs) returns (λ c. search needs) returns-2)

@@ -1,4 +1,4 @@
--- `queries::judging::all_differ` meets its contract. The invariant: the first i differ. Assumes nothing.
+-- `queries::judging::all_differ` meets its contract. The invariant: the first i differ.
 use mathlib.Core.Bool.{true}
 use mathlib.Core.Path.{_≡_, refl}
 use mathlib.Core.List.{map}
@@ -20,19 +20,10 @@ abbrev μ-loop : tie.MeasureT-loop
 loop-holds : tie.Need-loop-holds Inv-loop μ-loop
 loop-holds c = (omega arith, refl)
 
-repeats-requires : tie.Need-repeats-requires Inv-loop μ-loop
-repeats-requires c κs = omega arith
-
 returns : tie.Need-returns Inv-loop μ-loop
 returns c =
     let a = c .before .before .before in
     differ-stopped (a .before .args .ids .now) (a .loop .i) (a .loop .inv .1) (omega arith) _ (c .before .repeats .ensures) (c .if1 .taken)
-
-add-i : tie.Need-add-i Inv-loop μ-loop
-add-i c = omega arith
-
-loop-less : tie.Need-loop-less Inv-loop μ-loop
-loop-less c = omega arith
 
 loop-again : tie.Need-loop-again Inv-loop μ-loop
 loop-again c =
@@ -49,9 +40,9 @@ all-differ-spec =
     Inv-loop
     μ-loop
     loop-holds
-    repeats-requires
+    (λ c κs. omega arith)
     returns
-    add-i
-    loop-less
+    (λ c. omega arith)
+    (λ c. omega arith)
     loop-again
     returns-2)

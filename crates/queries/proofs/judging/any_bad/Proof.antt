@@ -1,4 +1,4 @@
--- `queries::judging::any_bad` meets its contract. The invariant: the answer for all is the answer for those from i on. Assumes nothing.
+-- `queries::judging::any_bad` meets its contract. The invariant: the answer for all is the answer for those from i on.
 use mathlib.Core.Path.{_≡_, refl}
 use mathlib.Core.List.{map}
 use Prim.Native.Nat.{_≤_, _-_}
@@ -21,25 +21,10 @@ abbrev μ-loop : tie.MeasureT-loop
 loop-holds : tie.Need-loop-holds Inv-loop μ-loop
 loop-holds c = (omega arith, refl)
 
-mul-id : tie.Need-mul-id Inv-loop μ-loop
-mul-id c = omega arith
-
-shared-slice-copy-out-id : tie.Need-shared-slice-copy-out-id Inv-loop μ-loop
-shared-slice-copy-out-id c = omega arith
-
-bad-length-requires : tie.Need-bad-length-requires Inv-loop μ-loop
-bad-length-requires c κs = search needs
-
 returns : tie.Need-returns Inv-loop μ-loop
 returns c =
     let a = c .before .before .before .before in
     bad-found (a .before .args .ids .now) (a .loop .i) (a .loop .inv .1) (omega arith) _ (c .before .bad-length .ensures) (c .if1 .taken)
-
-add-i : tie.Need-add-i Inv-loop μ-loop
-add-i c = omega arith
-
-loop-less : tie.Need-loop-less Inv-loop μ-loop
-loop-less c = omega arith
 
 loop-again : tie.Need-loop-again Inv-loop μ-loop
 loop-again c =
@@ -56,11 +41,11 @@ any-bad-spec =
     Inv-loop
     μ-loop
     loop-holds
-    mul-id
-    shared-slice-copy-out-id
-    bad-length-requires
+    (λ c. omega arith)
+    (λ c. omega arith)
+    (λ c κs. search needs)
     returns
-    add-i
-    loop-less
+    (λ c. omega arith)
+    (λ c. omega arith)
     loop-again
     returns-2)

@@ -1,4 +1,4 @@
--- `queries::judging::bad_query` meets its contract, part by part. Assumes nothing.
+-- `queries::judging::bad_query` meets its contract, part by part.
 use borrow.Author.Needs.{needs}
 use borrow.Author.Tests.{eq-eqb, ne-eqb, lt-ltb, le-ltb}
 use mathlib.Core.Path.{sym, _∙_}
@@ -17,9 +17,6 @@ returns-2 c =
     let one = c .before in
     let a = one .before .args in
     sym (bad-parts (a .ids .now) (a .places) ∙ rw (ne-eqb (length (a .ids .now)) 0 (one .if1 .left), lt-ltb 5 (length (a .ids .now)) (c .if2 .taken)))
-
-all-differ-requires : tie.Need-all-differ-requires
-all-differ-requires c κs = search needs
 
 returns-3 : tie.Need-returns-3
 returns-3 c =
@@ -46,4 +43,4 @@ returns-5 c =
 
 pub bad-query-spec : {M : Type 1} → statement M
 bad-query-spec =
-    tie.close (tie.spec returns returns-2 all-differ-requires returns-3 returns-4 returns-5)
+    tie.close (tie.spec returns returns-2 (λ c κs. search needs) returns-3 returns-4 returns-5)

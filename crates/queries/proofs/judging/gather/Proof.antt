@@ -23,19 +23,10 @@ Inv-loop s card register ids run heads₀ spare₀ used known₀ i₀ heads spar
 abbrev μ-loop : tie.MeasureT-loop
 μ-loop s card register ids run heads₀ spare₀ used known₀ i₀ heads spare known i = length ids - i
 
-used-entries-requires : tie.Need-used-entries-requires Inv-loop μ-loop
-used-entries-requires c κs = search needs
-
 loop-holds : tie.Need-loop-holds Inv-loop μ-loop
 loop-holds c =
     let a = c .before .before .before .before .before .before .args in
     (refl, refl, gathering-none (words (a .card .now)) (a .run .now) (a .s) (names (a .register .now)) (map now (a .ids .now)) _ (a .heads .now) refl refl refl)
-
-mul-id : tie.Need-mul-id Inv-loop μ-loop
-mul-id c = omega arith
-
-shared-slice-copy-out-id : tie.Need-shared-slice-copy-out-id Inv-loop μ-loop
-shared-slice-copy-out-id c = omega arith
 
 find-requires : tie.Need-find-requires Inv-loop μ-loop
 find-requires c κs = c .before .before .before .before .before .before .before .before .before .pre .0 .names
@@ -117,10 +108,10 @@ gather-spec =
     (tie.spec
     Inv-loop
     μ-loop
-    used-entries-requires
+    (λ c κs. search needs)
     loop-holds
-    mul-id
-    shared-slice-copy-out-id
+    (λ c. omega arith)
+    (λ c. omega arith)
     find-requires
     cast-keep-one
     keep-one-requires

@@ -11,12 +11,6 @@ use borrow.Author.Needs.{needs}
 use Rattle.queries.proofs.judging.keep_one.Statement.{statement}
 use Rattle.queries.proofs.judging.keep_one.Tie as tie
 
-judge-term-requires : tie.Need-judge-term-requires
-judge-term-requires c κs = search needs
-
-same-length : tie.Need-same-length
-same-length c = search needs
-
 returns : tie.Need-returns
 returns c =
     let s = c .before .before .before .before .before .before .before .before .before .before in
@@ -26,21 +20,6 @@ returns c =
       used = s .pre .1;
       few = s .pre .2;
     }
-
-cast-m : tie.Need-cast-m
-cast-m c = search needs
-
-add-m : tie.Need-add-m
-add-m c = search needs
-
-mul-size : tie.Need-mul-size
-mul-size c = search needs
-
-add-size : tie.Need-add-size
-add-size c = search needs
-
-cast-at : tie.Need-cast-at
-cast-at c = search needs
 
 mul-at : tie.Need-mul-at
 mul-at c =
@@ -63,12 +42,6 @@ mul-keep-term c =
     let e = ends (4 * (n + 1) + 2) (s .args .k .used) 5 (omega (arith, c .before .before .if1 .left)) in
     omega (arith, e, s .pre .0 .room, s .pre .0 .most)
 
-sub-keep-term : tie.Need-sub-keep-term
-sub-keep-term c = search needs
-
-part-keep-term-start : tie.Need-part-keep-term-start
-part-keep-term-start c = search needs
-
 part-keep-term-end : tie.Need-part-keep-term-end
 part-keep-term-end c =
     let s = c .before .before .before .before .before .before .before .before in
@@ -88,18 +61,6 @@ keep-term-requires c κs =
     let l = length-take-le (4 * (n + 1) + 2) (drop ((4 * (n + 1) + 2) * u) H) (omega (arith, length-drop ((4 * (n + 1) + 2) * u) H, e, r .room)) in
     (r .rule, r .long, r .partitions, r .packed, r .one, rw w (l ∙ omega arith))
 
-add-t24 : tie.Need-add-t24
-add-t24 c = search needs
-
-add-t25 : tie.Need-add-t25
-add-t25 c = search needs
-
-same-length-2 : tie.Need-same-length-2
-same-length-2 c = search needs
-
-same-length-3 : tie.Need-same-length-3
-same-length-3 c = search needs
-
 returns-2 : tie.Need-returns-2
 returns-2 c =
     let s = c .before .before .before .before .before .before .before .before .before .before .before .before .before .before .before .before .before .before in
@@ -118,23 +79,23 @@ pub keep-one-spec : {M : Type 1} → statement M
 keep-one-spec =
     tie.close
     (tie.spec
-    judge-term-requires
-    same-length
+    (λ c κs. search needs)
+    (λ c. search needs)
     returns
-    cast-m
-    add-m
-    mul-size
-    add-size
-    cast-at
+    (λ c. search needs)
+    (λ c. search needs)
+    (λ c. search needs)
+    (λ c. search needs)
+    (λ c. search needs)
     mul-at
     add-end
     mul-keep-term
-    sub-keep-term
-    part-keep-term-start
+    (λ c. search needs)
+    (λ c. search needs)
     part-keep-term-end
     keep-term-requires
-    add-t24
-    add-t25
-    same-length-2
-    same-length-3
+    (λ c. search needs)
+    (λ c. search needs)
+    (λ c. search needs)
+    (λ c. search needs)
     returns-2)

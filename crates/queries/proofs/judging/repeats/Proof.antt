@@ -1,4 +1,4 @@
--- `queries::judging::repeats` meets its contract. The invariant: the answer is the answer for those from j on. Assumes nothing.
+-- `queries::judging::repeats` meets its contract. The invariant: the answer is the answer for those from j on.
 use mathlib.Core.Path.{_≡_, refl}
 use mathlib.Core.List.{[], map}
 use Prim.Native.Nat.{_≤_, _-_}
@@ -17,35 +17,14 @@ Inv-loop ids i id j₀ j = (j ≤ i) × (among (getD (map now ids) i []) (take i
 abbrev μ-loop : tie.MeasureT-loop
 μ-loop ids i id j₀ j = i - j
 
-mul-id : tie.Need-mul-id Inv-loop μ-loop
-mul-id c = omega arith
-
-shared-slice-copy-out-id : tie.Need-shared-slice-copy-out-id Inv-loop μ-loop
-shared-slice-copy-out-id c = omega arith
-
 loop-holds : tie.Need-loop-holds Inv-loop μ-loop
 loop-holds c = (omega arith, refl)
-
-mul-other : tie.Need-mul-other Inv-loop μ-loop
-mul-other c = omega arith
-
-shared-slice-copy-out-other : tie.Need-shared-slice-copy-out-other Inv-loop μ-loop
-shared-slice-copy-out-other c = omega arith
-
-equal-requires : tie.Need-equal-requires Inv-loop μ-loop
-equal-requires c κs = search needs
 
 returns : tie.Need-returns Inv-loop μ-loop
 returns c =
     let a = c .before .before .before .before in
     let s = a .before .before in
     again-found (s .args .ids .now) (s .args .i) (a .loop .j) (s .pre) (a .loop .inv .1) (omega arith) _ (c .before .equal .ensures) (c .if1 .taken)
-
-add-j : tie.Need-add-j Inv-loop μ-loop
-add-j c = omega arith
-
-loop-less : tie.Need-loop-less Inv-loop μ-loop
-loop-less c = omega arith
 
 loop-again : tie.Need-loop-again Inv-loop μ-loop
 loop-again c =
@@ -65,14 +44,14 @@ repeats-spec =
     (tie.spec
     Inv-loop
     μ-loop
-    mul-id
-    shared-slice-copy-out-id
+    (λ c. omega arith)
+    (λ c. omega arith)
     loop-holds
-    mul-other
-    shared-slice-copy-out-other
-    equal-requires
+    (λ c. omega arith)
+    (λ c. omega arith)
+    (λ c κs. search needs)
     returns
-    add-j
-    loop-less
+    (λ c. omega arith)
+    (λ c. omega arith)
     loop-again
     returns-2)

@@ -15,9 +15,6 @@ Inv-loop card run heads₀ g m places best₀ top₀ heads best top = Walking (w
 abbrev μ-loop : tie.MeasureT-loop
 μ-loop card run heads₀ g m places best₀ top₀ heads best top = top
 
-no-hits-requires : tie.Need-no-hits-requires Inv-loop μ-loop
-no-hits-requires c κs = search needs
-
 top-terms-requires : tie.Need-top-terms-requires Inv-loop μ-loop
 top-terms-requires c κs = let w = c .before .before .before .before .before .pre .0 in (w .fits, w .short, w .lists, w .kept)
 
@@ -26,9 +23,6 @@ loop-holds c =
     let s = c .before .before .before .before .before .before in
     let a = s .args in
     walk-begun (words (a .card .now)) (a .run .now) (a .m) (a .g) (a .places) (a .heads .now) (s .pre .0) (s .pre .1) (s .pre .2) _ (c .before .before .no-hits .ensures) _ (c .top-terms .ensures)
-
-sub-w : tie.Need-sub-w Inv-loop μ-loop
-sub-w c = omega arith
 
 take-terms-requires : tie.Need-take-terms-requires Inv-loop μ-loop
 take-terms-requires c κs =
@@ -65,9 +59,6 @@ mul-last c = omega (arith, c .before .before .before .before .before .before .be
 
 element-copy-out-last : tie.Need-element-copy-out-last Inv-loop μ-loop
 element-copy-out-last c = let s = c .before .before .before .before .before .before .before .before .before .before .before .before .before in omega (arith, held-length (s .args .places) (c .before .before .before .before .before .before .loop .best) (c .before .before .before .before .before .before .loop .inv .held), s .pre .1, s .pre .2)
-
-enters-requires : tie.Need-enters-requires Inv-loop μ-loop
-enters-requires c κs = search needs
 
 place-hit-requires : tie.Need-place-hit-requires Inv-loop μ-loop
 place-hit-requires c κs = c .before .before .before .before .before .before .before .before .before .loop .inv .held
@@ -159,17 +150,17 @@ walk-spec =
     (tie.spec
     Inv-loop
     μ-loop
-    no-hits-requires
+    (λ c κs. search needs)
     top-terms-requires
     loop-holds
-    sub-w
+    (λ c. omega arith)
     take-terms-requires
     cast-at
     sub-at
     cast-at-2
     mul-last
     element-copy-out-last
-    enters-requires
+    (λ c κs. search needs)
     place-hit-requires
     loop-less
     loop-again

@@ -17,21 +17,6 @@ abbrev μ-loop : tie.MeasureT-loop
 loop-holds : tie.Need-loop-holds Inv-loop μ-loop
 loop-holds c = keep-none _ _ _ (omega arith)
 
-shared-slice-read-b : tie.Need-shared-slice-read-b Inv-loop μ-loop
-shared-slice-read-b c = search needs
-
-slice-write-line : tie.Need-slice-write-line Inv-loop μ-loop
-slice-write-line c = search needs
-
-add-n : tie.Need-add-n Inv-loop μ-loop
-add-n c = search needs
-
-add-i : tie.Need-add-i Inv-loop μ-loop
-add-i c = search needs
-
-loop-less : tie.Need-loop-less Inv-loop μ-loop
-loop-less c = search needs
-
 loop-again : tie.Need-loop-again Inv-loop μ-loop
 loop-again c =
     let a = c .before .before .before .before in
@@ -41,14 +26,8 @@ loop-again c =
     ⊎-elim (λ w. keep-as (w .1) (w .2) (keep-more s h f (w .0 .taken) (omega (arith, s .long, a .before .pre))))
     (λ w. keep-as (w .1) (w .2) (keep-past s h f (w .0 .left) (omega (arith, s .long, a .before .pre)))) (c .if2 .came)
 
-same-length : tie.Need-same-length Inv-loop μ-loop
-same-length c = search needs
-
 returns : tie.Need-returns Inv-loop μ-loop
 returns c = keep-stopped (c .before .loop .inv) (λ h. omega arith)
-
-same-length-2 : tie.Need-same-length-2 Inv-loop μ-loop
-same-length-2 c = search needs
 
 returns-2 : tie.Need-returns-2 Inv-loop μ-loop
 returns-2 c = keep-stopped (c .before .before .before .loop .inv) (λ h. c .if1 .taken)
@@ -60,13 +39,13 @@ keep-some-spec =
     Inv-loop
     μ-loop
     loop-holds
-    shared-slice-read-b
-    slice-write-line
-    add-n
-    add-i
-    loop-less
+    (λ c. search needs)
+    (λ c. search needs)
+    (λ c. search needs)
+    (λ c. search needs)
+    (λ c. search needs)
     loop-again
-    same-length
+    (λ c. search needs)
     returns
-    same-length-2
+    (λ c. search needs)
     returns-2)

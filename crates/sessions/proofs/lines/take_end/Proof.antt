@@ -13,18 +13,6 @@ returns c = end-none _ _ (c .before .before .before .before .before .args .kept)
 slice-aggregate-answer : tie.Need-slice-aggregate-answer
 slice-aggregate-answer c = sym (length-take-le _ _ (omega arith))
 
-answer-requires : tie.Need-answer-requires
-answer-requires c κs = search needs
-
-same-length : tie.Need-same-length
-same-length c = search needs
-
-same-length-2 : tie.Need-same-length-2
-same-length-2 c = search needs
-
-same-length-3 : tie.Need-same-length-3
-same-length-3 c = search needs
-
 returns-2 : tie.Need-returns-2
 returns-2 c = end-line _ (c .before .before .before .before .before .before .before .before .before .before .before .before .before .before .before .before .args .kept) (λ e. omega (arith, c .before .before .before .before .before .before .before .before .before .before .before .if1 .left)) (omega arith) (c .before .before .before .before .before .before .answer .ensures)
 
@@ -34,8 +22,8 @@ take-end-spec =
     (tie.spec
     returns
     slice-aggregate-answer
-    answer-requires
-    same-length
-    same-length-2
-    same-length-3
+    (λ c κs. search needs)
+    (λ c. search needs)
+    (λ c. search needs)
+    (λ c. search needs)
     returns-2)

@@ -9,17 +9,11 @@ returns : tie.Need-returns
 unfolding bufferRule
 returns c = rw (lt-leb _ _ (c .if1 .taken))
 
-postings-ordered-requires : tie.Need-postings-ordered-requires
-postings-ordered-requires c κs = search needs
-
 returns-2 : tie.Need-returns-2
 unfolding bufferRule
 returns-2 c =
     let a1 = c .before .before in
     rw (le-leb _ _ (a1 .if1 .left), failed (c .before .postings-ordered .ensures) (c .if2 .taken))
-
-postings-ok-requires : tie.Need-postings-ok-requires
-postings-ok-requires c κs = search needs
 
 returns-3 : tie.Need-returns-3
 unfolding bufferRule
@@ -31,9 +25,6 @@ returns-3 c =
       passed (a2 .before .postings-ordered .ensures) (a2 .if2 .left),
       failed (c .before .postings-ok .ensures) (c .if3 .taken),
     )
-
-postings-end-requires : tie.Need-postings-end-requires
-postings-end-requires c κs = search needs
 
 returns-4 : tie.Need-returns-4
 unfolding bufferRule
@@ -53,9 +44,9 @@ buffer-ok-spec =
     tie.close
     (tie.spec
     returns
-    postings-ordered-requires
+    (λ c κs. search needs)
     returns-2
-    postings-ok-requires
+    (λ c κs. search needs)
     returns-3
-    postings-end-requires
+    (λ c κs. search needs)
     returns-4)

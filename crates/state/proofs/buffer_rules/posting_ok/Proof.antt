@@ -25,9 +25,6 @@ returns-3 c =
     let a1 = a2 .before .before in
     rw (le-leb _ _ (a1 .if1 .left), le-leb _ _ (a2 .if2 .left), lt-leb _ _ (c .if3 .taken))
 
-is-zero-requires : tie.Need-is-zero-requires
-is-zero-requires c κs = search needs
-
 returns-4 : tie.Need-returns-4
 unfolding postingRule
 returns-4 c =
@@ -35,9 +32,6 @@ returns-4 c =
     let a2 = a3 .before .before .before in
     let a1 = a2 .before .before in
     rw (le-leb _ _ (a1 .if1 .left), le-leb _ _ (a2 .if2 .left), le-leb _ _ (a3 .if3 .left), sym (c .before .is-zero .ensures) ∙ c .if4 .taken)
-
-is-small-requires : tie.Need-is-small-requires
-is-small-requires c κs = search needs
 
 returns-5 : tie.Need-returns-5
 unfolding postingRule
@@ -70,9 +64,6 @@ returns-6 c =
       passed (a5 .before .is-small .ensures) (a5 .if5 .left),
       ne-eqb _ _ (c .if6 .taken),
     )
-
-above-requires : tie.Need-above-requires
-above-requires c κs = search needs
 
 returns-7 : tie.Need-returns-7
 unfolding postingRule
@@ -121,11 +112,11 @@ posting-ok-spec =
     returns
     returns-2
     returns-3
-    is-zero-requires
+    (λ c κs. search needs)
     returns-4
-    is-small-requires
+    (λ c κs. search needs)
     returns-5
     returns-6
-    above-requires
+    (λ c κs. search needs)
     returns-7
     returns-8)

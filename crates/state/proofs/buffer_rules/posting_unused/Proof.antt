@@ -11,9 +11,6 @@ returns-2 c =
     let a1 = c .before .before in
     rw (eq-eqb _ _ (a1 .if1 .left), ne-eqb _ _ (c .if2 .taken))
 
-is-zero-requires : tie.Need-is-zero-requires
-is-zero-requires c κs = search needs
-
 returns-3 : tie.Need-returns-3
 returns-3 c =
     let a2 = c .before in
@@ -21,4 +18,4 @@ returns-3 c =
     rw (eq-eqb _ _ (a1 .if1 .left), eq-eqb _ _ (a2 .if2 .left)) (c .is-zero .ensures)
 
 pub posting-unused-spec : {M : Type 1} → statement M
-posting-unused-spec = tie.close (tie.spec returns returns-2 is-zero-requires returns-3)
+posting-unused-spec = tie.close (tie.spec returns returns-2 (λ c κs. search needs) returns-3)

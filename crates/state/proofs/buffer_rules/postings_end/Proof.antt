@@ -17,20 +17,8 @@ Inv-loop b i₀ i = (length (b .postings) ≡ 128) × (every unusedPosting (drop
 abbrev μ-loop : tie.MeasureT-loop
 μ-loop b i₀ i = 128 - i
 
-cast-i : tie.Need-cast-i Inv-loop μ-loop
-cast-i c = search needs
-
 loop-holds : tie.Need-loop-holds Inv-loop μ-loop
 loop-holds c = (search (unmapped, needs), refl)
-
-mul-p : tie.Need-mul-p Inv-loop μ-loop
-mul-p c = search needs
-
-element-copy-out-p : tie.Need-element-copy-out-p Inv-loop μ-loop
-element-copy-out-p c = search needs
-
-posting-unused-requires : tie.Need-posting-unused-requires Inv-loop μ-loop
-posting-unused-requires c κs = search needs
 
 returns : tie.Need-returns Inv-loop μ-loop
 returns c =
@@ -39,12 +27,6 @@ returns c =
     let len = a .loop .inv .0 in
     let ok = c .before .posting-unused in
     sym (turn (every unusedPosting) (s .t1 .postings) (a .loop .i) noPosting (omega arith) (a .loop .inv .1) ∙ and-stop _ _ (failed (ok .ensures) (c .if1 .taken)))
-
-add-i : tie.Need-add-i Inv-loop μ-loop
-add-i c = search needs
-
-loop-less : tie.Need-loop-less Inv-loop μ-loop
-loop-less c = search needs
 
 loop-again : tie.Need-loop-again Inv-loop μ-loop
 loop-again c =
@@ -66,13 +48,13 @@ postings-end-spec =
     (tie.spec
     Inv-loop
     μ-loop
-    cast-i
+    (λ c. search needs)
     loop-holds
-    mul-p
-    element-copy-out-p
-    posting-unused-requires
+    (λ c. search needs)
+    (λ c. search needs)
+    (λ c κs. search needs)
     returns
-    add-i
-    loop-less
+    (λ c. search needs)
+    (λ c. search needs)
     loop-again
     returns-2)

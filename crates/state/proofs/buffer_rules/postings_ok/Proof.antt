@@ -17,20 +17,8 @@ Inv-loop w b n i₀ i = (length (b .postings) ≡ 128) × (every (postingRule w)
 abbrev μ-loop : tie.MeasureT-loop
 μ-loop w b n i₀ i = n - i
 
-cast-n : tie.Need-cast-n Inv-loop μ-loop
-cast-n c = search needs
-
 loop-holds : tie.Need-loop-holds Inv-loop μ-loop
 loop-holds c = (search (unmapped, needs), refl)
-
-mul-p : tie.Need-mul-p Inv-loop μ-loop
-mul-p c = search needs
-
-element-copy-out-p : tie.Need-element-copy-out-p Inv-loop μ-loop
-element-copy-out-p c = search needs
-
-posting-ok-requires : tie.Need-posting-ok-requires Inv-loop μ-loop
-posting-ok-requires c κs = search needs
 
 returns : tie.Need-returns Inv-loop μ-loop
 returns c =
@@ -39,12 +27,6 @@ returns c =
     let len = a .loop .inv .0 in
     let ok = c .before .posting-ok in
     sym (used-turn (every (postingRule (s .w))) (s .t2 .postings) (s .t2 .used) (a .loop .i) noPosting (omega arith) (omega arith) (a .loop .inv .1) ∙ and-stop _ _ (failed (ok .ensures) (c .if1 .taken)))
-
-add-i : tie.Need-add-i Inv-loop μ-loop
-add-i c = search needs
-
-loop-less : tie.Need-loop-less Inv-loop μ-loop
-loop-less c = search needs
 
 loop-again : tie.Need-loop-again Inv-loop μ-loop
 loop-again c =
@@ -66,13 +48,13 @@ postings-ok-spec =
     (tie.spec
     Inv-loop
     μ-loop
-    cast-n
+    (λ c. search needs)
     loop-holds
-    mul-p
-    element-copy-out-p
-    posting-ok-requires
+    (λ c. search needs)
+    (λ c. search needs)
+    (λ c κs. search needs)
     returns
-    add-i
-    loop-less
+    (λ c. search needs)
+    (λ c. search needs)
     loop-again
     returns-2)

@@ -17,32 +17,8 @@ Inv-loop b n i₀ i = (length (b .postings) ≡ 128) × (i ≤ n) × (ordered (b
 abbrev μ-loop : tie.MeasureT-loop
 μ-loop b n i₀ i = n - i
 
-cast-n : tie.Need-cast-n Inv-loop μ-loop
-cast-n c = search needs
-
 loop-holds : tie.Need-loop-holds Inv-loop μ-loop
 loop-holds c = (search (unmapped, needs), omega arith, refl)
-
-add-loop : tie.Need-add-loop Inv-loop μ-loop
-add-loop c = search needs
-
-mul-p : tie.Need-mul-p Inv-loop μ-loop
-mul-p c = search needs
-
-element-copy-out-p : tie.Need-element-copy-out-p Inv-loop μ-loop
-element-copy-out-p c = search needs
-
-add-q : tie.Need-add-q Inv-loop μ-loop
-add-q c = search needs
-
-mul-q : tie.Need-mul-q Inv-loop μ-loop
-mul-q c = search needs
-
-element-copy-out-q : tie.Need-element-copy-out-q Inv-loop μ-loop
-element-copy-out-q c = search needs
-
-precedes-requires : tie.Need-precedes-requires Inv-loop μ-loop
-precedes-requires c κs = search needs
 
 returns : tie.Need-returns Inv-loop μ-loop
 returns c =
@@ -50,12 +26,6 @@ returns c =
     let l = a .before .args .t1 in
     let len = a .loop .inv .0 in
     sym (ordered-turn (l .postings) (l .used) (a .loop .i) noPosting (omega arith) (omega arith) (a .loop .inv .2) ∙ and-stop _ _ (failed (c .before .precedes .ensures) (c .if1 .taken)))
-
-add-i : tie.Need-add-i Inv-loop μ-loop
-add-i c = search needs
-
-loop-less : tie.Need-loop-less Inv-loop μ-loop
-loop-less c = search needs
 
 loop-again : tie.Need-loop-again Inv-loop μ-loop
 loop-again c =
@@ -76,17 +46,17 @@ postings-ordered-spec =
     (tie.spec
     Inv-loop
     μ-loop
-    cast-n
+    (λ c. search needs)
     loop-holds
-    add-loop
-    mul-p
-    element-copy-out-p
-    add-q
-    mul-q
-    element-copy-out-q
-    precedes-requires
+    (λ c. search needs)
+    (λ c. search needs)
+    (λ c. search needs)
+    (λ c. search needs)
+    (λ c. search needs)
+    (λ c. search needs)
+    (λ c κs. search needs)
     returns
-    add-i
-    loop-less
+    (λ c. search needs)
+    (λ c. search needs)
     loop-again
     returns-2)

@@ -16,23 +16,8 @@ Inv-loop l n i₀ i = (length (l .ids) ≡ 64) × (different (listed l) ≡ diff
 abbrev μ-loop : tie.MeasureT-loop
 μ-loop l n i₀ i = n - i
 
-cast-n : tie.Need-cast-n Inv-loop μ-loop
-cast-n c = search needs
-
 loop-holds : tie.Need-loop-holds Inv-loop μ-loop
 loop-holds c = (search needs, refl)
-
-mul-x : tie.Need-mul-x Inv-loop μ-loop
-mul-x c = search needs
-
-element-copy-out-x : tie.Need-element-copy-out-x Inv-loop μ-loop
-element-copy-out-x c = search needs
-
-add-found-from : tie.Need-add-found-from Inv-loop μ-loop
-add-found-from c = search needs
-
-found-from-requires : tie.Need-found-from-requires Inv-loop μ-loop
-found-from-requires c κs = search needs
 
 returns : tie.Need-returns Inv-loop μ-loop
 returns c =
@@ -41,12 +26,6 @@ returns c =
     let len = a .loop .inv .0 in
     let found = c .before .found-from in
     sym (used-turn different (l .ids) (l .used) (a .loop .i) 0 (omega arith) (omega arith) (a .loop .inv .1) ∙ and-stop _ _ (ap not (sym (found .ensures) ∙ c .if1 .taken)))
-
-add-i : tie.Need-add-i Inv-loop μ-loop
-add-i c = search needs
-
-loop-less : tie.Need-loop-less Inv-loop μ-loop
-loop-less c = search needs
 
 loop-again : tie.Need-loop-again Inv-loop μ-loop
 loop-again c =
@@ -68,14 +47,14 @@ ids-different-spec =
     (tie.spec
     Inv-loop
     μ-loop
-    cast-n
+    (λ c. search needs)
     loop-holds
-    mul-x
-    element-copy-out-x
-    add-found-from
-    found-from-requires
+    (λ c. search needs)
+    (λ c. search needs)
+    (λ c. search needs)
+    (λ c κs. search needs)
     returns
-    add-i
-    loop-less
+    (λ c. search needs)
+    (λ c. search needs)
     loop-again
     returns-2)

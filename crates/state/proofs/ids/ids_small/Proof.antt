@@ -17,17 +17,8 @@ Inv-loop l n i₀ i = (length (l .ids) ≡ 64) × (every (λ x. leb x 1023) (lis
 abbrev μ-loop : tie.MeasureT-loop
 μ-loop l n i₀ i = n - i
 
-cast-n : tie.Need-cast-n Inv-loop μ-loop
-cast-n c = search needs
-
 loop-holds : tie.Need-loop-holds Inv-loop μ-loop
 loop-holds c = (search needs, refl)
-
-mul-x : tie.Need-mul-x Inv-loop μ-loop
-mul-x c = search needs
-
-element-copy-out-x : tie.Need-element-copy-out-x Inv-loop μ-loop
-element-copy-out-x c = search needs
 
 returns : tie.Need-returns Inv-loop μ-loop
 returns c =
@@ -35,12 +26,6 @@ returns c =
     let l = a .before .args .t1 in
     let len = a .loop .inv .0 in
     sym (used-turn (every (λ x. leb x 1023)) (l .ids) (l .used) (a .loop .i) 0 (omega arith) (omega arith) (a .loop .inv .1) ∙ and-stop _ _ (lt-leb _ _ (c .if1 .taken)))
-
-add-i : tie.Need-add-i Inv-loop μ-loop
-add-i c = search needs
-
-loop-less : tie.Need-loop-less Inv-loop μ-loop
-loop-less c = search needs
 
 loop-again : tie.Need-loop-again Inv-loop μ-loop
 loop-again c =
@@ -61,12 +46,12 @@ ids-small-spec =
     (tie.spec
     Inv-loop
     μ-loop
-    cast-n
+    (λ c. search needs)
     loop-holds
-    mul-x
-    element-copy-out-x
+    (λ c. search needs)
+    (λ c. search needs)
     returns
-    add-i
-    loop-less
+    (λ c. search needs)
+    (λ c. search needs)
     loop-again
     returns-2)

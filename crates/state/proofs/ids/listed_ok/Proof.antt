@@ -9,17 +9,11 @@ returns : tie.Need-returns
 unfolding listedRule
 returns c = rw (lt-leb _ _ (c .if1 .taken))
 
-ids-small-requires : tie.Need-ids-small-requires
-ids-small-requires c κs = search needs
-
 returns-2 : tie.Need-returns-2
 unfolding listedRule
 returns-2 c =
     let a1 = c .before .before in
     rw (le-leb _ _ (a1 .if1 .left), failed (c .before .ids-small .ensures) (c .if2 .taken))
-
-ids-different-requires : tie.Need-ids-different-requires
-ids-different-requires c κs = search needs
 
 returns-3 : tie.Need-returns-3
 unfolding listedRule
@@ -27,9 +21,6 @@ returns-3 c =
     let a2 = c .before .before in
     let a1 = a2 .before .before in
     rw (le-leb _ _ (a1 .if1 .left), passed (a2 .before .ids-small .ensures) (a2 .if2 .left), failed (c .before .ids-different .ensures) (c .if3 .taken))
-
-ids-end-requires : tie.Need-ids-end-requires
-ids-end-requires c κs = search needs
 
 returns-4 : tie.Need-returns-4
 unfolding listedRule
@@ -80,11 +71,11 @@ listed-ok-spec =
     tie.close
     (tie.spec
     returns
-    ids-small-requires
+    (λ c κs. search needs)
     returns-2
-    ids-different-requires
+    (λ c κs. search needs)
     returns-3
-    ids-end-requires
+    (λ c κs. search needs)
     returns-4
     returns-5
     returns-6)

@@ -22,15 +22,6 @@ loop-holds : tie.Need-loop-holds Inv-loop μ-loop
 unfolding below
 loop-holds c = (omega arith, refl)
 
-sub-v : tie.Need-sub-v Inv-loop μ-loop
-sub-v c = search needs
-
-of-level-requires : tie.Need-of-level-requires Inv-loop μ-loop
-of-level-requires c κs = search needs
-
-due-at-requires : tie.Need-due-at-requires Inv-loop μ-loop
-due-at-requires c κs = search needs
-
 returns : tie.Need-returns Inv-loop μ-loop
 returns c =
     let a = c .before .before .before .before in
@@ -38,9 +29,6 @@ returns c =
     let v = a .loop .v in
     let due : leb (dueAt (v - 1)) (ofLevel (λ q. q .level) (v - 1) (finished p)) ≡ true = le-leb _ _ (rw (c .before .before .of-level .ensures, c .before .due-at .ensures) at (c .if1 .taken)) in
     rw (a .loop .inv .1, below-pred v (omega arith), due)
-
-loop-less : tie.Need-loop-less Inv-loop μ-loop
-loop-less c = search needs
 
 loop-again : tie.Need-loop-again Inv-loop μ-loop
 loop-again c =
@@ -60,10 +48,10 @@ due-level-spec =
     Inv-loop
     μ-loop
     loop-holds
-    sub-v
-    of-level-requires
-    due-at-requires
+    (λ c. search needs)
+    (λ c κs. search needs)
+    (λ c κs. search needs)
     returns
-    loop-less
+    (λ c. search needs)
     loop-again
     returns-2)

@@ -22,15 +22,6 @@ abbrev μ-loop : tie.MeasureT-loop
 loop-holds : tie.Need-loop-holds Inv-loop μ-loop
 loop-holds c = (search (unmapped, needs), omega arith, omega arith)
 
-cast-q : tie.Need-cast-q Inv-loop μ-loop
-cast-q c = search needs
-
-mul-q : tie.Need-mul-q Inv-loop μ-loop
-mul-q c = search needs
-
-element-copy-out-q : tie.Need-element-copy-out-q Inv-loop μ-loop
-element-copy-out-q c = search needs
-
 returns : tie.Need-returns Inv-loop μ-loop
 returns c =
     let a = c .before .before .before .before in
@@ -39,12 +30,6 @@ returns c =
     let whole = used-turn (λ (l : List Partition). a .loop .i + oldestAt (λ q. q .level) (s .level) l) (s .t1 .records) (s .t1 .used) (a .loop .i) noPartition (omega arith) (omega arith) (a .loop .inv .2) in
     let e = rw (eq-eqb _ _ (c .if1 .taken)) at whole in
     omega arith
-
-add-i : tie.Need-add-i Inv-loop μ-loop
-add-i c = search needs
-
-loop-less : tie.Need-loop-less Inv-loop μ-loop
-loop-less c = search needs
 
 loop-again : tie.Need-loop-again Inv-loop μ-loop
 loop-again c =
@@ -69,11 +54,11 @@ place-of-spec =
     Inv-loop
     μ-loop
     loop-holds
-    cast-q
-    mul-q
-    element-copy-out-q
+    (λ c. search needs)
+    (λ c. search needs)
+    (λ c. search needs)
     returns
-    add-i
-    loop-less
+    (λ c. search needs)
+    (λ c. search needs)
     loop-again
     returns-2)

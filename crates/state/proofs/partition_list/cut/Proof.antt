@@ -18,9 +18,6 @@ Inv-loop p at count n t₀ i₀ t i = (at ≤ i) × (i ≤ n) × (n ≤ 51) × (
 abbrev μ-loop : tie.MeasureT-loop
 μ-loop p at count n t₀ i₀ t i = n - i
 
-cast-n : tie.Need-cast-n Inv-loop μ-loop
-cast-n c = search needs
-
 loop-holds : tie.Need-loop-holds Inv-loop μ-loop
 loop-holds c =
     let s = c .before in
@@ -29,24 +26,6 @@ loop-holds c =
     let len : length (p .records) ≡ 51 = search (unmapped, needs) in
     let fits = used-fits p (s .pre .1) len in
     (omega arith, omega arith, fits, records-form p (s .pre .1) ∙ sym (closing-none noPartition 51 (finished p) (s .args .at) (s .args .count) (omega arith) (omega arith)))
-
-add-record-at : tie.Need-add-record-at Inv-loop μ-loop
-add-record-at c = search needs
-
-record-at-requires : tie.Need-record-at-requires Inv-loop μ-loop
-record-at-requires c κs = search needs
-
-mul-q : tie.Need-mul-q Inv-loop μ-loop
-mul-q c = search needs
-
-element-set-from-q : tie.Need-element-set-from-q Inv-loop μ-loop
-element-set-from-q c = search needs
-
-add-i : tie.Need-add-i Inv-loop μ-loop
-add-i c = search needs
-
-loop-less : tie.Need-loop-less Inv-loop μ-loop
-loop-less c = search needs
 
 loop-again : tie.Need-loop-again Inv-loop μ-loop
 loop-again c =
@@ -65,9 +44,6 @@ loop-again c =
       a .loop .inv .2,
       rw (a .loop .inv .3, q) (closing-more noPartition 51 l at count (omega arith) (omega arith) i (omega arith) (omega arith)),
     )
-
-sub-t : tie.Need-sub-t Inv-loop μ-loop
-sub-t c = search needs
 
 returns : tie.Need-returns Inv-loop μ-loop
 returns c =
@@ -88,14 +64,14 @@ cut-spec =
     (tie.spec
     Inv-loop
     μ-loop
-    cast-n
+    (λ c. search needs)
     loop-holds
-    add-record-at
-    record-at-requires
-    mul-q
-    element-set-from-q
-    add-i
-    loop-less
+    (λ c. search needs)
+    (λ c κs. search needs)
+    (λ c. search needs)
+    (λ c. search needs)
+    (λ c. search needs)
+    (λ c. search needs)
     loop-again
-    sub-t
+    (λ c. search needs)
     returns)

@@ -7,15 +7,6 @@ use Rattle.state.specs.Views.{noPartition}
 use Rattle.state.proofs.partition_list.record_at.Statement.{statement}
 use Rattle.state.proofs.partition_list.record_at.Tie as tie
 
-mul-result : tie.Need-mul-result
-mul-result c = search needs
-
-element-copy-out-result : tie.Need-element-copy-out-result
-element-copy-out-result c = search needs
-
-returns : tie.Need-returns
-returns c = search needs
-
 returns-2 : tie.Need-returns-2
 returns-2 c =
     let s = c .before .args in
@@ -23,4 +14,4 @@ returns-2 c =
     sym (List·getD-eq-default (s .t1 .records) noPartition (omega arith))
 
 pub record-at-spec : {M : Type 1} → statement M
-record-at-spec = tie.close (tie.spec mul-result element-copy-out-result returns returns-2)
+record-at-spec = tie.close (tie.spec (λ c. search needs) (λ c. search needs) (λ c. search needs) returns-2)

@@ -28,9 +28,6 @@ add-cut c =
     let fits = used-fits (c .args .p) (c .pre .2) len in
     omega arith
 
-sub-cut : tie.Need-sub-cut
-sub-cut c = search needs
-
 cut-requires : tie.Need-cut-requires
 cut-requires c κs =
     let s = c .args in
@@ -44,4 +41,4 @@ returns c =
     c .cut .ensures ∙ ap partitionsOf (ap (without (s .at + 1) (s .count - 1)) now ∙ without-rest (finished (s .p)) (s .at) (s .count) (s .q) (omega arith) (omega arith))
 
 pub replace-spec : {M : Type 1} → statement M
-replace-spec = tie.close (tie.spec mul-q element-set-from-q add-cut sub-cut cut-requires returns)
+replace-spec = tie.close (tie.spec mul-q element-set-from-q add-cut (λ c. search needs) cut-requires returns)

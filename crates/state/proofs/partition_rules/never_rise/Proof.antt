@@ -18,29 +18,8 @@ Inv-loop p n i₀ i = (length (p .records) ≡ 51) × (i ≤ n) × (neverRise (f
 abbrev μ-loop : tie.MeasureT-loop
 μ-loop p n i₀ i = n - i
 
-cast-n : tie.Need-cast-n Inv-loop μ-loop
-cast-n c = search needs
-
 loop-holds : tie.Need-loop-holds Inv-loop μ-loop
 loop-holds c = (search (unmapped, needs), omega arith, refl)
-
-add-loop : tie.Need-add-loop Inv-loop μ-loop
-add-loop c = search needs
-
-mul-q : tie.Need-mul-q Inv-loop μ-loop
-mul-q c = search needs
-
-element-copy-out-q : tie.Need-element-copy-out-q Inv-loop μ-loop
-element-copy-out-q c = search needs
-
-add-later : tie.Need-add-later Inv-loop μ-loop
-add-later c = search needs
-
-mul-later : tie.Need-mul-later Inv-loop μ-loop
-mul-later c = search needs
-
-element-copy-out-later : tie.Need-element-copy-out-later Inv-loop μ-loop
-element-copy-out-later c = search needs
 
 returns : tie.Need-returns Inv-loop μ-loop
 returns c =
@@ -48,12 +27,6 @@ returns c =
     let l = a .before .args .t1 in
     let len = a .loop .inv .0 in
     sym (rise-turn (l .records) (l .used) (a .loop .i) noPartition (omega arith) (omega arith) (a .loop .inv .2) ∙ and-stop _ _ (lt-leb _ _ (c .if1 .taken)))
-
-add-i : tie.Need-add-i Inv-loop μ-loop
-add-i c = search needs
-
-loop-less : tie.Need-loop-less Inv-loop μ-loop
-loop-less c = search needs
 
 loop-again : tie.Need-loop-again Inv-loop μ-loop
 loop-again c =
@@ -74,16 +47,16 @@ never-rise-spec =
     (tie.spec
     Inv-loop
     μ-loop
-    cast-n
+    (λ c. search needs)
     loop-holds
-    add-loop
-    mul-q
-    element-copy-out-q
-    add-later
-    mul-later
-    element-copy-out-later
+    (λ c. search needs)
+    (λ c. search needs)
+    (λ c. search needs)
+    (λ c. search needs)
+    (λ c. search needs)
+    (λ c. search needs)
     returns
-    add-i
-    loop-less
+    (λ c. search needs)
+    (λ c. search needs)
     loop-again
     returns-2)

@@ -9,17 +9,11 @@ returns : tie.Need-returns
 unfolding partitionsRule
 returns c = rw (lt-leb _ _ (c .if1 .taken))
 
-records-ok-requires : tie.Need-records-ok-requires
-records-ok-requires c κs = search needs
-
 returns-2 : tie.Need-returns-2
 unfolding partitionsRule
 returns-2 c =
     let a1 = c .before .before in
     rw (le-leb _ _ (a1 .if1 .left), failed (c .before .records-ok .ensures) (c .if2 .taken))
-
-never-rise-requires : tie.Need-never-rise-requires
-never-rise-requires c κs = search needs
 
 returns-3 : tie.Need-returns-3
 unfolding partitionsRule
@@ -27,9 +21,6 @@ returns-3 c =
     let a2 = c .before .before in
     let a1 = a2 .before .before in
     rw (le-leb _ _ (a1 .if1 .left), passed (a2 .before .records-ok .ensures) (a2 .if2 .left), failed (c .before .never-rise .ensures) (c .if3 .taken))
-
-levels-within-requires : tie.Need-levels-within-requires
-levels-within-requires c κs = search needs
 
 returns-4 : tie.Need-returns-4
 unfolding partitionsRule
@@ -43,9 +34,6 @@ returns-4 c =
       passed (a3 .before .never-rise .ensures) (a3 .if3 .left),
       failed (c .before .levels-within .ensures) (c .if4 .taken),
     )
-
-records-end-requires : tie.Need-records-end-requires
-records-end-requires c κs = search needs
 
 returns-5 : tie.Need-returns-5
 unfolding partitionsRule
@@ -67,11 +55,11 @@ partitions-ok-spec =
     tie.close
     (tie.spec
     returns
-    records-ok-requires
+    (λ c κs. search needs)
     returns-2
-    never-rise-requires
+    (λ c κs. search needs)
     returns-3
-    levels-within-requires
+    (λ c κs. search needs)
     returns-4
-    records-end-requires
+    (λ c κs. search needs)
     returns-5)

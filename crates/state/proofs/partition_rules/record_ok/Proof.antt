@@ -8,9 +8,6 @@ returns : tie.Need-returns
 unfolding recordRule
 returns c = rw (lt-leb _ _ (c .if1 .taken))
 
-mul-result : tie.Need-mul-result
-mul-result c = search needs
-
 returns-2 : tie.Need-returns-2
 unfolding recordRule
 returns-2 c =
@@ -18,4 +15,4 @@ returns-2 c =
     rw (le-leb _ _ (a1 .if1 .left))
 
 pub record-ok-spec : {M : Type 1} → statement M
-record-ok-spec = tie.close (tie.spec returns mul-result returns-2)
+record-ok-spec = tie.close (tie.spec returns (λ c. search needs) returns-2)

@@ -17,20 +17,8 @@ Inv-loop p i₀ i = (length (p .records) ≡ 51) × (every unusedRecord (drop (p
 abbrev μ-loop : tie.MeasureT-loop
 μ-loop p i₀ i = 51 - i
 
-cast-i : tie.Need-cast-i Inv-loop μ-loop
-cast-i c = search needs
-
 loop-holds : tie.Need-loop-holds Inv-loop μ-loop
 loop-holds c = (search (unmapped, needs), refl)
-
-mul-q : tie.Need-mul-q Inv-loop μ-loop
-mul-q c = search needs
-
-element-copy-out-q : tie.Need-element-copy-out-q Inv-loop μ-loop
-element-copy-out-q c = search needs
-
-record-unused-requires : tie.Need-record-unused-requires Inv-loop μ-loop
-record-unused-requires c κs = search needs
 
 returns : tie.Need-returns Inv-loop μ-loop
 returns c =
@@ -39,12 +27,6 @@ returns c =
     let len = a .loop .inv .0 in
     let ok = c .before .record-unused in
     sym (turn (every unusedRecord) (s .t1 .records) (a .loop .i) noPartition (omega arith) (a .loop .inv .1) ∙ and-stop _ _ (failed (ok .ensures) (c .if1 .taken)))
-
-add-i : tie.Need-add-i Inv-loop μ-loop
-add-i c = search needs
-
-loop-less : tie.Need-loop-less Inv-loop μ-loop
-loop-less c = search needs
 
 loop-again : tie.Need-loop-again Inv-loop μ-loop
 loop-again c =
@@ -66,13 +48,13 @@ records-end-spec =
     (tie.spec
     Inv-loop
     μ-loop
-    cast-i
+    (λ c. search needs)
     loop-holds
-    mul-q
-    element-copy-out-q
-    record-unused-requires
+    (λ c. search needs)
+    (λ c. search needs)
+    (λ c κs. search needs)
     returns
-    add-i
-    loop-less
+    (λ c. search needs)
+    (λ c. search needs)
     loop-again
     returns-2)

@@ -11,9 +11,6 @@ use borrow.Author.Needs.{needs}
 use Rattle.terms.proofs.counting.judge_term.Statement.{statement}
 use Rattle.terms.proofs.counting.judge_term.Tie as tie
 
-cast-n : tie.Need-cast-n
-cast-n c = search needs
-
 open-heads-requires : tie.Need-open-heads-requires
 open-heads-requires c κs =
     let s = c .before .before .before .before .before in
@@ -27,15 +24,6 @@ judge-requires c κs =
     let k = state-kept (s .args .s) (s .pre .0) in
     (o .long, k .partitions .used, o .ready)
 
-enum-told : tie.Need-enum-told
-enum-told c = search needs
-
-enum-known-told : tie.Need-enum-known-told
-enum-known-told c = search needs
-
-same-length : tie.Need-same-length
-same-length c = search needs
-
 returns : tie.Need-returns
 returns c =
     let s = c .before .before .before .before .before .before .before .before .before .before .before .before .before .before in
@@ -45,9 +33,6 @@ returns c =
     let rules = rule-each (s .args .s .windows) (buffered (s .args .s .buffer)) (k .buffer .rules) in
     let o = c .before .before .before .before .before .before .before .before .open-heads in
     sym (judged-bad (words (s .args .card .now)) (s .args .run .now) (s .args .s) (s .args .id) (o .last .1 .1 .0) (o .ensures) small few (k .buffer .order) rules (sym (c .before .before .before .before .judge .ensures) ∙ c .enum-told .given .1))
-
-same-length-2 : tie.Need-same-length-2
-same-length-2 c = search needs
 
 returns-2 : tie.Need-returns-2
 returns-2 c =
@@ -63,12 +48,12 @@ pub judge-term-spec : {M : Type 1} → statement M
 judge-term-spec =
     tie.close
     (tie.spec
-    cast-n
+    (λ c. search needs)
     open-heads-requires
     judge-requires
-    enum-told
-    enum-known-told
-    same-length
+    (λ c. search needs)
+    (λ c. search needs)
+    (λ c. search needs)
     returns
-    same-length-2
+    (λ c. search needs)
     returns-2)

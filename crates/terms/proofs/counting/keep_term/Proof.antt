@@ -19,26 +19,11 @@ use borrow.Author.Needs.{needs}
 use Rattle.terms.proofs.counting.keep_term.Statement.{statement}
 use Rattle.terms.proofs.counting.keep_term.Tie as tie
 
-cast-n : tie.Need-cast-n
-cast-n c = search needs
-
 open-heads-requires : tie.Need-open-heads-requires
 open-heads-requires c κs =
     let s = c .before .before .before .before .before .before in
     let k = state-kept (s .args .s) (s .pre .0) in
     (k .partitions .used, s .pre .4, all-readable (words (s .args .card .now)) (blocks (s .args .s)) (finished (s .args .s .partitions)) (s .pre .1) (k .lengths .mostBlocks) (s .pre .2), k .buffer .used, k .buffer .order, rule-sizes (s .args .s .windows) (buffered (s .args .s .buffer)) (k .buffer .rules), s .pre .3)
-
-sub-copy : tie.Need-sub-copy
-sub-copy c = search needs
-
-part-copy-start : tie.Need-part-copy-start
-part-copy-start c = search needs
-
-part-copy-end : tie.Need-part-copy-end
-part-copy-end c = search needs
-
-copy-requires : tie.Need-copy-requires
-copy-requires c κs = search needs
 
 judge-requires : tie.Need-judge-requires
 judge-requires c κs =
@@ -46,12 +31,6 @@ judge-requires c κs =
     let o = c .before .before .before .before .before .before .before .before .open-heads .ensures in
     let k = state-kept (s .args .s) (s .pre .0) in
     (o .long, k .partitions .used, o .ready)
-
-enum-told : tie.Need-enum-told
-enum-told c = search needs
-
-enum-known-told : tie.Need-enum-known-told
-enum-known-told c = search needs
 
 add-weigh : tie.Need-add-weigh
 add-weigh c = let s = c .before .before .before .before .before .before .before .before .before .before .before .before .before .before .before .before .before .before .before .before .before .before in let k = state-kept (s .args .s) (s .pre .0) in omega (arith, k .partitions .used)
@@ -92,15 +71,6 @@ weigh-requires c κs =
     let d = copied W R n H G P (s .pre .5) (o .ensures .long) (c .before .before .before .before .before .before .before .before .before .before .copy .ensures) (o .ensures .ready) in
     (d .0, omega (arith, k .partitions .used), d .1)
 
-sub-total-left : tie.Need-sub-total-left
-sub-total-left c = search needs
-
-part-total-left-start : tie.Need-part-total-left-start
-part-total-left-start c = search needs
-
-part-total-left-end : tie.Need-part-total-left-end
-part-total-left-end c = search needs
-
 add-total-left : tie.Need-add-total-left
 add-total-left c = let s = c .before .before .before .before .before .before .before .before .before .before .before .before .before .before .before .before .before .before .before .before .before .before .before .before .before .before .before in let k = state-kept (s .args .s) (s .pre .0) in omega (arith, k .partitions .used)
 
@@ -126,12 +96,6 @@ total-left-requires c κs =
     let f = all-fall (words (s .args .card .now)) (s .args .run .now) (s .args .s) (s .args .id) H (o .ensures) small few (k .buffer .order) rules _ told in
     rw (rest-two (w .last .1 .1 .0) two) (omega (arith, length-drop 2 (w .last .1 .1 .0), w .ensures .0 .long), omega (arith, k .partitions .used), w .ensures .0 .heads, ap (λ (g : Group). allFall 65536 g) (l .1) ∙ f)
 
-same-length : tie.Need-same-length
-same-length c = search needs
-
-same-length-2 : tie.Need-same-length-2
-same-length-2 c = search needs
-
 returns : tie.Need-returns
 returns c =
     let s = c .before .before .before .before .before .before .before .before .before .before .before .before .before .before .before .before .before .before .before .before in
@@ -142,12 +106,6 @@ returns c =
     let o = c .before .before .before .before .before .before .before .before .before .before .before .before .before .open-heads in
     let bad = judged-bad (words (s .args .card .now)) (s .args .run .now) (s .args .s) (s .args .id) (o .last .1 .1 .0) (o .ensures) small few (k .buffer .order) rules (sym (c .before .before .before .before .judge .ensures) ∙ c .enum-told .given .1) in
     record { fine = sym bad; kept = λ y. never y; term = λ y. never y; taken = λ y. never y; few = omega arith }
-
-same-length-3 : tie.Need-same-length-3
-same-length-3 c = search needs
-
-same-length-4 : tie.Need-same-length-4
-same-length-4 c = search needs
 
 returns-2 : tie.Need-returns-2
 returns-2 c =
@@ -181,26 +139,26 @@ pub keep-term-spec : {M : Type 1} → statement M
 keep-term-spec =
     tie.close
     (tie.spec
-    cast-n
+    (λ c. search needs)
     open-heads-requires
-    sub-copy
-    part-copy-start
-    part-copy-end
-    copy-requires
+    (λ c. search needs)
+    (λ c. search needs)
+    (λ c. search needs)
+    (λ c κs. search needs)
     judge-requires
-    enum-told
-    enum-known-told
+    (λ c. search needs)
+    (λ c. search needs)
     add-weigh
     cast-weigh
     weigh-requires
-    sub-total-left
-    part-total-left-start
-    part-total-left-end
+    (λ c. search needs)
+    (λ c. search needs)
+    (λ c. search needs)
     add-total-left
     total-left-requires
-    same-length
-    same-length-2
+    (λ c. search needs)
+    (λ c. search needs)
     returns
-    same-length-3
-    same-length-4
+    (λ c. search needs)
+    (λ c. search needs)
     returns-2)

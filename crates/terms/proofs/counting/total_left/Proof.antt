@@ -40,12 +40,6 @@ add-total c =
     let test = c .before .loop-test .taken in
     omega (arith, left-few (words (s .args .card .now)) (s .args .run .now) (s .args .heads .now) (s .args .m) (s .pre .2) (s .pre .3) (a .loop .i) test, a .loop .inv .2, s .pre .1)
 
-add-i : tie.Need-add-i Inv-loop μ-loop
-add-i c = omega arith
-
-loop-less : tie.Need-loop-less Inv-loop μ-loop
-loop-less c = omega arith
-
 loop-again : tie.Need-loop-again Inv-loop μ-loop
 loop-again c =
     let a = c .before .before in
@@ -72,7 +66,7 @@ total-left-spec =
     mul-total
     shared-slice-read-total
     add-total
-    add-i
-    loop-less
+    (λ c. omega arith)
+    (λ c. omega arith)
     loop-again
     returns)

@@ -10,15 +10,6 @@ use borrow.Author.Needs.{needs}
 use Rattle.terms.proofs.counting.weigh.Statement.{statement}
 use Rattle.terms.proofs.counting.weigh.Tie as tie
 
-sub-top-key : tie.Need-sub-top-key
-sub-top-key c = search needs
-
-part-top-key-start : tie.Need-part-top-key-start
-part-top-key-start c = search needs
-
-part-top-key-end : tie.Need-part-top-key-end
-part-top-key-end c = search needs
-
 top-key-requires : tie.Need-top-key-requires
 top-key-requires c κs =
     let s = c .before .before .before .before .before in
@@ -26,17 +17,8 @@ top-key-requires c κs =
     let two : 2 ≤ length G = omega (arith, s .pre .0) in
     (rw (rest-two G two) (omega (arith, length-drop 2 G, s .pre .0)), omega (arith, s .pre .1), rw (rest-two G two) (s .pre .2))
 
-slice-write-group : tie.Need-slice-write-group
-slice-write-group c = search needs
-
-idf-weight-requires : tie.Need-idf-weight-requires
-idf-weight-requires c κs = search needs
-
 slice-write-group-2 : tie.Need-slice-write-group-2
 slice-write-group-2 c = let s = c .before .before .before .before .before .before .before in lt-length-set (s .args .group .now) 0 (c .before .top-key .result) (omega (arith, s .pre .0))
-
-same-length : tie.Need-same-length
-same-length c = search needs
 
 returns : tie.Need-returns
 returns c =
@@ -49,12 +31,12 @@ pub weigh-spec : {M : Type 1} → statement M
 weigh-spec =
     tie.close
     (tie.spec
-    sub-top-key
-    part-top-key-start
-    part-top-key-end
+    (λ c. search needs)
+    (λ c. search needs)
+    (λ c. search needs)
     top-key-requires
-    slice-write-group
-    idf-weight-requires
+    (λ c. search needs)
+    (λ c κs. search needs)
     slice-write-group-2
-    same-length
+    (λ c. search needs)
     returns)

@@ -40,9 +40,6 @@ returns c =
     let v = a .loop .inv in
     sym (v .4 ∙ too-high (a .loop .bound) (a .loop .count) gs (omega (arith, v .2, c .if1 .taken)))
 
-sub-w : tie.Need-sub-w Inv-loop μ-loop
-sub-w c = omega arith
-
 judge-window-requires : tie.Need-judge-window-requires Inv-loop μ-loop
 judge-window-requires c κs =
     let a = c .before .before .before in
@@ -67,12 +64,6 @@ returns-2 c =
     let t = c .before .before .before .judge-window in
     sym (v .4 ∙ faulty (a .loop .bound) (a .loop .count) k gs high low (sym (t .ensures .1 .0) ∙ not-true _ (c .if2 .taken)))
 
-add-count : tie.Need-add-count Inv-loop μ-loop
-add-count c = omega arith
-
-loop-less : tie.Need-loop-less Inv-loop μ-loop
-loop-less c = omega arith
-
 loop-again : tie.Need-loop-again Inv-loop μ-loop
 loop-again c =
     let a = c .before .before .before .before .before .before .before .before in
@@ -89,9 +80,6 @@ loop-again c =
     let f = sym (t .ensures .1 .0) ∙ not-false _ (c .before .if2 .left) in
     let b = sym (t .ensures .1 .1) ∙ c .if3 .taken in
     (t .ensures .0 .0 ∙ v .0, t .ensures .0 .1, t .ensures .1 .2, omega (arith, v .3, below, test), v .4 ∙ counted (a .loop .bound) (a .loop .count) k gs high low f b ∙ ap (resume k (a .loop .count + 1)) (sym (t .ensures .0 .2)))
-
-loop-less-2 : tie.Need-loop-less-2 Inv-loop μ-loop
-loop-less-2 c = omega arith
 
 loop-again-2 : tie.Need-loop-again-2 Inv-loop μ-loop
 loop-again-2 c =
@@ -132,14 +120,14 @@ judge-spec =
     loop-holds
     same-length
     returns
-    sub-w
+    (λ c. omega arith)
     judge-window-requires
     same-length-2
     returns-2
-    add-count
-    loop-less
+    (λ c. omega arith)
+    (λ c. omega arith)
     loop-again
-    loop-less-2
+    (λ c. omega arith)
     loop-again-2
     same-length-3
     returns-3)

@@ -20,21 +20,6 @@ use borrow.Author.Needs.{needs}
 use Rattle.terms.proofs.judging.judge_window.Statement.{statement}
 use Rattle.terms.proofs.judging.judge_window.Tie as tie
 
-mul-at : tie.Need-mul-at
-mul-at c = search needs
-
-add-end : tie.Need-add-end
-add-end c = search needs
-
-sub-take : tie.Need-sub-take
-sub-take c = search needs
-
-part-take-start : tie.Need-part-take-start
-part-take-start c = search needs
-
-part-take-end : tie.Need-part-take-end
-part-take-end c = search needs
-
 take-requires : tie.Need-take-requires
 take-requires c κs =
     let s = c .before .before .before .before in
@@ -43,18 +28,6 @@ take-requires c κs =
     let z : 4 * n - 0 ≡ 4 * n = omega arith in
     let l = length-take-le (4 * n) H (omega (arith, s .pre .0)) in
     (rw z (omega arith), omega (arith, s .pre .1), s .pre .2, rw z (ready-front (words (s .args .card .now)) (s .args .run .now) n H (omega (arith, s .pre .0)) (s .pre .3)))
-
-mul-took : tie.Need-mul-took
-mul-took c = search needs
-
-sub-took : tie.Need-sub-took
-sub-took c = search needs
-
-part-took-start : tie.Need-part-took-start
-part-took-start c = search needs
-
-part-took-end : tie.Need-part-took-end
-part-took-end c = search needs
 
 took-requires : tie.Need-took-requires
 took-requires c κs =
@@ -74,30 +47,6 @@ added-requires c κs =
     let t = c .before .before .before .before .before .before .before .before .take in
     let fs : SFits w32 (t .result .sum) = search needs in
     rw (toZ-ofZ fs) (omega (arith, t .ensures .1 .3, s .pre .1))
-
-in-range-requires : tie.Need-in-range-requires
-in-range-requires c κs = search needs
-
-in-range-requires-2 : tie.Need-in-range-requires-2
-in-range-requires-2 c κs = search needs
-
-both-requires : tie.Need-both-requires
-both-requires c κs = search needs
-
-both-requires-2 : tie.Need-both-requires-2
-both-requires-2 c κs = search needs
-
-both-requires-3 : tie.Need-both-requires-3
-both-requires-3 c κs = search needs
-
-above-requires : tie.Need-above-requires
-above-requires c κs = search needs
-
-larger-requires : tie.Need-larger-requires
-larger-requires c κs = search needs
-
-same-length : tie.Need-same-length
-same-length c = search needs
 
 returns : tie.Need-returns
 returns c =
@@ -140,24 +89,24 @@ pub judge-window-spec : {M : Type 1} → statement M
 judge-window-spec =
     tie.close
     (tie.spec
-    mul-at
-    add-end
-    sub-take
-    part-take-start
-    part-take-end
+    (λ c. search needs)
+    (λ c. search needs)
+    (λ c. search needs)
+    (λ c. search needs)
+    (λ c. search needs)
     take-requires
-    mul-took
-    sub-took
-    part-took-start
-    part-took-end
+    (λ c. search needs)
+    (λ c. search needs)
+    (λ c. search needs)
+    (λ c. search needs)
     took-requires
     added-requires
-    in-range-requires
-    in-range-requires-2
-    both-requires
-    both-requires-2
-    both-requires-3
-    above-requires
-    larger-requires
-    same-length
+    (λ c κs. search needs)
+    (λ c κs. search needs)
+    (λ c κs. search needs)
+    (λ c κs. search needs)
+    (λ c κs. search needs)
+    (λ c κs. search needs)
+    (λ c κs. search needs)
+    (λ c. search needs)
     returns)

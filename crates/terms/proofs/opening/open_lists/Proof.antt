@@ -26,17 +26,8 @@ Inv-loop card run heads₀ id ps n i₀ heads i = (length (ps .records) ≡ 51) 
 abbrev μ-loop : tie.MeasureT-loop
 μ-loop card run heads₀ id ps n i₀ heads i = n - i
 
-cast-n : tie.Need-cast-n Inv-loop μ-loop
-cast-n c = omega arith
-
 loop-holds : tie.Need-loop-holds Inv-loop μ-loop
 loop-holds c = (search (unmapped, needs), refl, omega arith, put-first _ _ _ _ _)
-
-mul-p : tie.Need-mul-p Inv-loop μ-loop
-mul-p c = omega arith
-
-element-copy-out-p : tie.Need-element-copy-out-p Inv-loop μ-loop
-element-copy-out-p c = omega arith
 
 find-list-requires : tie.Need-find-list-requires Inv-loop μ-loop
 find-list-requires c κs =
@@ -44,33 +35,6 @@ find-list-requires c κs =
     let s = c .before .before .before .before .before .before in
     let len = a .loop .inv .0 in
     of-used (Readable (words (s .args .card .now))) noPartition (s .args .t4 .records) (s .args .t4 .used) (a .loop .i) (omega arith) (omega arith) (s .pre .2)
-
-cast-place : tie.Need-cast-place Inv-loop μ-loop
-cast-place c = omega arith
-
-mul-place : tie.Need-mul-place Inv-loop μ-loop
-mul-place c = omega arith
-
-cast-place-2 : tie.Need-cast-place-2 Inv-loop μ-loop
-cast-place-2 c = omega arith
-
-add-place : tie.Need-add-place Inv-loop μ-loop
-add-place c = omega arith
-
-mul-at : tie.Need-mul-at Inv-loop μ-loop
-mul-at c = omega arith
-
-add-end : tie.Need-add-end Inv-loop μ-loop
-add-end c = omega arith
-
-mul-put : tie.Need-mul-put Inv-loop μ-loop
-mul-put c = omega arith
-
-sub-put : tie.Need-sub-put Inv-loop μ-loop
-sub-put c = omega arith
-
-part-put-start : tie.Need-part-put-start Inv-loop μ-loop
-part-put-start c = omega arith
 
 part-put-end : tie.Need-part-put-end Inv-loop μ-loop
 part-put-end c = omega (arith, c .before .before .before .before .before .loop .inv .1, c .before .before .before .before .before .before .before .before .before .pre .1)
@@ -85,12 +49,6 @@ put-requires c κs =
     let w : 4 * i + 4 - 4 * i ≡ 4 = omega arith in
     let len = length-take-le 4 (drop (4 * i) (a .loop .heads)) (omega (arith, length-drop (4 * i) (a .loop .heads), a .loop .inv .1, s .pre .1, c .before .before .before .before .before .loop-test .taken)) in
     (rw w len, place-lies W (s .args .run .now) (l .result) (l .ensures .1))
-
-add-i : tie.Need-add-i Inv-loop μ-loop
-add-i c = omega arith
-
-loop-less : tie.Need-loop-less Inv-loop μ-loop
-loop-less c = omega arith
 
 loop-again : tie.Need-loop-again Inv-loop μ-loop
 loop-again c =
@@ -128,24 +86,24 @@ open-lists-spec =
     (tie.spec
     Inv-loop
     μ-loop
-    cast-n
+    (λ c. omega arith)
     loop-holds
-    mul-p
-    element-copy-out-p
+    (λ c. omega arith)
+    (λ c. omega arith)
     find-list-requires
-    cast-place
-    mul-place
-    cast-place-2
-    add-place
-    mul-at
-    add-end
-    mul-put
-    sub-put
-    part-put-start
+    (λ c. omega arith)
+    (λ c. omega arith)
+    (λ c. omega arith)
+    (λ c. omega arith)
+    (λ c. omega arith)
+    (λ c. omega arith)
+    (λ c. omega arith)
+    (λ c. omega arith)
+    (λ c. omega arith)
     part-put-end
     put-requires
-    add-i
-    loop-less
+    (λ c. omega arith)
+    (λ c. omega arith)
     loop-again
     same-length
     returns)

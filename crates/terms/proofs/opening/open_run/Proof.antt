@@ -11,21 +11,6 @@ use borrow.Author.Needs.{needs}
 use Rattle.terms.proofs.opening.open_run.Statement.{statement}
 use Rattle.terms.proofs.opening.open_run.Tie as tie
 
-lower-requires : tie.Need-lower-requires
-lower-requires c κs = search needs
-
-add-lower : tie.Need-add-lower
-add-lower c = search needs
-
-lower-requires-2 : tie.Need-lower-requires-2
-lower-requires-2 c κs = search needs
-
-cast-put : tie.Need-cast-put
-cast-put c = search needs
-
-add-put : tie.Need-add-put
-add-put c = search needs
-
 sub-put : tie.Need-sub-put
 sub-put c =
     let s = c .before .before .before .before .before .before in
@@ -33,17 +18,11 @@ sub-put c =
     let r = run-lies (s .args .id) (s .args .b .used) (s .args .b .postings) (omega arith) (s .pre .2) _ _ (c .before .before .lower .ensures) (c .before .lower2 .ensures) in
     omega (arith, r .0)
 
-cast-put-2 : tie.Need-cast-put-2
-cast-put-2 c = search needs
-
 put-requires : tie.Need-put-requires
 put-requires c κs =
     let s = c .before .before .before .before .before .before in
     let len : length (s .args .b .postings) ≡ 128 = search (unmapped, needs) in
     (s .pre .0, run-lies-in (words (s .args .card .now)) (s .args .run .now) (s .args .b) (s .args .id) (s .pre .4) (omega arith) (s .pre .1) (s .pre .2) (s .pre .3) _ _ (c .before .before .lower .ensures) (c .before .lower2 .ensures))
-
-same-length : tie.Need-same-length
-same-length c = search needs
 
 returns : tie.Need-returns
 returns c =
@@ -56,13 +35,13 @@ pub open-run-spec : {M : Type 1} → statement M
 open-run-spec =
     tie.close
     (tie.spec
-    lower-requires
-    add-lower
-    lower-requires-2
-    cast-put
-    add-put
+    (λ c κs. search needs)
+    (λ c. search needs)
+    (λ c κs. search needs)
+    (λ c. search needs)
+    (λ c. search needs)
     sub-put
-    cast-put-2
+    (λ c. search needs)
     put-requires
-    same-length
+    (λ c. search needs)
     returns)

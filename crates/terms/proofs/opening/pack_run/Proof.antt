@@ -21,17 +21,8 @@ Inv-loop run₀ b n i₀ run i = (length (b .postings) ≡ 128) × (i ≤ n) × 
 abbrev μ-loop : tie.MeasureT-loop
 μ-loop run₀ b n i₀ run i = n - i
 
-cast-n : tie.Need-cast-n Inv-loop μ-loop
-cast-n c = omega arith
-
 loop-holds : tie.Need-loop-holds Inv-loop μ-loop
 loop-holds c = (search (unmapped, needs), omega arith, c .before .pre .1, refl)
-
-mul-p : tie.Need-mul-p Inv-loop μ-loop
-mul-p c = omega arith
-
-element-copy-out-p : tie.Need-element-copy-out-p Inv-loop μ-loop
-element-copy-out-p c = omega arith
 
 pack-requires : tie.Need-pack-requires Inv-loop μ-loop
 pack-requires c κs =
@@ -40,18 +31,6 @@ pack-requires c κs =
     let len = a .loop .inv .0 in
     let f : SFits w16 (getD (s .args .t1 .postings) (a .loop .i) noPosting .count) = search needs in
     rw (toZ-ofZ f) (size-fits (s .args .t1 .used) (s .args .t1 .postings) (a .loop .i) (omega arith) (omega arith) (s .pre .2))
-
-mul-run : tie.Need-mul-run Inv-loop μ-loop
-mul-run c = omega arith
-
-slice-write-run : tie.Need-slice-write-run Inv-loop μ-loop
-slice-write-run c = omega arith
-
-add-i : tie.Need-add-i Inv-loop μ-loop
-add-i c = omega arith
-
-loop-less : tie.Need-loop-less Inv-loop μ-loop
-loop-less c = omega arith
 
 loop-again : tie.Need-loop-again Inv-loop μ-loop
 loop-again c =
@@ -76,15 +55,15 @@ pack-run-spec =
     (tie.spec
     Inv-loop
     μ-loop
-    cast-n
+    (λ c. omega arith)
     loop-holds
-    mul-p
-    element-copy-out-p
+    (λ c. omega arith)
+    (λ c. omega arith)
     pack-requires
-    mul-run
-    slice-write-run
-    add-i
-    loop-less
+    (λ c. omega arith)
+    (λ c. omega arith)
+    (λ c. omega arith)
+    (λ c. omega arith)
     loop-again
     same-length
     returns)

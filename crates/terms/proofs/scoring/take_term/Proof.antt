@@ -17,12 +17,6 @@ use borrow.Author.Needs.{needs}
 use Rattle.terms.proofs.scoring.take_term.Statement.{statement}
 use Rattle.terms.proofs.scoring.take_term.Tie as tie
 
-slice-read-top : tie.Need-slice-read-top
-slice-read-top c = search needs
-
-add-if1 : tie.Need-add-if1
-add-if1 c = search needs
-
 returns : tie.Need-returns
 returns c =
     let s = c .before .before .before .before .before in
@@ -33,18 +27,6 @@ returns c =
     let p = passed-over W R (s .args .m) (s .args .key) G (s .pre .0) (s .pre .3) (c .if1 .taken) in
     ((s .pre .0, p .0), (p .1, omega arith, p .2, s .pre .0 .top))
 
-slice-read-weight : tie.Need-slice-read-weight
-slice-read-weight c = search needs
-
-sub-take : tie.Need-sub-take
-sub-take c = search needs
-
-part-take-start : tie.Need-part-take-start
-part-take-start c = search needs
-
-part-take-end : tie.Need-part-take-end
-part-take-end c = search needs
-
 take-requires : tie.Need-take-requires
 take-requires c κs =
     let s = c .before .before .before .before .before .before .before in
@@ -53,9 +35,6 @@ take-requires c κs =
     let G = s .args .group .now in
     let two : 2 ≤ length G = omega (arith, s .pre .0 .long) in
     rw (rest-two G two) (omega (arith, length-drop 2 G, s .pre .0 .long), omega (arith, s .pre .1), omega (arith, s .pre .2), s .pre .0 .heads)
-
-slice-write-group : tie.Need-slice-write-group
-slice-write-group c = search needs
 
 count-of-requires : tie.Need-count-of-requires
 count-of-requires c κs =
@@ -69,17 +48,11 @@ count-of-requires c κs =
     let f : SFits w32 (t .result .sum) = search needs in
     rw (toZ-ofZ f) (ap inRange (u .1 .0) ∙ s .pre .4)
 
-tf-weight-requires : tie.Need-tf-weight-requires
-tf-weight-requires c κs = search needs
-
 mul-score : tie.Need-mul-score
 mul-score c =
     let s = c .before .before .before .before .before .before .before .before .before .before .before .before .before in
     let z = score-most (c .before .count-of .result) (getD (s .args .group .now) 1 0) (c .before .count-of .ensures .1) (s .pre .0 .light) in
     rw (c .tf-weight .ensures .0) (omega (arith, z))
-
-same-length : tie.Need-same-length
-same-length c = search needs
 
 returns-2 : tie.Need-returns-2
 returns-2 c =
@@ -108,17 +81,17 @@ pub take-term-spec : {M : Type 1} → statement M
 take-term-spec =
     tie.close
     (tie.spec
-    slice-read-top
-    add-if1
+    (λ c. search needs)
+    (λ c. search needs)
     returns
-    slice-read-weight
-    sub-take
-    part-take-start
-    part-take-end
+    (λ c. search needs)
+    (λ c. search needs)
+    (λ c. search needs)
+    (λ c. search needs)
     take-requires
-    slice-write-group
+    (λ c. search needs)
     count-of-requires
-    tf-weight-requires
+    (λ c κs. search needs)
     mul-score
-    same-length
+    (λ c. search needs)
     returns-2)

@@ -44,12 +44,6 @@ mul-take-term c =
     let e = ends (4 * s .args .m + 2) (c .before .loop .j) (s .args .g) (c .loop-test .taken) in
     omega (arith, e, s .pre .0, s .pre .1, s .pre .2)
 
-sub-take-term : tie.Need-sub-take-term Inv-loop μ-loop
-sub-take-term c = omega arith
-
-part-take-term-start : tie.Need-part-take-term-start Inv-loop μ-loop
-part-take-term-start c = omega arith
-
 part-take-term-end : tie.Need-part-take-term-end Inv-loop μ-loop
 part-take-term-end c =
     let s = c .before .before .before .before .before in
@@ -71,18 +65,6 @@ take-term-requires c κs =
 
 add-score : tie.Need-add-score Inv-loop μ-loop
 add-score c = omega (arith, c .before .before .before .take-term .ensures .1 .1, c .before .before .before .before .before .before .loop .inv .1 .few, c .before .before .before .before .before .before .loop .inv .0, c .before .before .before .before .before .before .before .before .before .before .pre .3)
-
-either-requires : tie.Need-either-requires Inv-loop μ-loop
-either-requires c κs = search needs
-
-larger-requires : tie.Need-larger-requires Inv-loop μ-loop
-larger-requires c κs = search needs
-
-add-j : tie.Need-add-j Inv-loop μ-loop
-add-j c = omega arith
-
-loop-less : tie.Need-loop-less Inv-loop μ-loop
-loop-less c = omega arith
 
 loop-again : tie.Need-loop-again Inv-loop μ-loop
 loop-again c =
@@ -124,15 +106,15 @@ take-terms-spec =
     mul-at
     add-end
     mul-take-term
-    sub-take-term
-    part-take-term-start
+    (λ c. omega arith)
+    (λ c. omega arith)
     part-take-term-end
     take-term-requires
     add-score
-    either-requires
-    larger-requires
-    add-j
-    loop-less
+    (λ c κs. search needs)
+    (λ c κs. search needs)
+    (λ c. omega arith)
+    (λ c. omega arith)
     loop-again
     same-length
     returns)

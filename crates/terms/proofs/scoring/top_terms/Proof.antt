@@ -47,15 +47,6 @@ shared-slice-read-larger c =
     let e = ends (4 * s .args .m + 2) (c .before .before .loop .j) (s .args .g) (c .before .loop-test .taken) in
     omega (arith, e, s .pre .0, s .pre .1, s .pre .2)
 
-larger-requires : tie.Need-larger-requires Inv-loop μ-loop
-larger-requires c κs = search needs
-
-add-j : tie.Need-add-j Inv-loop μ-loop
-add-j c = omega arith
-
-loop-less : tie.Need-loop-less Inv-loop μ-loop
-loop-less c = omega arith
-
 loop-again : tie.Need-loop-again Inv-loop μ-loop
 loop-again c =
     let a = c .before .before .before in
@@ -83,8 +74,8 @@ top-terms-spec =
     mul-at
     mul-larger
     shared-slice-read-larger
-    larger-requires
-    add-j
-    loop-less
+    (λ c κs. search needs)
+    (λ c. omega arith)
+    (λ c. omega arith)
     loop-again
     returns)

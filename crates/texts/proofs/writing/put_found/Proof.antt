@@ -10,15 +10,6 @@ use borrow.Author.Needs.{needs}
 use Rattle.texts.proofs.writing.put_found.Statement.{statement}
 use Rattle.texts.proofs.writing.put_found.Tie as tie
 
-put-pair-requires : tie.Need-put-pair-requires
-put-pair-requires c κs = search needs
-
-put-hits-requires : tie.Need-put-hits-requires
-put-hits-requires c κs = search needs
-
-same-length : tie.Need-same-length
-same-length c = search needs
-
 returns : tie.Need-returns
 unfolding answerText
 returns c =
@@ -30,4 +21,4 @@ returns c =
     rw e (says-all (wrote-then (u .0) (v .0)) (omega (arith, u .1, v .1, a .pre .0, a .pre .1)))
 
 pub put-found-spec : {M : Type 1} → statement M
-put-found-spec = tie.close (tie.spec put-pair-requires put-hits-requires same-length returns)
+put-found-spec = tie.close (tie.spec (λ c κs. search needs) (λ c κs. search needs) (λ c. search needs) returns)

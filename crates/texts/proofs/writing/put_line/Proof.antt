@@ -5,15 +5,6 @@ use borrow.Author.Needs.{needs}
 use Rattle.texts.proofs.writing.put_line.Statement.{statement}
 use Rattle.texts.proofs.writing.put_line.Tie as tie
 
-put-number-requires : tie.Need-put-number-requires
-put-number-requires c κs = search needs
-
-put-byte-requires : tie.Need-put-byte-requires
-put-byte-requires c κs = search needs
-
-same-length : tie.Need-same-length
-same-length c = search needs
-
 returns : tie.Need-returns
 returns c =
     let x = c .before .before .put-byte in
@@ -21,4 +12,4 @@ returns c =
     says-all (wrote-then (u .ensures .0) (x .ensures)) (omega (arith, u .ensures .1, x .ensures .count, c .before .before .before .before .before .before .before .before .before .pre))
 
 pub put-line-spec : {M : Type 1} → statement M
-put-line-spec = tie.close (tie.spec put-number-requires put-byte-requires same-length returns)
+put-line-spec = tie.close (tie.spec (λ c κs. search needs) (λ c κs. search needs) (λ c. search needs) returns)

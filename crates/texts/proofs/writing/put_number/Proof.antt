@@ -1,5 +1,5 @@
 -- `texts::writing::put_number` meets its contract.
-use mathlib.Core.Path.{sym, _∙_}
+use mathlib.Core.Path.{_∙_}
 use native.Mathlib.Omega.{arith}
 use Rattle.texts.proofs.Decimals.{fewest-decimal, few-digits}
 use Rattle.texts.proofs.Appending.{wrote-as}
@@ -7,23 +7,11 @@ use borrow.Author.Needs.{needs}
 use Rattle.texts.proofs.writing.put_number.Statement.{statement}
 use Rattle.texts.proofs.writing.put_number.Tie as tie
 
-decimal-requires : tie.Need-decimal-requires
-decimal-requires c κs = search needs
-
-array-share-prefix-digits : tie.Need-array-share-prefix-digits
-array-share-prefix-digits c = search needs
-
-slice-aggregate-put-bytes : tie.Need-slice-aggregate-put-bytes
-slice-aggregate-put-bytes c = search needs
-
 put-bytes-requires : tie.Need-put-bytes-requires
 put-bytes-requires c κs =
     let d = c .before .before .decimal in
     let a = c .before .before .before .before .before in
     omega (arith, few-digits (d .result) (a .args .value) (d .ensures .1 .0) (omega arith), d .ensures .0 .1, a .pre)
-
-same-length : tie.Need-same-length
-same-length c = search needs
 
 returns : tie.Need-returns
 returns c =
@@ -38,9 +26,9 @@ pub put-number-spec : {M : Type 1} → statement M
 put-number-spec =
     tie.close
     (tie.spec
-    decimal-requires
-    array-share-prefix-digits
-    slice-aggregate-put-bytes
+    (λ c κs. search needs)
+    (λ c. search needs)
+    (λ c. search needs)
     put-bytes-requires
-    same-length
+    (λ c. search needs)
     returns)

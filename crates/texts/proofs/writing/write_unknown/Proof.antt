@@ -6,15 +6,6 @@ use borrow.Author.Needs.{needs}
 use Rattle.texts.proofs.writing.write_unknown.Statement.{statement}
 use Rattle.texts.proofs.writing.write_unknown.Tie as tie
 
-put-byte-requires : tie.Need-put-byte-requires
-put-byte-requires c κs = search needs
-
-put-byte-requires-2 : tie.Need-put-byte-requires-2
-put-byte-requires-2 c κs = search needs
-
-same-length : tie.Need-same-length
-same-length c = search needs
-
 returns : tie.Need-returns
 unfolding unknownText
 returns c =
@@ -23,4 +14,4 @@ returns c =
     says-all (wrote-then (v .ensures) (x .ensures)) (omega (arith, v .ensures .count, x .ensures .count, c .before .before .before .before .before .before .before .before .before .pre))
 
 pub write-unknown-spec : {M : Type 1} → statement M
-write-unknown-spec = tie.close (tie.spec put-byte-requires put-byte-requires-2 same-length returns)
+write-unknown-spec = tie.close (tie.spec (λ c κs. search needs) (λ c κs. search needs) (λ c. search needs) returns)

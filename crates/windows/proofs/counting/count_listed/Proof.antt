@@ -9,9 +9,6 @@ use Rattle.state.specs.Views.{listed}
 use Rattle.windows.proofs.counting.count_listed.Statement.{statement}
 use Rattle.windows.proofs.counting.count_listed.Tie as tie
 
-is-listed-requires : tie.Need-is-listed-requires
-is-listed-requires c κs = search needs
-
 returns : tie.Need-returns
 returns c =
     let a = c .before .before in
@@ -36,4 +33,4 @@ returns-2 c =
     rw e (c .list-id .ensures)
 
 pub count-listed-spec : {M : Type 1} → statement M
-count-listed-spec = tie.close (tie.spec is-listed-requires returns list-id-requires returns-2)
+count-listed-spec = tie.close (tie.spec (λ c κs. search needs) returns list-id-requires returns-2)

@@ -20,9 +20,6 @@ add-live c =
     ⊎-elim (λ (h : Shut w). absurd (omega (arith, h .number, a .pre .1))) (λ (o : Opened w). o .uncounted (c .if1 .taken)) (k .window) in
     search needs
 
-add-t4 : tie.Need-add-t4
-add-t4 c = search needs
-
 returns : tie.Need-returns
 returns c =
     let j = c .before in
@@ -32,4 +29,4 @@ returns c =
     rw (live, add-one (w .events))
 
 pub count-window-spec : {M : Type 1} → statement M
-count-window-spec = tie.close (tie.spec add-live add-t4 returns)
+count-window-spec = tie.close (tie.spec add-live (λ c. search needs) returns)

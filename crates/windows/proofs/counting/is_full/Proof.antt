@@ -9,9 +9,6 @@ use Rattle.state.specs.Views.{listed}
 use Rattle.windows.proofs.counting.is_full.Statement.{statement}
 use Rattle.windows.proofs.counting.is_full.Tie as tie
 
-is-listed-requires : tie.Need-is-listed-requires
-is-listed-requires c κs = search needs
-
 returns : tie.Need-returns
 returns c =
     let a = c .before .before in
@@ -28,4 +25,4 @@ returns-2 c =
     rw (e, length-take-le (l .used) (l .ids) (omega (arith, a .pre)))
 
 pub is-full-spec : {M : Type 1} → statement M
-is-full-spec = tie.close (tie.spec is-listed-requires returns returns-2)
+is-full-spec = tie.close (tie.spec (λ c κs. search needs) returns returns-2)

@@ -9,15 +9,9 @@ use Rattle.windows.specs.Calls.{eventOf}
 use Rattle.windows.proofs.counting.judge_event.Statement.{statement}
 use Rattle.windows.proofs.counting.judge_event.Tie as tie
 
-state-ok-requires : tie.Need-state-ok-requires
-state-ok-requires c κs = search needs
-
 returns : tie.Need-returns
 unfolding eventOf refuseIf
 returns c = rw (sym (c .before .state-ok .ensures) ∙ not-true _ (c .if1 .taken))
-
-cast-if2 : tie.Need-cast-if2
-cast-if2 c = search needs
 
 returns-2 : tie.Need-returns-2
 unfolding eventOf refuseIf
@@ -25,9 +19,6 @@ returns-2 c =
     let one = c .before .before in
     let a = one .before .before .before .before .before .args in
     rw (sym (one .before .state-ok .ensures) ∙ not-false _ (one .if1 .left), ne-eqb (length (a .card .now)) (a .s .lengths .card) (c .if2 .taken))
-
-cast-if3 : tie.Need-cast-if3
-cast-if3 c = search needs
 
 returns-3 : tie.Need-returns-3
 unfolding eventOf refuseIf
@@ -52,9 +43,6 @@ returns-4 c =
     let one = two .before .before in
     let a = one .before .before .before .before .before .args in
     rw (sym (one .before .state-ok .ensures) ∙ not-false _ (one .if1 .left), eq-eqb (length (a .card .now)) (a .s .lengths .card) (two .if2 .left), eq-eqb (length (a .register .now)) (a .s .lengths .register) (three .if3 .left), sym (c .before .register-ok .ensures) ∙ not-true _ (c .if4 .taken))
-
-bad-length-requires : tie.Need-bad-length-requires
-bad-length-requires c κs = search needs
 
 returns-5 : tie.Need-returns-5
 unfolding eventOf refuseIf
@@ -88,15 +76,15 @@ pub judge-event-spec : {M : Type 1} → statement M
 judge-event-spec =
     tie.close
     (tie.spec
-    state-ok-requires
+    (λ c κs. search needs)
     returns
-    cast-if2
+    (λ c. search needs)
     returns-2
-    cast-if3
+    (λ c. search needs)
     returns-3
     register-ok-requires
     returns-4
-    bad-length-requires
+    (λ c κs. search needs)
     returns-5
     judge-turn-requires
     returns-6)

@@ -33,9 +33,6 @@ returns-2 c =
     let s = a .args .s in
     rw (a .pre .0, same, a .pre .2, a .pre .3, ne-eqb (s .windows .current) 0 (b .if1 .left), le-leb 32767 (s .windows .events) (c .if2 .taken))
 
-find-requires : tie.Need-find-requires
-find-requires c κs = search needs
-
 returns-3 : tie.Need-returns-3
 unfolding eventOf refuseIf
 returns-3 c =
@@ -116,7 +113,7 @@ judge-turn-spec =
     (tie.spec
     returns
     returns-2
-    find-requires
+    (λ c κs. search needs)
     returns-3
     cast-is-full
     is-full-requires

@@ -15,9 +15,6 @@ returns c =
     let long : length (b .postings) ≡ 128 = search (unmapped, needs) in
     rw (length-take-le (b .used) (b .postings) (omega (arith, a .pre)), ne-eqb (b .used) 128 (c .if1 .taken))
 
-holds-pair-requires : tie.Need-holds-pair-requires
-holds-pair-requires c κs = search needs
-
 returns-2 : tie.Need-returns-2
 returns-2 c =
     let d = c .before in
@@ -27,4 +24,4 @@ returns-2 c =
     rw (length-take-le (b .used) (b .postings) (omega (arith, a .pre)), eq-eqb (b .used) 128 (d .if1 .left), c .holds-pair .ensures)
 
 pub must-flush-spec : {M : Type 1} → statement M
-must-flush-spec = tie.close (tie.spec returns holds-pair-requires returns-2)
+must-flush-spec = tie.close (tie.spec returns (λ c κs. search needs) returns-2)

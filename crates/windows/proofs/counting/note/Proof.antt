@@ -8,15 +8,6 @@ use Rattle.identifiers.specs.Register.{names}
 use Rattle.windows.proofs.counting.note.Statement.{statement}
 use Rattle.windows.proofs.counting.note.Tie as tie
 
-used-entries-requires : tie.Need-used-entries-requires
-used-entries-requires c κs = search needs
-
-add-requires : tie.Need-add-requires
-add-requires c κs = search needs
-
-same-length : tie.Need-same-length
-same-length c = search needs
-
 returns : tie.Need-returns
 returns c =
     let d = c .before .before in
@@ -25,9 +16,6 @@ returns c =
     let m = names (a .args .register .now) in
     let h : length m ≤ numberOf m (a .args .id .now) = omega (arith, b .if1 .taken, b .before .used-entries .ensures, a .pre .2) in
     rw (le-leb (length m) (numberOf m (a .args .id .now)) h) (d .add .ensures)
-
-same-length-2 : tie.Need-same-length-2
-same-length-2 c = search needs
 
 returns-2 : tie.Need-returns-2
 returns-2 c =
@@ -39,4 +27,4 @@ returns-2 c =
 pub note-spec : {M : Type 1} → statement M
 note-spec =
     tie.close
-    (tie.spec used-entries-requires add-requires same-length returns same-length-2 returns-2)
+    (tie.spec (λ c κs. search needs) (λ c κs. search needs) (λ c. search needs) returns (λ c. search needs) returns-2)

@@ -38,12 +38,6 @@ list-flush-requires c κs =
     let k = state-kept s (a .pre .0) .partitions in
     (k .used, room-left (blocks s) (s .partitions) k (a .pre .2 .room), k .form)
 
-empty-buffer-requires : tie.Need-empty-buffer-requires
-empty-buffer-requires c κs = search needs
-
-same-length : tie.Need-same-length
-same-length c = search needs
-
 returns : tie.Need-returns
 unfolding flushedTo flushedCard
 returns c =
@@ -57,6 +51,6 @@ flush-to-spec =
     flush-length-requires
     write-flush-requires
     list-flush-requires
-    empty-buffer-requires
-    same-length
+    (λ c κs. search needs)
+    (λ c. search needs)
     returns)

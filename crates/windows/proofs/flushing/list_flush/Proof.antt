@@ -13,8 +13,5 @@ append-requires c κs =
     let long : length (p .records) ≡ 51 = search (unmapped, needs) in
     (omega (arith, c .pre .1, length-take-le (p .used) (p .records) (omega (arith, c .pre .0))), c .pre .2 long)
 
-returns : tie.Need-returns
-returns c = search needs
-
 pub list-flush-spec : {M : Type 1} → statement M
-list-flush-spec = tie.close (tie.spec append-requires returns)
+list-flush-spec = tie.close (tie.spec append-requires (λ c. search needs))

@@ -59,12 +59,6 @@ finished-blocks-requires c κs =
     let a = c .before .before .before .before .before .before .before in
     state-kept (a .args .s) (a .pre .0) .partitions .used
 
-mul-if4 : tie.Need-mul-if4
-mul-if4 c = search needs
-
-add-if4 : tie.Need-add-if4
-add-if4 c = search needs
-
 returns-4 : tie.Need-returns-4
 returns-4 c =
     let e = c .before .before .before in
@@ -82,12 +76,6 @@ next-free-requires c κs =
     let a = c .before .before .before .before .before .before .before .before .before in
     let k = state-kept (a .args .s) (a .pre .0) in
     (omega (arith, length-words (a .args .card .now), k .lengths .card, a .pre .1), k .lengths .mostBlocks, omega (arith, k .taken))
-
-enum-known-free : tie.Need-enum-known-free
-enum-known-free c = search needs
-
-enum-told : tie.Need-enum-told
-enum-told c = search needs
 
 returns-5 : tie.Need-returns-5
 returns-5 c =
@@ -129,11 +117,11 @@ target-of-spec =
     of-level-requires
     returns-3
     finished-blocks-requires
-    mul-if4
-    add-if4
+    (λ c. search needs)
+    (λ c. search needs)
     returns-4
     next-free-requires
-    enum-known-free
-    enum-told
+    (λ c. search needs)
+    (λ c. search needs)
     returns-5
     returns-6)
