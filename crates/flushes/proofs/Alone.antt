@@ -1,17 +1,15 @@
 -- A free block whose link names none is a chain of one: a partition written along it is stored.
 use mathlib.Core.Bool.{true}
 use mathlib.Core.List.{List, [], _∷_, map}
-use mathlib.Core.Path.{_≡_, refl, ap, _∙_}
-use Prim.Native.Nat.{ℕ, _+_, _-_, _*_, _/_, _≤_}
+use mathlib.Core.Path.{_≡_, refl, _∙_}
+use Prim.Native.Nat.{ℕ, _+_, _*_, _≤_}
 use native.Mathlib.Omega.{arith}
 use lib.Dec.{ltb, leb}
-use lib.ListN.{length, set, take, drop, length-map}
-use lib.Seq.{sets}
+use lib.ListN.{length, set}
 use borrow.Author.Tests.{lt-ltb}
 use Rattle.lists.specs.All.{AllOf}
 use Rattle.lists.specs.Lists.{every}
 use Rattle.lists.proofs.Bools.{and-both}
-use Rattle.lists.proofs.Sets.{sets-back}
 use Rattle.words.specs.Words.{words}
 use Rattle.words.proofs.Views.{length-words}
 use Rattle.postings.specs.declared.Posting.{Posting}
@@ -33,12 +31,6 @@ use Rattle.outputs.proofs.Whole.{partition-stored}
 pub alone-chained : (c c′ : List ℕ) (b : ℕ) → length c′ ≡ length c → InCard (words c) b → Chained (words c′) b 1
 unfolding AllOf chain
 alone-chained c c′ b e g = (record { few = g .few; inside = omega (arith, g .inside, length-words c, length-words c′) }, tt)
-
--- the words that were packed into an array of 128, at most as many
-pub packed-words : (z : List ℕ) (ps : List Posting) (n : ℕ) → length z ≡ 128 → length ps ≡ n → n ≤ 128 → take (n - 0) (sets z 0 (map wordOf ps)) ≡ map wordOf ps
-packed-words z ps n l e h =
-    let m : n - 0 ≡ n = omega arith in
-    rw m (sets-back z 0 n (map wordOf ps) (length-map ps wordOf ∙ e) (omega arith))
 
 module _ (W : List ℕ) (n b : ℕ) (ps : List Posting) (long : length W ≡ 1024 * n) (g : InCard W b) (free : isFree W b ≡ true) (few : length ps ≤ 128)
     (o : ordered ps ≡ true) (small : every (λ p. leb (p .id) 1023) ps ≡ true) where

@@ -1,3 +1,3 @@
-pub mod Filling
+pub mod Counting
 pub mod Alone
 pub mod Flushed

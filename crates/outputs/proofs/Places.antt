@@ -1,5 +1,5 @@
--- A place to write at, moved along a chain of blocks.
-use mathlib.Core.Bool.{true, _&&_}
+-- The block to write to, found along a chain.
+use mathlib.Core.Bool.{true, false, _&&_}
 use mathlib.Core.List.{List}
 use mathlib.Core.Logic.{_⊎_, inl, inr, ⊎-elim}
 use mathlib.Core.Path.{_≡_, refl, ap, _∙_}
@@ -7,18 +7,17 @@ use Prim.Native.Nat.{ℕ, zero, suc, _+_, _-_, _*_, _/_, _%_, _<_, _≤_}
 use native.Mathlib.Omega.{arith}
 use lib.Dec.{eqb, ltb}
 use lib.ListN.{getD}
-use borrow.Author.Tests.{eqb-true, eqb-false}
+use borrow.Author.Tests.{eqb-true, eqb-false, ltb-true, ltb-false}
 use Rattle.lists.specs.Lists.{every}
 use Rattle.lists.proofs.Arrays.{of-at}
-use Rattle.lists.proofs.Bools.{by-test}
+use Rattle.lists.proofs.Bools.{by-test, and-left, and-right}
 use Rattle.words.specs.Words.{allOnes}
 use Rattle.card.specs.Blocks.{link}
 use Rattle.card.specs.Chains.{chain}
 use Rattle.card.specs.declared.Cursor.{Cursor}
 use Rattle.card.specs.Cursors.{InCard, Chained, aheadAt, ahead, movedOf}
 use Rattle.card.proofs.Links.{length-chain, chain-next}
-use Rattle.outputs.specs.declared.Place.{Place}
-use Rattle.outputs.specs.Contents.{spotOf, At, nextPlace}
+use Rattle.outputs.specs.Contents.{reached, entered}
 
 -- after whole blocks of a chain were passed over, k words are still to go to word o
 pub record Going (W : List ℕ) (first n o k b : ℕ) : Type 0 where
@@ -65,49 +64,35 @@ module _ (W : List ℕ) (first n : ℕ) (g : Chained W first n) where
           some = inr (omega arith);
         }
 
-    -- at the end the place is found
-    pub going-end : (p : Place) → k ≤ 1023 → p .block ≡ b → p .word ≡ k → At bs o p
-    going-end p h x y =
+    -- at the end the block is found
+    pub going-end : k ≤ 1023 → b ≡ reached bs o
+    going-end h =
         let e : (o - k) / 1023 ≡ (o - 1) / 1023 = ⊎-elim (λ z. omega (arith, w .most, w .whole)) (λ z. omega (arith, w .most, w .whole)) (w .some) in
-        record { block = x ∙ w .block ∙ ap (λ (j : ℕ). getD bs j 0) e; word = y ∙ ⊎-elim (λ z. omega (arith, w .most, w .whole)) (λ z. omega (arith, w .most, w .whole)) (w .some) }
+        w .block ∙ ap (λ (j : ℕ). getD bs j 0) e
 
-  -- a place before word k
-  module _ (k : ℕ) (p : Place) (h : k < 1023 * n) (a : At bs k p) where
-    pub word-most : p .word ≤ 1023
-    word-most = omega (arith, a .word)
+  -- the first k words reach block b, and there is room for word k
+  module _ (k b : ℕ) (h : k < 1023 * n) (a : b ≡ reached bs k) where
+    pub reached-in : InCard W b
+    reached-in = rw a (in-at ((k - 1) / 1023) (omega arith))
 
-    pub place-in : InCard W (p .block)
-    place-in = rw (a .block) (in-at ((k - 1) / 1023) (omega arith))
+    -- the block of word k
+    pub entered-at : entered W b k ≡ getD bs (k / 1023) 0
+    entered-at =
+        by-test (ltb 0 k && eqb (k % 1023) 0)
+        (λ y. let p = ltb-true 0 k (and-left (ltb 0 k) _ y) in
+        let q = eqb-true (k % 1023) 0 (and-right (ltb 0 k) _ y) in
+        let e : suc ((k - 1) / 1023) ≡ k / 1023 = omega arith in
+        rw (y, a, ← e) (chain-next W first n ((k - 1) / 1023) (omega arith)))
+        (λ y. let e : (k - 1) / 1023 ≡ k / 1023 = same y in rw (y, ← e) a)
+      where
+        same : (ltb 0 k && eqb (k % 1023) 0) ≡ false → (k - 1) / 1023 ≡ k / 1023
+        same y =
+            by-test (ltb 0 k)
+            (λ p. let q = eqb-false (k % 1023) 0 (rw p at y) in omega (arith, q, ltb-true 0 k p))
+            (λ p. omega (arith, ltb-false 0 k p))
 
-    next-block : nextPlace W p .block ≡ getD bs (k / 1023) 0
-    next-block =
-        by-test (eqb (p .word) 1023)
-        (λ y. let q = eqb-true (p .word) 1023 y in
-        let e : suc ((k - 1) / 1023) ≡ k / 1023 = omega (arith, a .word) in
-        rw (y, a .block, ← e) (chain-next W first n ((k - 1) / 1023) (omega (arith, a .word))))
-        (λ y. let q = eqb-false (p .word) 1023 y in
-        let e : (k - 1) / 1023 ≡ k / 1023 = omega (arith, a .word, q) in
-        rw (y, ← e) (a .block))
-
-    next-word : nextPlace W p .word ≡ suc (k % 1023)
-    next-word =
-        by-test (eqb (p .word) 1023)
-        (λ y. let q = eqb-true (p .word) 1023 y in rw y (omega (arith, a .word)))
-        (λ y. let q = eqb-false (p .word) 1023 y in rw y (omega (arith, a .word, q)))
-
-    -- the word that is written next lies in a block of the card
-    pub next-in : InCard W (nextPlace W p .block)
-    next-in = rw next-block (in-at (k / 1023) (omega arith))
-
-    -- it is word k
-    pub next-spot : 1024 * nextPlace W p .block + (nextPlace W p .word - 1) ≡ spotOf bs k
-    next-spot = omega (arith, ap (λ (x : ℕ). 1024 * x) next-block, next-word)
-
-    -- and then the place is before word k + 1
-    pub next-at : At bs (k + 1) (nextPlace W p)
-    next-at =
-        let e : k + 1 - 1 ≡ k = omega arith in
-        record { block = rw e next-block; word = rw e (omega (arith, next-word)) }
+    pub entered-in : InCard W (entered W b k)
+    entered-in = rw entered-at (in-at (k / 1023) (omega arith))
 
 -- Cursors ------------------------------------------------------------------------------------------------------------
 

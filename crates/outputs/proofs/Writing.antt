@@ -5,14 +5,13 @@ use Prim.Native.Nat.{ℕ, zero, suc, _+_, _-_, _*_, _/_, _%_, _<_, _≤_}
 use native.Mathlib.Numerals.{add-one}
 use native.Mathlib.Omega.{arith}
 use lib.ListN.{length, getD, set, drop, length-set, drop-of-length-le}
-use lib.Seq.{getD-set-other}
+use lib.Seq.{drop-cons, getD-set-other}
 use Rattle.lists.specs.All.{AllOf}
 use Rattle.card.specs.Blocks.{link}
 use Rattle.card.specs.Chains.{chain, chainRule}
 use Rattle.card.specs.Cursors.{InCard, Chained}
-use Rattle.outputs.specs.declared.Place.{Place}
-use Rattle.outputs.specs.Contents.{spotOf, written, At, nextPlace}
-use Rattle.outputs.proofs.Places.{word-most, place-in, next-in, next-spot, next-at}
+use Rattle.outputs.specs.Contents.{spotOf, written, reached, entered}
+use Rattle.outputs.proofs.Places.{reached-in, entered-at, entered-in}
 
 -- a word that is no link is set: every link stays
 module _ (W : List ℕ) (b r v : ℕ) (h : r < 1023) where
@@ -44,56 +43,51 @@ module _ (W : List ℕ) (b r v : ℕ) (h : r < 1023) where
   pub chained-set : (first n : ℕ) → Chained W first n → Chained W′ first n
   chained-set first n g = rw (chain-set first n) (all-in (chain W first n) g)
 
--- i of the words vs are written from word o on, and writing the others gives the whole
-pub record Writing (W₀ : List ℕ) (first n o : ℕ) (vs W : List ℕ) (p : Place) (i : ℕ) : Type 0 where
+-- i of the words vs are written from word o on, the last of the content so far in block b, and writing the others gives the whole
+pub record Writing (W₀ : List ℕ) (first n o : ℕ) (vs W : List ℕ) (b i : ℕ) : Type 0 where
   pub most : i ≤ length vs
   pub links : chain W first n ≡ chain W₀ first n
   pub chained : Chained W first n
-  pub at : At (chain W₀ first n) (o + i) p
+  pub block : b ≡ reached (chain W₀ first n) (o + i)
   pub rest : written W₀ (chain W₀ first n) o vs ≡ written W (chain W₀ first n) (o + i) (drop i vs)
 
 module _ (W₀ : List ℕ) (first n o : ℕ) (vs : List ℕ) where
   -- at first none
-  pub writing-start : (p : Place) → Chained W₀ first n → At (chain W₀ first n) o p → Writing W₀ first n o vs W₀ p 0
-  writing-start p g a =
+  pub writing-start : (b : ℕ) → Chained W₀ first n → b ≡ reached (chain W₀ first n) o → Writing W₀ first n o vs W₀ b 0
+  writing-start b g a =
       let e : o + 0 ≡ o = omega arith in
-      record { most = omega arith; links = refl; chained = g; at = rw e a; rest = rw e }
+      record { most = omega arith; links = refl; chained = g; block = rw e a; rest = rw e }
 
-  module _ (W : List ℕ) (p : Place) (i : ℕ) (room : o + length vs ≤ 1023 * n) (w : Writing W₀ first n o vs W p i) where
+  module _ (W : List ℕ) (b i : ℕ) (room : o + length vs ≤ 1023 * n) (w : Writing W₀ first n o vs W b i) where
     -- the end
     pub writing-end : length vs ≤ i → W ≡ written W₀ (chain W₀ first n) o vs
     writing-end h = sym (w .rest ∙ rw (drop-of-length-le vs h))
 
-    here : At (chain W first n) (o + i) p
-    here = rw (w .links) (w .at)
+    here : b ≡ reached (chain W first n) (o + i)
+    here = rw (w .links) (w .block)
 
     module _ (h : i < length vs) where
       -- what one turn asks for
-      pub writing-needs : (p .word ≤ 1023) × InCard W (p .block) × InCard W (nextPlace W p .block)
+      pub writing-needs : InCard W b × InCard W (entered W b (o + i))
       writing-needs =
-          let g = w .chained in
-          (word-most W first n g (o + i) p (omega arith) here, place-in W first n g (o + i) p (omega arith) here, next-in W first n g (o + i) p (omega arith) here)
+          (reached-in W first n (w .chained) (o + i) b (omega arith) here, entered-in W first n (w .chained) (o + i) b (omega arith) here)
 
       -- one turn
-      pub writing-on : (v : ℕ) → drop i vs ≡ v ∷ drop (suc i) vs → (W′ : List ℕ) (q : Place) → q ≡ nextPlace W p → W′ ≡ set W (1024 * q .block + (q .word - 1)) v
-          → Writing W₀ first n o vs W′ q (i + 1)
-      writing-on v turn W′ q x y =
-          let g = w .chained in
+      pub writing-on : (d : ℕ) → d ≡ entered W b (o + i) → (W′ : List ℕ) → W′ ≡ set W (1024 * d + (o + i) % 1023) (getD vs i 0) → Writing W₀ first n o vs W′ d (i + 1)
+      writing-on d x W′ y =
           let bs = chain W₀ first n in
-          let s = next-spot W first n g (o + i) p (omega arith) here in
-          let z : W′ ≡ set W (spotOf bs (o + i)) v = y ∙ rw (x, s, w .links) in
-          let d = getD bs ((o + i) / 1023) 0 in
           let r = (o + i) % 1023 in
+          let v = getD vs i 0 in
           let m : r < 1023 = omega arith in
+          let a : d ≡ getD bs ((o + i) / 1023) 0 = x ∙ rw (w .links) at (entered-at W first n (w .chained) (o + i) b (omega arith) here) in
           let e : o + (i + 1) ≡ suc (o + i) = omega arith in
-          let a : At bs (o + i + 1) (nextPlace W p) = rw (w .links) at (next-at W first n g (o + i) p (omega arith) here) in
-          let e₂ : o + (i + 1) ≡ o + i + 1 = omega arith in
+          let e₂ : (o + (i + 1) - 1) / 1023 ≡ (o + i) / 1023 = omega arith in
           record {
             most = omega arith;
-            links = rw z (chain-set W d r v m first n ∙ w .links);
-            chained = rw z (chained-set W d r v m first n g);
-            at = rw (x, e₂) a;
-            rest = w .rest ∙ rw (turn, z, e, add-one i);
+            links = rw y (chain-set W d r v m first n ∙ w .links);
+            chained = rw y (chained-set W d r v m first n (w .chained));
+            block = rw e₂ a;
+            rest = w .rest ∙ rw (drop-cons vs i 0 h, y, a, e, add-one i);
           }
 
 -- Written as a whole ---------------------------------------------------------------------------------------------------

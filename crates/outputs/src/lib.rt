@@ -22,49 +22,32 @@ ghost use Rattle.card.specs.Cursors.{InCard, Chained, Good, ahead};
 ghost use Rattle.card.specs.Writes.{store, release};
 ghost use Rattle.partitions.specs.Layout.{totalLength, header, wordOf};
 ghost use Rattle.partitions.specs.Formed.{chainsOf, inRange};
-ghost use Rattle.outputs.specs.Contents.{written, At, nextPlace};
+ghost use Rattle.outputs.specs.Contents.{written, reached, entered};
 ghost use Rattle.outputs.specs.Entries.{entriesBy};
 
-// A place to write at: a word of a block, or 1,023 for the place past its content, from where the link leads on to the next word.
-struct Place {
-    block: u16,
-    word: u16,
-}
-
-// The place of word `offset` of the content of the n blocks from `first` on.
-fn place_at(card: &[u8], first: u16, n: u32, offset: u32) -> Place
-    requires { ⌜ (0 < n) × (offset ≤ 1023 * n) × Chained (wordsOf (now card)) first n ⌝ }
-    ensures { λ r. ⌜ At (chain (wordsOf (now (card .entry))) first n) offset r ⌝ }
+// The block that the first `count` words of the content of the n blocks from `first` on reach.
+fn block_reached(card: &[u8], first: u16, n: u32, count: u32) -> u16
+    requires { ⌜ (0 < n) × (count ≤ 1023 * n) × Chained (wordsOf (now card)) first n ⌝ }
+    ensures { λ r. ⌜ r ≡ reached (chain (wordsOf (now (card .entry))) first n) count ⌝ }
 {
     let mut block = first;
-    let mut k = offset;
+    let mut k = count;
     while 1023 < k {
         block = block_word(card, block, 1023) as u16;
         k -= 1023;
     }
-    Place {
-        block: block,
-        word: k as u16,
-    }
+    block
 }
 
-// Writes one word and tells the place past it.
-fn put_next(card: &mut [u8], p: Place, value: u32) -> Place
-    requires { ⌜ (length (now card) % 4 ≡ 0) × (p .word ≤ 1023) × InCard (wordsOf (now card)) (p .block) × InCard (wordsOf (now card)) (nextPlace (wordsOf (now card)) p .block) ⌝ }
-    ensures { λ r. ⌜ (r ≡ nextPlace (wordsOf (now (card .entry))) p)
-        × (wordsOf (now (card .exit)) ≡ set (wordsOf (now (card .entry))) (1024 * r .block + (r .word - 1)) value) ⌝ }
+// The block of word k of a content, of which the words before it reach block `before`.
+fn block_of(card: &[u8], before: u16, k: usize) -> u16
+    requires { ⌜ InCard (wordsOf (now card)) before × InCard (wordsOf (now card)) (entered (wordsOf (now card)) before k) ⌝ }
+    ensures { λ r. ⌜ r ≡ entered (wordsOf (now (card .entry))) before k ⌝ }
 {
-    let mut block = p.block;
-    let mut word = p.word;
-    if word == 1023 {
-        block = block_word(card, block, 1023) as u16;
-        word = 0;
+    if 0 < k && k % 1023 == 0 {
+        return block_word(card, before, 1023) as u16;
     }
-    put_block_word(card, block, word, value);
-    Place {
-        block: block,
-        word: word + 1,
-    }
+    before
 }
 
 // Writes words into the content of the n blocks from `first` on, from word `offset` on.
@@ -72,10 +55,12 @@ pub fn write_words(card: &mut [u8], first: u16, n: u32, offset: u32, content: &[
     requires { ⌜ (length (now card) % 4 ≡ 0) × (0 < n) × (offset + length (now content) ≤ 1023 * n) × Chained (wordsOf (now card)) first n ⌝ }
     ensures { λ r. ⌜ wordsOf (now (card .exit)) ≡ written (wordsOf (now (card .entry))) (chain (wordsOf (now (card .entry))) first n) offset (now (content .entry)) ⌝ }
 {
-    let mut p = place_at(card, first, n, offset);
+    let mut block = block_reached(card, first, n, offset);
     let mut i = 0;
     while i < content.len() {
-        p = put_next(card, p, content[i]);
+        let k = offset as usize + i;
+        block = block_of(card, block, k);
+        put_block_word(card, block, (k % 1023) as u16, content[i]);
         i += 1;
     }
 }
@@ -133,14 +118,16 @@ pub fn write_postings(
         × (every (λ p. inRange (p .count)) (take used postings) ≡ true) ⌝ }
     ensures { λ r. ⌜ wordsOf (now (card .exit)) ≡ written (wordsOf (now (card .entry))) (chain (wordsOf (now (card .entry))) first n) offset (map wordOf (take used postings)) ⌝ }
 {
-    let mut p = place_at(card, first, n, offset);
-    let mut i: u16 = 0;
-    while i < used {
-        let q = postings[i as usize];
-        let count = q.count;
-        p = put_next(card, p, pack(count, q.window));
+    let m = used as usize;
+    let mut content: [u32; 16] = [0; 16];
+    let mut i: usize = 0;
+    while i < m {
+        let p = postings[i];
+        let count = p.count;
+        content[i] = pack(count, p.window);
         i += 1;
     }
+    write_words(card, first, n, offset, &content[0..m]);
 }
 
 // Whether all words that a cursor has still to come are all ones.

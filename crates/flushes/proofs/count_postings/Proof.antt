@@ -7,7 +7,7 @@ use borrow.Author.Needs.{needs}
 use borrow.Author.Tests.{eq-eqb, ne-eqb}
 use lib.ListN.{length, length-set, length-replicate}
 use Rattle.lists.proofs.Arrays.{unmapped}
-use Rattle.flushes.proofs.Filling.{Counting, counting-start, counting-terms, counting-id, counting-few, counting-on}
+use Rattle.flushes.proofs.Counting.{Counting, counting-start, counting-terms, counting-id, counting-few, counting-on}
 use Rattle.flushes.proofs.count_postings.Statement.{statement}
 use Rattle.flushes.proofs.count_postings.Tie as tie
 

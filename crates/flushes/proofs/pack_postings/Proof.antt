@@ -13,8 +13,7 @@ use Rattle.lists.proofs.Arrays.{unmapped}
 use Rattle.lists.proofs.Stores.{sets-end}
 use Rattle.state.specs.Views.{buffered, noPosting}
 use Rattle.partitions.specs.Layout.{wordOf}
-use Rattle.outputs.proofs.Batches.{posting-fits}
-use Rattle.flushes.proofs.Filling.{packing-turn}
+use Rattle.outputs.proofs.Batches.{packing-turn, posting-fits}
 use Rattle.flushes.proofs.pack_postings.Statement.{statement}
 use Rattle.flushes.proofs.pack_postings.Tie as tie
 
@@ -69,7 +68,7 @@ loop-again c =
     let h = c .before .before .before .loop-test .taken in
     let z = getD (b .postings) (a .loop .i) noPosting .count in
     let f : SFits w16 z = search needs in
-    (len, rw length-set (v .1), omega arith, v .3 ∙ packing-turn (b .postings) (b .used) (omega (arith, s .pre .0)) (a .loop .i) h (a .loop .content) ∙ rw (c .pack .ensures, toZ-ofZ f))
+    (len, rw length-set (v .1), omega arith, v .3 ∙ packing-turn (b .postings) (b .used) (a .loop .i) (omega (arith, s .pre .0)) h (a .loop .content) ∙ rw (c .pack .ensures, toZ-ofZ f))
 
 same-length : tie.Need-same-length Inv-loop μ-loop
 same-length c = c .before .loop .inv .1 ∙ sym (c .before .before .before .pre .2)

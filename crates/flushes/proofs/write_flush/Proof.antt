@@ -14,8 +14,9 @@ use Rattle.card.specs.Writes.{store}
 use Rattle.partitions.specs.Layout.{encode}
 use Rattle.partitions.proofs.Counts.{length-numbers}
 use Rattle.partitions.proofs.Lengths.{terms-most}
+use Rattle.outputs.proofs.Batches.{packed-words}
 use Rattle.outputs.proofs.Entries.{entries-length}
-use Rattle.flushes.proofs.Alone.{alone-chained, packed-words, alone-stored}
+use Rattle.flushes.proofs.Alone.{alone-chained, alone-stored}
 use Rattle.flushes.proofs.write_flush.Statement.{statement}
 use Rattle.flushes.proofs.write_flush.Tie as tie
 
@@ -115,7 +116,7 @@ returns c =
     let len : length (s .args .b .postings) ≡ 128 = search (unmapped, needs) in
     let n : length ps ≡ u = length-take-le u (s .args .b .postings) (omega (arith, s .pre .3)) in
     let long : length W ≡ 1024 * (length card / 4096) = omega (arith, length-words card, s .pre .0) in
-    let ws : take (u - 0) (p .last .1 .0) ≡ _ = ap (take (u - 0)) (p .ensures) ∙ packed-words _ ps u refl n (s .pre .3) in
+    let ws : take (u - 0) (p .last .1 .0) ≡ _ = ap (take (u - 0)) (p .ensures) ∙ packed-words _ ps u n (s .pre .3) in
     let stored : words (w .last .0) ≡ store W (s .args .block ∷ []) (encode 0 ps) =
     alone-stored W (length card / 4096) (s .args .block) ps long (s .pre .1) (s .pre .2) (omega (arith, s .pre .3)) (s .pre .4) (s .pre .6)
     _ _ _ _ _ _ _ _ (counted .0) (sym n) (counted .1) ws (link .ensures) (h .ensures) (e .ensures) (w .ensures) in

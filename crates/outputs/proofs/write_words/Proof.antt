@@ -1,43 +1,52 @@
 -- `outputs::write_words` meets its contract. The invariant: writing the words that are left gives the whole, and the links are as they were.
 use mathlib.Core.Path.{_≡_, refl, _∙_}
-use Prim.Native.Nat.{_-_}
+use Prim.Native.Nat.{_+_, _-_, _*_, _%_, _<_}
 use native.Mathlib.Omega.{arith}
 use borrow.Author.Needs.{needs}
 use lib.ListN.{length}
-use lib.Seq.{drop-cons}
 use Rattle.words.specs.Words.{words}
 use Rattle.outputs.proofs.Writing.{Writing, writing-start, writing-needs, writing-on, writing-end}
 use Rattle.outputs.proofs.write_words.Statement.{statement}
 use Rattle.outputs.proofs.write_words.Tie as tie
 
 abbrev Inv-loop : tie.InvT-loop
-Inv-loop card₀ first n offset content p₀ i₀ card p i = (length card ≡ length card₀) × Writing (words card₀) first n offset content (words card) p i
+Inv-loop card₀ first n offset content block₀ i₀ card block i = (length card ≡ length card₀) × Writing (words card₀) first n offset content (words card) block i
 
 abbrev μ-loop : tie.MeasureT-loop
-μ-loop card₀ first n offset content p₀ i₀ card p i = length content - i
+μ-loop card₀ first n offset content block₀ i₀ card block i = length content - i
 
-place-at-requires : tie.Need-place-at-requires Inv-loop μ-loop
-place-at-requires c κs = let s = c .before .before .before in (s .pre .1, omega (arith, s .pre .2), s .pre .3)
+block-reached-requires : tie.Need-block-reached-requires Inv-loop μ-loop
+block-reached-requires c κs = let s = c .before .before .before in (s .pre .1, omega (arith, s .pre .2), s .pre .3)
 
 loop-holds : tie.Need-loop-holds Inv-loop μ-loop
 loop-holds c =
     let s = c .before .before .before .before in
-    (refl, writing-start (words (s .args .card .now)) (s .args .first) (s .args .n) (s .args .offset) (s .args .content .now) (c .place-at .result) (s .pre .3) (c .place-at .ensures))
+    (refl, writing-start (words (s .args .card .now)) (s .args .first) (s .args .n) (s .args .offset) (s .args .content .now) (c .block-reached .result) (s .pre .3) (c .block-reached .ensures))
 
-mul-put-next : tie.Need-mul-put-next Inv-loop μ-loop
-mul-put-next c = search needs
+add-k : tie.Need-add-k Inv-loop μ-loop
+add-k c = search needs
 
-shared-slice-read-put-next : tie.Need-shared-slice-read-put-next Inv-loop μ-loop
-shared-slice-read-put-next c = search needs
-
-put-next-requires : tie.Need-put-next-requires Inv-loop μ-loop
-put-next-requires c κs =
-    let a = c .before .before .before in
+block-of-requires : tie.Need-block-of-requires Inv-loop μ-loop
+block-of-requires c κs =
+    let a = c .before .before in
     let s = a .before .before .before .before .before in
-    let m =
-    writing-needs (words (s .args .card .now)) (s .args .first) (s .args .n) (s .args .offset) (s .args .content .now) (words (a .loop .card)) (a .loop .p) (a .loop .i) (s .pre .2)
-    (a .loop .inv .1) (c .before .before .loop-test .taken) in
-    (omega (arith, a .loop .inv .0, s .pre .0), m .0, m .1, m .2)
+    writing-needs (words (s .args .card .now)) (s .args .first) (s .args .n) (s .args .offset) (s .args .content .now) (words (a .loop .card)) (a .loop .block) (a .loop .i) (s .pre .2) (a .loop .inv .1) (c .before .loop-test .taken)
+
+cast-put-block-word : tie.Need-cast-put-block-word Inv-loop μ-loop
+cast-put-block-word c = search needs
+
+mul-put-block-word : tie.Need-mul-put-block-word Inv-loop μ-loop
+mul-put-block-word c = search needs
+
+shared-slice-read-put-block-word : tie.Need-shared-slice-read-put-block-word Inv-loop μ-loop
+shared-slice-read-put-block-word c = search needs
+
+put-block-word-requires : tie.Need-put-block-word-requires Inv-loop μ-loop
+put-block-word-requires c κs =
+    let a = c .before .before .before .before .before in
+    let s = a .before .before .before .before .before in
+    let m = writing-needs (words (s .args .card .now)) (s .args .first) (s .args .n) (s .args .offset) (s .args .content .now) (words (a .loop .card)) (a .loop .block) (a .loop .i) (s .pre .2) (a .loop .inv .1) (c .before .before .before .before .loop-test .taken) .1 in
+    (omega (arith, a .loop .inv .0, s .pre .0), rw (c .before .before .block-of .ensures) (let r : (s .args .offset + a .loop .i) % 1023 < 1023 = omega arith in omega (arith, m .inside)))
 
 add-i : tie.Need-add-i Inv-loop μ-loop
 add-i c = search needs
@@ -47,13 +56,11 @@ loop-less c = search needs
 
 loop-again : tie.Need-loop-again Inv-loop μ-loop
 loop-again c =
-    let a = c .before .before .before .before .before .before in
+    let a = c .before .before .before .before .before .before .before .before in
     let s = a .before .before .before .before .before in
-    let put = c .before .before .put-next in (
-      put .kept .0 ∙ a .loop .inv .0,
-      writing-on (words (s .args .card .now)) (s .args .first) (s .args .n) (s .args .offset) (s .args .content .now) (words (a .loop .card)) (a .loop .p) (a .loop .i) (s .pre .2)
-          (a .loop .inv .1) (c .before .before .before .before .before .loop-test .taken) _ (drop-cons (s .args .content .now) (a .loop .i) 0 (c .before .before .before .before .before .loop-test .taken)) (words (put .last .0)) (put .result) (put .ensures .0) (put .ensures .1),
-    )
+    let put = c .before .before .put-block-word in
+    let d = c .before .before .before .before .before .block-of in
+    (put .kept .0 ∙ a .loop .inv .0, writing-on (words (s .args .card .now)) (s .args .first) (s .args .n) (s .args .offset) (s .args .content .now) (words (a .loop .card)) (a .loop .block) (a .loop .i) (s .pre .2) (a .loop .inv .1) (c .before .before .before .before .before .before .before .loop-test .taken) (d .result) (d .ensures) (words (put .last .0)) (put .ensures))
 
 same-length : tie.Need-same-length Inv-loop μ-loop
 same-length c = c .before .loop .inv .0
@@ -62,8 +69,7 @@ returns : tie.Need-returns Inv-loop μ-loop
 returns c =
     let a = c .before in
     let s = a .before .before .before .before .before in
-    writing-end (words (s .args .card .now)) (s .args .first) (s .args .n) (s .args .offset) (s .args .content .now) (words (a .loop .card)) (a .loop .p) (a .loop .i) (s .pre .2)
-    (a .loop .inv .1) (c .loop-test .left)
+    writing-end (words (s .args .card .now)) (s .args .first) (s .args .n) (s .args .offset) (s .args .content .now) (words (a .loop .card)) (a .loop .block) (a .loop .i) (s .pre .2) (a .loop .inv .1) (c .loop-test .left)
 
 pub write-words-spec : {M : Type 1} → statement M
 write-words-spec =
@@ -71,11 +77,14 @@ write-words-spec =
     (tie.spec
     Inv-loop
     μ-loop
-    place-at-requires
+    block-reached-requires
     loop-holds
-    mul-put-next
-    shared-slice-read-put-next
-    put-next-requires
+    add-k
+    block-of-requires
+    cast-put-block-word
+    mul-put-block-word
+    shared-slice-read-put-block-word
+    put-block-word-requires
     add-i
     loop-less
     loop-again

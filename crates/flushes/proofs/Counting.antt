@@ -1,20 +1,19 @@
--- The loops over the buffered postings: counts by identifier, and words.
+-- The buffered postings counted by identifier.
 use mathlib.Core.Bool.{true, cond}
-use mathlib.Core.List.{List, [], _∷_, _++_, map}
+use mathlib.Core.List.{List, [], _∷_, _++_}
 use mathlib.Core.Path.{_≡_, refl, sym, ap, _∙_}
-use Prim.Native.Nat.{ℕ, suc, _+_, _*_, _<_, _≤_}
+use Prim.Native.Nat.{ℕ, _+_, _<_, _≤_}
 use native.Mathlib.Numerals.{add-one}
 use native.Mathlib.Omega.{arith}
 use lib.Dec.{eqb, leb}
-use lib.ListN.{length, getD, set, take, drop, replicate, length-map, List·getD-map}
-use lib.Seq.{sets, take-suc, getD-take, length-take-le}
+use lib.ListN.{length, getD, set, take, replicate}
+use lib.Seq.{take-suc, getD-take, length-take-le}
 use borrow.Author.Tests.{leb-true}
 use Rattle.lists.specs.Lists.{every}
-use Rattle.lists.proofs.Stores.{sets-turn}
 use Rattle.lists.proofs.Tests.{every-at, length-keep}
 use Rattle.postings.specs.declared.Posting.{Posting}
 use Rattle.state.specs.Views.{noPosting}
-use Rattle.partitions.specs.Layout.{termCount, wordOf}
+use Rattle.partitions.specs.Layout.{termCount}
 use Rattle.partitions.proofs.Counts.{numbers, number-at, numbers-more, numbers-none, terms-more}
 use Rattle.partitions.proofs.Lengths.{terms-most}
 
@@ -62,12 +61,3 @@ module _ (all : List Posting) (n : ℕ) (fits : n ≤ length all) where
             counts = rw (t, g .counts) (sym (numbers-more (take i all) p counting-id));
             told = rw (t, g .counts, g .told) (sym (terms-more (take i all) p counting-id));
           }
-
-  -- the words of the first n, written one by one
-  pub packing-turn : (i : ℕ) → i < n → (l : List ℕ)
-      → sets l i (drop i (map wordOf (take n all))) ≡ sets (set l i (wordOf (getD all i noPosting))) (i + 1) (drop (i + 1) (map wordOf (take n all)))
-  packing-turn i h l =
-      let e : length (map wordOf (take n all)) ≡ n = length-map (take n all) wordOf ∙ length-take-le n all fits in
-      let g : getD (map wordOf (take n all)) i (wordOf noPosting) ≡ wordOf (getD all i noPosting) =
-      List·getD-map wordOf (take n all) i noPosting ∙ ap wordOf (getD-take n all i noPosting h) in
-      sets-turn l i (map wordOf (take n all)) i (wordOf noPosting) (omega arith) ∙ ap (λ (w : ℕ). sets (set l i w) (i + 1) (drop (i + 1) (map wordOf (take n all)))) g
