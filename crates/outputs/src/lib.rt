@@ -11,7 +11,7 @@ ghost use mathlib.Core.List.{[], map};
 ghost use mathlib.Core.Path.{_≡_};
 ghost use Prim.Native.Nat.{_+_, _-_, _*_, _%_, _≤_, _<_};
 ghost use lib.Dec.{eqb};
-ghost use lib.ListN.{length, getD, set, take};
+ghost use lib.ListN.{length, getD, take};
 ghost use Rattle.lists.specs.All.{AllOf};
 ghost use Rattle.lists.specs.Lists.{every, different};
 ghost use Rattle.words.specs.Words.{words as wordsOf, allOnes};
