@@ -21,21 +21,6 @@ loop-holds : tie.Need-loop-holds Inv-loop μ-loop
 loop-holds c =
     (search (unmapped, needs), ap length (c .pre .2) ∙ length-replicate {A = ℕ} 1024 0, counting-start (c .args .t1 .postings) (c .args .t1 .used) (c .args .counts .now) (c .pre .2))
 
-cast-p : tie.Need-cast-p Inv-loop μ-loop
-cast-p c = search needs
-
-mul-p : tie.Need-mul-p Inv-loop μ-loop
-mul-p c = search needs
-
-element-copy-out-p : tie.Need-element-copy-out-p Inv-loop μ-loop
-element-copy-out-p c = search needs
-
-cast-id : tie.Need-cast-id Inv-loop μ-loop
-cast-id c = search needs
-
-mul-count : tie.Need-mul-count Inv-loop μ-loop
-mul-count c = search needs
-
 slice-read-count : tie.Need-slice-read-count Inv-loop μ-loop
 slice-read-count c =
     let a = c .before .before .before .before in
@@ -60,9 +45,6 @@ add-counts c =
     let v = a .loop .inv in
     omega (arith, s .pre .0, v .2 .most, counting-few (b .postings) (b .used) (omega (arith, v .0, s .pre .0)) (a .loop .counts) (a .loop .terms) (a .loop .i) (v .2) (s .pre .1) (c .before .before .before .before .loop-test .taken))
 
-mul-counts : tie.Need-mul-counts Inv-loop μ-loop
-mul-counts c = search needs
-
 slice-write-counts : tie.Need-slice-write-counts Inv-loop μ-loop
 slice-write-counts c =
     let a = c .before .before .before .before .before in
@@ -70,12 +52,6 @@ slice-write-counts c =
     let b = s .args .t1 in
     let v = a .loop .inv in
     omega (arith, v .1, counting-id (b .postings) (b .used) (omega (arith, v .0, s .pre .0)) (a .loop .counts) (a .loop .terms) (a .loop .i) (v .2) (s .pre .1) (c .before .before .before .before .loop-test .taken))
-
-add-i : tie.Need-add-i Inv-loop μ-loop
-add-i c = search needs
-
-loop-less : tie.Need-loop-less Inv-loop μ-loop
-loop-less c = search needs
 
 loop-again : tie.Need-loop-again Inv-loop μ-loop
 loop-again c =
@@ -105,18 +81,18 @@ count-postings-spec =
     Inv-loop
     μ-loop
     loop-holds
-    cast-p
-    mul-p
-    element-copy-out-p
-    cast-id
-    mul-count
+    (λ c. search needs)
+    (λ c. search needs)
+    (λ c. search needs)
+    (λ c. search needs)
+    (λ c. search needs)
     slice-read-count
     add-terms
     add-counts
-    mul-counts
+    (λ c. search needs)
     slice-write-counts
-    add-i
-    loop-less
+    (λ c. search needs)
+    (λ c. search needs)
     loop-again
     same-length
     returns)

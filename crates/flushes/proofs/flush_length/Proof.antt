@@ -10,30 +10,6 @@ use borrow.Author.Needs.{needs}
 use Rattle.flushes.proofs.flush_length.Statement.{statement}
 use Rattle.flushes.proofs.flush_length.Tie as tie
 
-slice-aggregate-count-postings : tie.Need-slice-aggregate-count-postings
-slice-aggregate-count-postings c = search needs
-
-count-postings-requires : tie.Need-count-postings-requires
-count-postings-requires c κs = search needs
-
-cast-result : tie.Need-cast-result
-cast-result c = search needs
-
-mul-result : tie.Need-mul-result
-mul-result c = search needs
-
-add-result : tie.Need-add-result
-add-result c = search needs
-
-cast-result-2 : tie.Need-cast-result-2
-cast-result-2 c = search needs
-
-mul-result-2 : tie.Need-mul-result-2
-mul-result-2 c = search needs
-
-add-result-2 : tie.Need-add-result-2
-add-result-2 c = search needs
-
 returns : tie.Need-returns
 unfolding lengthOf
 returns c =
@@ -47,12 +23,12 @@ pub flush-length-spec : {M : Type 1} → statement M
 flush-length-spec =
     tie.close
     (tie.spec
-    slice-aggregate-count-postings
-    count-postings-requires
-    cast-result
-    mul-result
-    add-result
-    cast-result-2
-    mul-result-2
-    add-result-2
+    (λ c. search needs)
+    (λ c κs. search needs)
+    (λ c. search needs)
+    (λ c. search needs)
+    (λ c. search needs)
+    (λ c. search needs)
+    (λ c. search needs)
+    (λ c. search needs)
     returns)

@@ -24,17 +24,8 @@ Inv-loop content₀ b n i₀ content i =
 abbrev μ-loop : tie.MeasureT-loop
 μ-loop content₀ b n i₀ content i = n - i
 
-cast-n : tie.Need-cast-n Inv-loop μ-loop
-cast-n c = search needs
-
 loop-holds : tie.Need-loop-holds Inv-loop μ-loop
 loop-holds c = (search (unmapped, needs), c .before .pre .2, omega arith, refl)
-
-mul-p : tie.Need-mul-p Inv-loop μ-loop
-mul-p c = search needs
-
-element-copy-out-p : tie.Need-element-copy-out-p Inv-loop μ-loop
-element-copy-out-p c = search needs
 
 pack-requires : tie.Need-pack-requires Inv-loop μ-loop
 pack-requires c κs =
@@ -45,18 +36,6 @@ pack-requires c κs =
     let z = getD (b .postings) (a .loop .i) noPosting .count in
     let f : SFits w16 z = search needs in
     rw (toZ-ofZ f) (posting-fits (b .postings) (b .used) (a .loop .i) (omega (arith, s .pre .0)) (c .before .before .loop-test .taken) (s .pre .1))
-
-mul-content : tie.Need-mul-content Inv-loop μ-loop
-mul-content c = search needs
-
-slice-write-content : tie.Need-slice-write-content Inv-loop μ-loop
-slice-write-content c = search needs
-
-add-i : tie.Need-add-i Inv-loop μ-loop
-add-i c = search needs
-
-loop-less : tie.Need-loop-less Inv-loop μ-loop
-loop-less c = search needs
 
 loop-again : tie.Need-loop-again Inv-loop μ-loop
 loop-again c =
@@ -88,15 +67,15 @@ pack-postings-spec =
     (tie.spec
     Inv-loop
     μ-loop
-    cast-n
+    (λ c. search needs)
     loop-holds
-    mul-p
-    element-copy-out-p
+    (λ c. search needs)
+    (λ c. search needs)
     pack-requires
-    mul-content
-    slice-write-content
-    add-i
-    loop-less
+    (λ c. search needs)
+    (λ c. search needs)
+    (λ c. search needs)
+    (λ c. search needs)
     loop-again
     same-length
     returns)

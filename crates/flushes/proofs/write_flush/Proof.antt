@@ -20,26 +20,11 @@ use Rattle.flushes.proofs.Alone.{alone-chained, alone-stored}
 use Rattle.flushes.proofs.write_flush.Statement.{statement}
 use Rattle.flushes.proofs.write_flush.Tie as tie
 
-put-block-word-requires : tie.Need-put-block-word-requires
-put-block-word-requires c κs = search needs
-
-slice-aggregate-count-postings : tie.Need-slice-aggregate-count-postings
-slice-aggregate-count-postings c = search needs
-
-count-postings-requires : tie.Need-count-postings-requires
-count-postings-requires c κs = search needs
-
-cast-write-header : tie.Need-cast-write-header
-cast-write-header c = search needs
-
 write-header-requires : tie.Need-write-header-requires
 write-header-requires c κs =
     let s = c .before .before .before .before .before .before .before .before .before .before in
     let k = c .before .before .before .before .before .before .before .put-block-word .kept .0 in
     (omega (arith, s .pre .0, k), omega arith, search needs, alone-chained (s .args .card .now) _ (s .args .block) k (s .pre .1))
-
-slice-aggregate-write-entries : tie.Need-slice-aggregate-write-entries
-slice-aggregate-write-entries c = search needs
 
 write-entries-requires : tie.Need-write-entries-requires
 write-entries-requires c κs =
@@ -55,33 +40,6 @@ write-entries-requires c κs =
       ap length n ∙ length-numbers ps,
     )
 
-slice-aggregate-pack-postings : tie.Need-slice-aggregate-pack-postings
-slice-aggregate-pack-postings c = search needs
-
-pack-postings-requires : tie.Need-pack-postings-requires
-pack-postings-requires c κs = search needs
-
-cast-n : tie.Need-cast-n
-cast-n c = search needs
-
-cast-write-words : tie.Need-cast-write-words
-cast-write-words c = search needs
-
-mul-write-words : tie.Need-mul-write-words
-mul-write-words c = search needs
-
-add-write-words : tie.Need-add-write-words
-add-write-words c = search needs
-
-sub-write-words : tie.Need-sub-write-words
-sub-write-words c = search needs
-
-part-write-words-start : tie.Need-part-write-words-start
-part-write-words-start c = search needs
-
-part-write-words-end : tie.Need-part-write-words-end
-part-write-words-end c = search needs
-
 write-words-requires : tie.Need-write-words-requires
 write-words-requires c κs =
     let s = c .before .before .before .before .before .before .before .before .before .before .before .before .before .before .before .before .before .before .before .before .before .before .before .before .before in
@@ -96,9 +54,6 @@ write-words-requires c κs =
       omega (arith, t, terms-most ps, length-take u (s .args .b .postings), length-take (u - 0) (c .before .before .before .before .before .pack-postings .last .1 .0), s .pre .3),
       alone-chained (s .args .card .now) _ (s .args .block) (e ∙ h ∙ l) (s .pre .1),
     )
-
-same-length : tie.Need-same-length
-same-length c = search needs
 
 returns : tie.Need-returns
 returns c =
@@ -127,22 +82,22 @@ pub write-flush-spec : {M : Type 1} → statement M
 write-flush-spec =
     tie.close
     (tie.spec
-    put-block-word-requires
-    slice-aggregate-count-postings
-    count-postings-requires
-    cast-write-header
+    (λ c κs. search needs)
+    (λ c. search needs)
+    (λ c κs. search needs)
+    (λ c. search needs)
     write-header-requires
-    slice-aggregate-write-entries
+    (λ c. search needs)
     write-entries-requires
-    slice-aggregate-pack-postings
-    pack-postings-requires
-    cast-n
-    cast-write-words
-    mul-write-words
-    add-write-words
-    sub-write-words
-    part-write-words-start
-    part-write-words-end
+    (λ c. search needs)
+    (λ c κs. search needs)
+    (λ c. search needs)
+    (λ c. search needs)
+    (λ c. search needs)
+    (λ c. search needs)
+    (λ c. search needs)
+    (λ c. search needs)
+    (λ c. search needs)
     write-words-requires
-    same-length
+    (λ c. search needs)
     returns)

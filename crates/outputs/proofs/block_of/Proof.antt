@@ -6,9 +6,6 @@ use borrow.Author.Tests.{lt-ltb, le-ltb}
 use Rattle.outputs.proofs.block_of.Statement.{statement}
 use Rattle.outputs.proofs.block_of.Tie as tie
 
-block-word-requires : tie.Need-block-word-requires
-block-word-requires c κs = search needs
-
 cast-result : tie.Need-cast-result
 cast-result c =
     let s = c .before .before .before .before in
@@ -26,4 +23,4 @@ returns-2 c =
     (c .if1 .came)
 
 pub block-of-spec : {M : Type 1} → statement M
-block-of-spec = tie.close (tie.spec block-word-requires cast-result returns returns-2)
+block-of-spec = tie.close (tie.spec (λ c κs. search needs) cast-result returns returns-2)

@@ -28,12 +28,6 @@ cast-block c =
     let s = a .before .before in
     omega (arith, c .block-word .ensures, going-next (words (s .args .card .now)) (s .args .first) (s .args .n) (s .pre .2) (s .args .count) (a .loop .k) (a .loop .block) (s .pre .1) (a .loop .inv) (omega arith) .few)
 
-sub-k : tie.Need-sub-k Inv-loop μ-loop
-sub-k c = omega arith
-
-loop-less : tie.Need-loop-less Inv-loop μ-loop
-loop-less c = omega arith
-
 loop-again : tie.Need-loop-again Inv-loop μ-loop
 loop-again c =
     let a = c .before .before in
@@ -55,7 +49,7 @@ block-reached-spec =
     loop-holds
     block-word-requires
     cast-block
-    sub-k
-    loop-less
+    (λ c. omega arith)
+    (λ c. omega arith)
     loop-again
     returns)

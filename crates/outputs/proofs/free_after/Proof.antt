@@ -9,15 +9,6 @@ use Rattle.outputs.proofs.Linking.{found-first, found-some}
 use Rattle.outputs.proofs.free_after.Statement.{statement}
 use Rattle.outputs.proofs.free_after.Tie as tie
 
-next-free-requires : tie.Need-next-free-requires
-next-free-requires c κs = search needs
-
-enum-known-found : tie.Need-enum-known-found
-enum-known-found c = search needs
-
-enum-told : tie.Need-enum-told
-enum-told c = search needs
-
 returns : tie.Need-returns
 returns c =
     let n = c .before .before .before in
@@ -34,4 +25,4 @@ returns-2 c =
 
 pub free-after-spec : {M : Type 1} → statement M
 free-after-spec =
-    tie.close (tie.spec next-free-requires enum-known-found enum-told returns returns-2)
+    tie.close (tie.spec (λ c κs. search needs) (λ c. search needs) (λ c. search needs) returns returns-2)

@@ -32,20 +32,11 @@ free-after-requires-2 c κs =
     let w = a .loop .inv .1 in
     (w .long, s .pre .2, w .on, linking-some (words (s .args .card .now)) (s .args .blocks) (s .args .taken) (s .args .n) (s .pre .3) (s .pre .2) (s .pre .1) (s .pre .5) (words (a .loop .card)) (a .loop .last) (a .loop .count) (a .loop .inv .1))
 
-cast-put-block-word : tie.Need-cast-put-block-word Inv-loop μ-loop
-cast-put-block-word c = search needs
-
 put-block-word-requires : tie.Need-put-block-word-requires Inv-loop μ-loop
 put-block-word-requires c κs =
     let a = c .before .before .before .before in
     let s = a .before .before .before .before in
     (omega (arith, a .loop .inv .0, s .pre .0), linking-in (words (s .args .card .now)) (s .args .blocks) (s .args .taken) (s .args .n) (s .pre .3) (s .pre .2) (s .pre .1) (s .pre .5) (words (a .loop .card)) (a .loop .last) (a .loop .count) (a .loop .inv .1))
-
-add-count : tie.Need-add-count Inv-loop μ-loop
-add-count c = search needs
-
-loop-less : tie.Need-loop-less Inv-loop μ-loop
-loop-less c = search needs
 
 loop-again : tie.Need-loop-again Inv-loop μ-loop
 loop-again c =
@@ -63,9 +54,6 @@ put-block-word-requires-2 c κs =
     let a = c .before .before in
     let s = a .before .before .before .before in
     (omega (arith, a .loop .inv .0, s .pre .0), linking-in (words (s .args .card .now)) (s .args .blocks) (s .args .taken) (s .args .n) (s .pre .3) (s .pre .2) (s .pre .1) (s .pre .5) (words (a .loop .card)) (a .loop .last) (a .loop .count) (a .loop .inv .1))
-
-same-length : tie.Need-same-length Inv-loop μ-loop
-same-length c = search needs
 
 returns : tie.Need-returns Inv-loop μ-loop
 returns c =
@@ -89,11 +77,11 @@ link-free-spec =
     free-after-requires
     loop-holds
     free-after-requires-2
-    cast-put-block-word
+    (λ c. search needs)
     put-block-word-requires
-    add-count
-    loop-less
+    (λ c. search needs)
+    (λ c. search needs)
     loop-again
     put-block-word-requires-2
-    same-length
+    (λ c. search needs)
     returns)

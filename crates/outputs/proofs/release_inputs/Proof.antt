@@ -18,20 +18,8 @@ Inv-loop card₀ ps n i₀ card i = (length (ps .records) ≡ 51) × (length car
 abbrev μ-loop : tie.MeasureT-loop
 μ-loop card₀ ps n i₀ card i = n - i
 
-cast-n : tie.Need-cast-n Inv-loop μ-loop
-cast-n c = search needs
-
 loop-holds : tie.Need-loop-holds Inv-loop μ-loop
 loop-holds c = let s = c .before in (search (unmapped, needs), refl, record { chained = s .pre .2; apart = s .pre .3; rest = refl })
-
-mul-p : tie.Need-mul-p Inv-loop μ-loop
-mul-p c = search needs
-
-element-copy-out-p : tie.Need-element-copy-out-p Inv-loop μ-loop
-element-copy-out-p c = search needs
-
-blocks-for-requires : tie.Need-blocks-for-requires Inv-loop μ-loop
-blocks-for-requires c κs = search needs
 
 release-chain-requires : tie.Need-release-chain-requires Inv-loop μ-loop
 release-chain-requires c κs =
@@ -39,12 +27,6 @@ release-chain-requires c κs =
     let s = a .before .before in
     let h = c .before .before .before .loop-test .taken in
     rw (c .blocks-for .ensures) (omega (arith, a .loop .inv .1, s .pre .0), freeing-chained (words (s .args .card .now)) (s .args .t2 .records) (s .args .t2 .used) (omega (arith, a .loop .inv .0, s .pre .1)) (words (a .loop .card)) (a .loop .i) noPartition (a .loop .inv .2) h, freeing-different (words (s .args .card .now)) (s .args .t2 .records) (s .args .t2 .used) (omega (arith, a .loop .inv .0, s .pre .1)) (words (a .loop .card)) (a .loop .i) noPartition (a .loop .inv .2) h)
-
-add-i : tie.Need-add-i Inv-loop μ-loop
-add-i c = search needs
-
-loop-less : tie.Need-loop-less Inv-loop μ-loop
-loop-less c = search needs
 
 loop-again : tie.Need-loop-again Inv-loop μ-loop
 loop-again c =
@@ -69,14 +51,14 @@ release-inputs-spec =
     (tie.spec
     Inv-loop
     μ-loop
-    cast-n
+    (λ c. search needs)
     loop-holds
-    mul-p
-    element-copy-out-p
-    blocks-for-requires
+    (λ c. search needs)
+    (λ c. search needs)
+    (λ c κs. search needs)
     release-chain-requires
-    add-i
-    loop-less
+    (λ c. search needs)
+    (λ c. search needs)
     loop-again
     same-length
     returns)

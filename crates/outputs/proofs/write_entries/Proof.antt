@@ -22,20 +22,8 @@ loop-holds c =
     let s = c .before .before in
     (s .pre .4, refl, entering-start (words (s .args .card .now)) (s .args .first) (s .args .n) (s .args .counts .now) (s .pre .3) (s .pre .2))
 
-mul-count : tie.Need-mul-count Inv-loop μ-loop
-mul-count c = search needs
-
-shared-slice-read-count : tie.Need-shared-slice-read-count Inv-loop μ-loop
-shared-slice-read-count c = search needs
-
 cast-count : tie.Need-cast-count Inv-loop μ-loop
 cast-count c = omega (arith, c .before .before .before .shared-slice-known .given (c .before .before .loop .i))
-
-cast-t14 : tie.Need-cast-t14 Inv-loop μ-loop
-cast-t14 c = search needs
-
-slice-aggregate-write-words : tie.Need-slice-aggregate-write-words Inv-loop μ-loop
-slice-aggregate-write-words c = search needs
 
 write-words-requires : tie.Need-write-words-requires Inv-loop μ-loop
 write-words-requires c κs =
@@ -51,12 +39,6 @@ add-sum : tie.Need-add-sum Inv-loop μ-loop
 add-sum c =
     let a = c .before .before .before .before .before .before .before .before in
     omega (arith, a .loop .inv .2 .sums, c .before .before .before .before .before .before .before .before .before .shared-slice-known .given (a .loop .i))
-
-add-i : tie.Need-add-i Inv-loop μ-loop
-add-i c = search needs
-
-loop-less : tie.Need-loop-less Inv-loop μ-loop
-loop-less c = search needs
 
 loop-again : tie.Need-loop-again Inv-loop μ-loop
 loop-again c =
@@ -89,16 +71,16 @@ write-entries-spec =
     Inv-loop
     μ-loop
     loop-holds
-    mul-count
-    shared-slice-read-count
+    (λ c. search needs)
+    (λ c. search needs)
     cast-count
-    cast-t14
-    slice-aggregate-write-words
+    (λ c. search needs)
+    (λ c. search needs)
     write-words-requires
     add-at
     add-sum
-    add-i
-    loop-less
+    (λ c. search needs)
+    (λ c. search needs)
     loop-again
     same-length
     returns)

@@ -28,12 +28,6 @@ abbrev μ-loop : tie.MeasureT-loop
 loop-holds : tie.Need-loop-holds Inv-loop μ-loop
 loop-holds c = (search (unmapped, needs), refl, omega arith, refl)
 
-mul-p : tie.Need-mul-p Inv-loop μ-loop
-mul-p c = search needs
-
-array-copy-out-p : tie.Need-array-copy-out-p Inv-loop μ-loop
-array-copy-out-p c = search needs
-
 pack-requires : tie.Need-pack-requires Inv-loop μ-loop
 pack-requires c κs =
     let a = c .before .before .before in
@@ -42,18 +36,6 @@ pack-requires c κs =
     let z = getD (s .args .t6) (a .loop .i) noPosting .count in
     let f : SFits w16 z = search needs in
     rw (toZ-ofZ f) (posting-fits (s .args .t6) (s .args .used) (a .loop .i) (omega (arith, s .pre .2)) (c .before .before .loop-test .taken) (s .pre .5))
-
-mul-content : tie.Need-mul-content Inv-loop μ-loop
-mul-content c = search needs
-
-array-write-content : tie.Need-array-write-content Inv-loop μ-loop
-array-write-content c = search needs
-
-add-i : tie.Need-add-i Inv-loop μ-loop
-add-i c = search needs
-
-loop-less : tie.Need-loop-less Inv-loop μ-loop
-loop-less c = search needs
 
 loop-again : tie.Need-loop-again Inv-loop μ-loop
 loop-again c =
@@ -66,23 +48,11 @@ loop-again c =
     let f : SFits w16 z = search needs in
     (len, rw length-set (v .1), omega arith, v .3 ∙ packing-turn (s .args .t6) (s .args .used) (a .loop .i) (omega (arith, s .pre .2)) h (a .loop .content) ∙ rw (c .pack .ensures, toZ-ofZ f))
 
-sub-write-words : tie.Need-sub-write-words Inv-loop μ-loop
-sub-write-words c = search needs
-
-part-write-words-start : tie.Need-part-write-words-start Inv-loop μ-loop
-part-write-words-start c = search needs
-
-part-write-words-end : tie.Need-part-write-words-end Inv-loop μ-loop
-part-write-words-end c = search needs
-
 write-words-requires : tie.Need-write-words-requires Inv-loop μ-loop
 write-words-requires c κs =
     let a = c .before .before .before .before in
     let s = a .before .before in
     (s .pre .0, s .pre .1, omega (arith, length-take (s .args .used - 0) (a .loop .content), s .pre .3), s .pre .4)
-
-same-length : tie.Need-same-length Inv-loop μ-loop
-same-length c = search needs
 
 returns : tie.Need-returns Inv-loop μ-loop
 returns c =
@@ -105,17 +75,17 @@ write-postings-spec =
     Inv-loop
     μ-loop
     loop-holds
-    mul-p
-    array-copy-out-p
+    (λ c. search needs)
+    (λ c. search needs)
     pack-requires
-    mul-content
-    array-write-content
-    add-i
-    loop-less
+    (λ c. search needs)
+    (λ c. search needs)
+    (λ c. search needs)
+    (λ c. search needs)
     loop-again
-    sub-write-words
-    part-write-words-start
-    part-write-words-end
+    (λ c. search needs)
+    (λ c. search needs)
+    (λ c. search needs)
     write-words-requires
-    same-length
+    (λ c. search needs)
     returns)

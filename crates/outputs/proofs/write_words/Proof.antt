@@ -23,23 +23,11 @@ loop-holds c =
     let s = c .before .before .before .before in
     (refl, writing-start (words (s .args .card .now)) (s .args .first) (s .args .n) (s .args .offset) (s .args .content .now) (c .block-reached .result) (s .pre .3) (c .block-reached .ensures))
 
-add-k : tie.Need-add-k Inv-loop μ-loop
-add-k c = search needs
-
 block-of-requires : tie.Need-block-of-requires Inv-loop μ-loop
 block-of-requires c κs =
     let a = c .before .before in
     let s = a .before .before .before .before .before in
     writing-needs (words (s .args .card .now)) (s .args .first) (s .args .n) (s .args .offset) (s .args .content .now) (words (a .loop .card)) (a .loop .block) (a .loop .i) (s .pre .2) (a .loop .inv .1) (c .before .loop-test .taken)
-
-cast-put-block-word : tie.Need-cast-put-block-word Inv-loop μ-loop
-cast-put-block-word c = search needs
-
-mul-put-block-word : tie.Need-mul-put-block-word Inv-loop μ-loop
-mul-put-block-word c = search needs
-
-shared-slice-read-put-block-word : tie.Need-shared-slice-read-put-block-word Inv-loop μ-loop
-shared-slice-read-put-block-word c = search needs
 
 put-block-word-requires : tie.Need-put-block-word-requires Inv-loop μ-loop
 put-block-word-requires c κs =
@@ -47,12 +35,6 @@ put-block-word-requires c κs =
     let s = a .before .before .before .before .before in
     let m = writing-needs (words (s .args .card .now)) (s .args .first) (s .args .n) (s .args .offset) (s .args .content .now) (words (a .loop .card)) (a .loop .block) (a .loop .i) (s .pre .2) (a .loop .inv .1) (c .before .before .before .before .loop-test .taken) .1 in
     (omega (arith, a .loop .inv .0, s .pre .0), rw (c .before .before .block-of .ensures) (let r : (s .args .offset + a .loop .i) % 1023 < 1023 = omega arith in omega (arith, m .inside)))
-
-add-i : tie.Need-add-i Inv-loop μ-loop
-add-i c = search needs
-
-loop-less : tie.Need-loop-less Inv-loop μ-loop
-loop-less c = search needs
 
 loop-again : tie.Need-loop-again Inv-loop μ-loop
 loop-again c =
@@ -79,14 +61,14 @@ write-words-spec =
     μ-loop
     block-reached-requires
     loop-holds
-    add-k
+    (λ c. search needs)
     block-of-requires
-    cast-put-block-word
-    mul-put-block-word
-    shared-slice-read-put-block-word
+    (λ c. search needs)
+    (λ c. search needs)
+    (λ c. search needs)
     put-block-word-requires
-    add-i
-    loop-less
+    (λ c. search needs)
+    (λ c. search needs)
     loop-again
     same-length
     returns)
