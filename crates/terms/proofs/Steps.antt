@@ -4,12 +4,10 @@ use mathlib.Core.List.{List, [], _∷_, map}
 use mathlib.Core.Path.{_≡_, ap, _∙_}
 use Prim.Native.Nat.{ℕ, suc, _+_, _<_, _≤_}
 use native.Mathlib.Omega.{arith}
-use lib.Dec.{ltb}
 use lib.IntN.{ℤ, _+ℤ_, +ℤ-idr}
-use borrow.Author.Tests.{ltb-false}
 use Rattle.lists.specs.All.{AllOf}
 use Rattle.lists.proofs.Bools.{by-test, and-left, and-right}
-use Rattle.keyed.specs.Keys.{Item, larger, headVal, headVals, headFine, headsFine}
+use Rattle.keyed.specs.Keys.{Item, headVal, headVals, headFine, headsFine}
 use Rattle.keyed.specs.Groups.{Group, topAll, moveAll, headsFineAll}
 use Rattle.keyed.proofs.Groups as G
 use Rattle.postings.specs.Sums.{isAbove}
@@ -63,10 +61,6 @@ module _ (m n k : ℕ) (gs : List Group) (top : topAll 0 gs ≡ suc k) (low : su
     passed e = on n (λ x. rw e (omega arith))
 
 -- ---- a group of lists beside a group of one
-
--- the larger of 0 and another is the other
-pub larger-none : (n : ℕ) → larger 0 n ≡ n
-larger-none n = by-test (ltb 0 n) (λ y. rw y) (λ y. let h = ltb-false 0 n y in rw y (omega arith))
 
 module _ (g : Group) (l : List Item) where
   module _ (k : ℕ) (sum total : ℤ) (s : sum ≡ headVals k g) (t : total ≡ sum +ℤ headVal k l) where
