@@ -1,6 +1,6 @@
--- What each public function of crate engine promises, as its `ensures` says it, and calls in a row that keep these promises. A buffer at exit has a ′.
+-- Calls in a row that keep the promises of the public functions of crate engine, as their `ensures` says them.
 use mathlib.Core.List.{List, [], _∷_}
-use Prim.Native.Nat.{ℕ, _≤_}
+use Prim.Native.Nat.{ℕ}
 use lib.ListN.{length}
 use Rattle.answers.specs.Answers.{Answer}
 use Rattle.answers.specs.Numbers.{replied, openedAs, foundAs}
@@ -8,59 +8,15 @@ use Rattle.answers.specs.declared.Found.{Found}
 use Rattle.answers.specs.declared.Hit.{Hit}
 use Rattle.state.specs.declared.State.{State}
 use Rattle.identifiers.specs.Names.{Name}
-use Rattle.windows.specs.Calls.{startOf, unstarted, openOf, closeOf, eventOf, flushOf}
-use Rattle.windows.specs.Promises.{Gives, storeOf, probeOf}
+pub use Rattle.windows.specs.Promises.{Starts, Opens, Counts, Closes, Flushes}
 use Rattle.windows.specs.declared.Opening.{Opening}
 use Rattle.windows.specs.declared.Replied.{Replied}
-use Rattle.queries.specs.Query.{queryOf}
-use Rattle.queries.specs.Finds.{Finds}
+pub use Rattle.queries.specs.Finds.{AsksValue}
 use Rattle.queries.specs.declared.Answered.{Answered}
-use Rattle.removals.specs.Removal.{removeOf}
-use Rattle.merges.specs.Step.{stepOf}
+pub use Rattle.removals.specs.Promises.{Removes}
+pub use Rattle.merges.specs.Promises.{Steps}
 use Rattle.engine.specs.Calls.{Call, Open, Event, Close, Remove, Flush, Step, Query}
-use Rattle.engine.specs.Lent.{hitCount}
-
--- ---- the promises
-
--- engine::start
-abbrev pub Starts : (card register : List ℕ) (r : Replied) (card′ register′ : List ℕ) → Type 0
-Starts card register r card′ register′ =
-    Gives (unstarted card register) (startOf card register) (replied (r .reply)) (probeOf (r .state) card′ register′)
-
--- engine::open
-abbrev pub Opens : (s : State) (r : Opening) → Type 0
-Opens s r = Gives s (openOf s) (openedAs (r .answer)) (r .state)
-
--- engine::event
-abbrev pub Counts : (s : State) (card register : List ℕ) (id : Name) (r : Replied) (card′ register′ : List ℕ) → Type 0
-Counts s card register id r card′ register′ =
-    Gives (probeOf s card register) (eventOf (probeOf s card register) id) (replied (r .reply)) (probeOf (r .state) card′ register′)
-
--- engine::close
-abbrev pub Closes : (s : State) (r : Replied) → Type 0
-Closes s r = Gives s (closeOf s) (replied (r .reply)) (r .state)
-
--- engine::remove
-abbrev pub Removes : (s : State) (card : List ℕ) (window : ℕ) (r : Replied) (card′ : List ℕ) → Type 0
-Removes s card window r card′ = Gives (storeOf s card) (removeOf (storeOf s card) window) (replied (r .reply)) (storeOf (r .state) card′)
-
--- engine::flush
-abbrev pub Flushes : (s : State) (card : List ℕ) (r : Replied) (card′ : List ℕ) → Type 0
-Flushes s card r card′ = Gives (storeOf s card) (flushOf (storeOf s card)) (replied (r .reply)) (storeOf (r .state) card′)
-
--- engine::step_value
-abbrev pub Steps : (s : State) (card : List ℕ) (r : Replied) (card′ : List ℕ) → Type 0
-Steps s card r card′ = Gives (storeOf s card) (stepOf (storeOf s card)) (replied (r .reply)) (storeOf (r .state) card′)
-
--- engine::query, with the list that it is lent
-abbrev pub Asks : (s : State) (card register : List ℕ) (ids : List Name) (hits : List Hit) (r : Found) (hits′ : List Hit) → Type 0
-Asks s card register ids hits r hits′ = Gives hits (queryOf (probeOf s card register) ids hits) (foundAs r hits′) hits′ × (hitCount r ≤ length hits′)
-
--- engine::query_value, with so many places
-abbrev pub AsksValue : (s : State) (card register : List ℕ) (ids : List Name) (places : ℕ) (r : Answered) → Type 0
-AsksValue s card register ids places r = Finds (probeOf s card register) ids places (r .answer) (r .top)
-
--- ---- in a row
+pub use Rattle.engine.specs.Lent.{Asks}
 
 -- from this state, card and register on: the calls, each given what the one before left, and the answers of results that keep their promises
 pub data Row : State → List ℕ → List ℕ → List Call → List Answer → Type 0 where

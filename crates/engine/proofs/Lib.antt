@@ -3,5 +3,4 @@ pub mod Lent
 pub mod Unchanged
 pub mod Filling
 pub mod Loop
-pub mod Part
 pub mod ByteRule

@@ -1,16 +1,20 @@
 -- What calls are lent beside state and buffers: the record of the merge in progress, and a list for hits.
 use mathlib.Core.Bool.{Bool, _&&_, not}
 use mathlib.Core.List.{List}
-use Prim.Native.Nat.{ℕ}
+use Prim.Native.Nat.{ℕ, _≤_}
 use lib.Dec.{eqb}
+use lib.ListN.{length}
 use Rattle.answers.specs.Answers.{Outcome, refuseIf, carry}
+use Rattle.answers.specs.Numbers.{foundAs}
 use Rattle.answers.specs.declared.Found.{Found}
 use Rattle.answers.specs.declared.Found.the-variants as found
 use Rattle.answers.specs.declared.Hit.{Hit}
 use Rattle.state.specs.declared.MergeJob.{MergeJob}
 use Rattle.state.specs.declared.State.{State}
 use Rattle.state.specs.Probe.{Store}
-use Rattle.queries.specs.declared.Answered.{Answered}
+use Rattle.identifiers.specs.Names.{Name}
+use Rattle.windows.specs.Promises.{Gives, probeOf}
+use Rattle.queries.specs.Query.{queryOf}
 use Rattle.merges.specs.Step.{stepOf}
 
 -- what a step is lent: state and card, and beside them the record of the merge in progress
@@ -38,6 +42,6 @@ abbrev pub hitCount : Found → ℕ
 hitCount (found.Hits n taken) = n
 hitCount (found.Refused why) = 0
 
--- an answer with an array that has its hits first
-abbrev pub answeredBy : Found → List Hit → Answered
-answeredBy a l = record { answer = a; top = record { used = hitCount a; hits = l } }
+-- a query that is lent a list for its hits
+abbrev pub Asks : (s : State) (card register : List ℕ) (ids : List Name) (hits : List Hit) (r : Found) (hits′ : List Hit) → Type 0
+Asks s card register ids hits r hits′ = Gives hits (queryOf (probeOf s card register) ids hits) (foundAs r hits′) hits′ × (hitCount r ≤ length hits′)

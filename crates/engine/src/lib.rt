@@ -1,28 +1,30 @@
 // The engine's public calls in one place. Each asks nothing of its caller, and promises its answer, the state and every buffer lent as its definition
-// says, whatever it is given.
+// says, whatever it is given. Step and query are there in two forms: by value, and as the probe's firmware calls them, with a record or a list lent.
 use answers::Found;
 use answers::Hit;
 use answers::Refusal;
 use answers::Reply;
-use queries::Answered;
 use queries::Top;
 use state::MergeJob;
 use state::State;
-use windows::Opening;
 use windows::Replied;
 ghost use mathlib.Core.List.{map};
 ghost use mathlib.Core.Path.{_≡_};
 ghost use Prim.Native.Nat.{_≤_, _<_};
 ghost use lib.ListN.{length, getD};
-ghost use Rattle.answers.specs.Numbers.{replied, openedAs, foundAs};
-ghost use Rattle.windows.specs.Calls.{startOf, unstarted, openOf, closeOf, eventOf, flushOf};
-ghost use Rattle.windows.specs.Promises.{Gives, storeOf, probeOf};
-ghost use Rattle.queries.specs.Query.{queryOf, fill};
+ghost use Rattle.answers.specs.Numbers.{replied};
+ghost use Rattle.windows.specs.Promises.{Gives};
+ghost use Rattle.queries.specs.Query.{fill};
 ghost use Rattle.queries.specs.Top.{noHit, listedHits};
-ghost use Rattle.queries.specs.Finds.{Finds};
-ghost use Rattle.removals.specs.Removal.{removeOf};
-ghost use Rattle.merges.specs.Step.{stepOf};
-ghost use Rattle.engine.specs.Lent.{sameRecord, lentOf, lentStepOf, hitCount, answeredBy};
+ghost use Rattle.engine.specs.Lent.{sameRecord, lentOf, lentStepOf, Asks};
+pub use merges::step as step_value;
+pub use queries::search as query_value;
+pub use removals::remove;
+pub use windows::close;
+pub use windows::event;
+pub use windows::flush;
+pub use windows::open;
+pub use windows::start;
 
 // What a step gives back beside the state: the record of the merge in progress.
 struct Stepped {
@@ -30,61 +32,11 @@ struct Stepped {
     job: MergeJob,
 }
 
-// A fresh card, register and state.
-pub fn start(card: &mut [u8], register: &mut [u8]) -> Replied
-    ensures { λ r. ⌜ Gives (unstarted (now (card .entry)) (now (register .entry))) (startOf (now (card .entry)) (now (register .entry)))
-        (replied (r .reply)) (probeOf (r .state) (now (card .exit)) (now (register .exit))) ⌝ }
-{
-    windows::start(card, register)
-}
-
-// The next number is given to a window.
-pub fn open(s: State) -> Opening
-    ensures { λ r. ⌜ Gives s (openOf s) (openedAs (r .answer)) (r .state) ⌝ }
-{
-    windows::open(s)
-}
-
-// One event of an identifier in the open window.
-pub fn event(s: State, card: &mut [u8], register: &mut [u8], id: &[u8]) -> Replied
-    ensures { λ r. ⌜ Gives (probeOf s (now (card .entry)) (now (register .entry))) (eventOf (probeOf s (now (card .entry)) (now (register .entry))) (now (id .entry)))
-        (replied (r .reply)) (probeOf (r .state) (now (card .exit)) (now (register .exit))) ⌝ }
-{
-    windows::event(s, card, register, id)
-}
-
-// The open window ends.
-pub fn close(s: State) -> Replied
-    ensures { λ r. ⌜ Gives s (closeOf s) (replied (r .reply)) (r .state) ⌝ }
-{
-    windows::close(s)
-}
-
-// A closed window is removed: each of its counts is buffered negated.
-pub fn remove(s: State, card: &mut [u8], window: u32) -> Replied
-    ensures { λ r. ⌜ Gives (storeOf s (now (card .entry))) (removeOf (storeOf s (now (card .entry))) window) (replied (r .reply)) (storeOf (r .state) (now (card .exit))) ⌝ }
-{
-    removals::remove(s, card, window)
-}
-
-// The buffered postings are written as one partition.
-pub fn flush(s: State, card: &mut [u8]) -> Replied
-    ensures { λ r. ⌜ Gives (storeOf s (now (card .entry))) (flushOf (storeOf s (now (card .entry)))) (replied (r .reply)) (storeOf (r .state) (now (card .exit))) ⌝ }
-{
-    windows::flush(s, card)
-}
-
 // Whether two records of a merge are the same.
 fn same_record(a: MergeJob, b: MergeJob) -> bool
     ensures { λ r. ⌜ r ≡ sameRecord a b ⌝ }
 {
-    if a.first != b.first {
-        return false;
-    }
-    if a.length != b.length {
-        return false;
-    }
-    a.steps == b.steps
+    (a.first == b.first) & ((a.length == b.length) & (a.steps == b.steps))
 }
 
 // A step with the record of the merge beside the state.
@@ -122,14 +74,6 @@ pub fn step(s: State, job: &mut MergeJob, card: &mut [u8]) -> Replied
     m.replied
 }
 
-// The step, with the record in the state.
-pub fn step_value(s: State, card: &mut [u8]) -> Replied
-    ensures { λ r. ⌜ Gives (storeOf s (now (card .entry))) (stepOf (storeOf s (now (card .entry)))) (replied (r .reply)) (storeOf (r .state) (now (card .exit))) ⌝ }
-{
-    let mut j = s.merge;
-    step(s, &mut j, card)
-}
-
 // How many hits are listed.
 fn listed(top: Top) -> usize
     ensures { λ r. ⌜ r ≡ top .used ⌝ }
@@ -160,57 +104,9 @@ fn fill_by(hits: &mut [Hit], top: Top)
 
 // The query: its hits go to the first places of the lent list.
 pub fn query(s: State, card: &[u8], register: &[u8], ids: &[&[u8]], hits: &mut [Hit]) -> Found
-    ensures { λ r. ⌜ Gives (now (hits .entry)) (queryOf (probeOf s (now (card .entry)) (now (register .entry))) (map now (now (ids .entry))) (now (hits .entry)))
-        (foundAs r (now (hits .exit))) (now (hits .exit)) × (hitCount r ≤ length (now (hits .exit))) ⌝ }
+    ensures { λ r. ⌜ Asks s (now (card .entry)) (now (register .entry)) (map now (now (ids .entry))) (now (hits .entry)) r (now (hits .exit)) ⌝ }
 {
     let m = queries::search(s, card, register, ids, hits.len());
     fill_by(hits, m.top);
     m.answer
-}
-
-// How many hits an answer says.
-fn hit_count(answer: Found) -> u16
-    ensures { λ r. ⌜ r ≡ hitCount answer ⌝ }
-{
-    match answer {
-        Found::Hits(n, taken) => n,
-        Found::Refused(why) => 0,
-    }
-}
-
-// An answer, and the list that has its hits.
-fn answered(list: [Hit; 32], answer: Found) -> Answered
-    ensures { λ r. ⌜ r ≡ answeredBy answer list ⌝ }
-{
-    let top = Top {
-        used: hit_count(answer),
-        hits: list,
-    };
-    Answered {
-        answer: answer,
-        top: top,
-    }
-}
-
-// A query with at most 32 places, on a list of its own.
-fn query_here(s: State, card: &[u8], register: &[u8], ids: &[&[u8]], places: usize) -> Answered
-    requires { ⌜ places ≤ 32 ⌝ }
-    ensures { λ r. ⌜ Finds (probeOf s (now (card .entry)) (now (register .entry))) (map now (now (ids .entry))) places (r .answer) (r .top) ⌝ }
-{
-    let mut list = [Hit {
-        window: 0,
-        score: 0,
-    }; 32];
-    let r = query(s, card, register, ids, &mut list[..places]);
-    answered(list, r)
-}
-
-// The query by value, with a list of so many places.
-pub fn query_value(s: State, card: &[u8], register: &[u8], ids: &[&[u8]], places: usize) -> Answered
-    ensures { λ r. ⌜ Finds (probeOf s (now (card .entry)) (now (register .entry))) (map now (now (ids .entry))) places (r .answer) (r .top) ⌝ }
-{
-    if places > 32 {
-        return queries::search(s, card, register, ids, places);
-    }
-    query_here(s, card, register, ids, places)
 }

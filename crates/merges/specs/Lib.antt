@@ -1,3 +1,4 @@
 pub mod Merging
 pub mod Step
 pub mod Acting
+pub mod Promises

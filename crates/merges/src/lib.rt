@@ -12,14 +12,13 @@ ghost use mathlib.Core.Path.{_≡_};
 ghost use Prim.Native.Nat.{_*_, _%_, _≤_, _<_};
 ghost use lib.ListN.{length, getD, take};
 ghost use Rattle.words.specs.Words.{words as wordsOf};
-ghost use Rattle.answers.specs.Numbers.{replied};
 ghost use Rattle.state.specs.Views.{blocks as blocksOf};
 ghost use Rattle.card.specs.Blocks.{noBlock, freeBlocks};
 ghost use Rattle.card.specs.Writes.{store};
 ghost use Rattle.inputs.specs.Judging.{inputsFormed};
-ghost use Rattle.windows.specs.Promises.{Gives, storeOf};
 ghost use Rattle.merges.specs.Merging.{inputs as inputsOf};
-ghost use Rattle.merges.specs.Step.{lastOf, stepOf};
+ghost use Rattle.merges.specs.Step.{lastOf};
+ghost use Rattle.merges.specs.Promises.{Steps};
 ghost use Rattle.merges.specs.Acting.{Judged, Doing, Did, Planned};
 
 mod judging; // the output in progress
@@ -184,7 +183,7 @@ fn prepare(s: State, card: &mut [u8], is: Partitions, t: Totals) -> Plan
 
 // One step of the merge in progress, or of one that begins.
 pub fn step(s: State, card: &mut [u8]) -> Replied
-    ensures { λ r. ⌜ Gives (storeOf s (now (card .entry))) (stepOf (storeOf s (now (card .entry)))) (replied (r .reply)) (storeOf (r .state) (now (card .exit))) ⌝ }
+    ensures { λ r. ⌜ Steps s (now (card .entry)) r (now (card .exit)) ⌝ }
 {
     if !state::state_ok(s) {
         return refuse(s, Refusal::BrokenState);

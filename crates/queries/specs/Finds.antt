@@ -8,9 +8,11 @@ use Rattle.answers.specs.Numbers.{foundAs}
 use Rattle.answers.specs.declared.Found.{Found}
 use Rattle.answers.specs.declared.Found.the-variants as found
 use Rattle.answers.specs.declared.Hit.{Hit}
+use Rattle.state.specs.declared.State.{State}
 use Rattle.state.specs.Probe.{Probe}
 pub use Rattle.state.specs.Probe.{probeOf}
 use Rattle.identifiers.specs.Names.{Name}
+use Rattle.queries.specs.declared.Answered.{Answered}
 use Rattle.queries.specs.declared.Top.{Top}
 use Rattle.queries.specs.Query.{queryOf}
 use Rattle.queries.specs.Top.{noHit, topOf}
@@ -33,3 +35,7 @@ pub record Finds (p : Probe) (ns : List Name) (k : ℕ) (a : Found) (t : Top) : 
   pub used : (n taken : ℕ) → a ≡ found.Hits n taken → n ≡ t .used
   pub fits : t .used ≤ k
   pub most : t .used ≤ 32
+
+-- a query by value
+abbrev pub AsksValue : (s : State) (card register : List ℕ) (ids : List Name) (places : ℕ) (r : Answered) → Type 0
+AsksValue s card register ids places r = Finds (probeOf s card register) ids places (r .answer) (r .top)

@@ -12,7 +12,7 @@ ghost use lib.ListN.{length, take, drop};
 ghost use Rattle.queries.specs.Hits.{outranks, place};
 ghost use Rattle.queries.specs.Top.{topOf, listedHits, Held, rank};
 ghost use Rattle.queries.specs.Gathered.{Sound, Readied};
-ghost use Rattle.queries.specs.Finds.{probeOf, Finds};
+ghost use Rattle.queries.specs.Finds.{AsksValue};
 
 pub mod judging; // judging a query and gathering what it reads
 pub mod walking; // the second pass, over the terms of a query's identifiers
@@ -146,7 +146,7 @@ fn search_with(
     spare: &mut [u32],
 ) -> Answered
     requires { ⌜ Sound s (now card) (now register) × Readied s (now card) (now run) (length (now heads)) (length (now spare)) ⌝ }
-    ensures { λ r. ⌜ Finds (probeOf s (now (card .entry)) (now (register .entry))) (map now (now (ids .entry))) places (r .answer) (r .top) ⌝ }
+    ensures { λ r. ⌜ AsksValue s (now (card .entry)) (now (register .entry)) (map now (now (ids .entry))) places r ⌝ }
 {
     let k = judging::gather(s, card, register, ids, run, heads, spare);
     let fine = k.fine;
@@ -170,7 +170,7 @@ fn search_with(
 // Makes room for the heads of five terms of 52 lists each, for one more to be judged, and for the buffer's postings as words.
 fn search_sound(s: State, card: &[u8], register: &[u8], ids: &[&[u8]], places: usize) -> Answered
     requires { ⌜ Sound s (now card) (now register) ⌝ }
-    ensures { λ r. ⌜ Finds (probeOf s (now (card .entry)) (now (register .entry))) (map now (now (ids .entry))) places (r .answer) (r .top) ⌝ }
+    ensures { λ r. ⌜ AsksValue s (now (card .entry)) (now (register .entry)) (map now (now (ids .entry))) places r ⌝ }
 {
     let mut run: [u32; 128] = [0; 128];
     let mut heads: [u32; 1050] = [0; 1050];
@@ -191,7 +191,7 @@ fn search_sound(s: State, card: &[u8], register: &[u8], ids: &[&[u8]], places: u
 
 // The query, with a list of so many places.
 pub fn search(s: State, card: &[u8], register: &[u8], ids: &[&[u8]], places: usize) -> Answered
-    ensures { λ r. ⌜ Finds (probeOf s (now (card .entry)) (now (register .entry))) (map now (now (ids .entry))) places (r .answer) (r .top) ⌝ }
+    ensures { λ r. ⌜ AsksValue s (now (card .entry)) (now (register .entry)) (map now (now (ids .entry))) places r ⌝ }
 {
     if !state::state_ok(s) {
         return refuse(Refusal::BrokenState);

@@ -19,7 +19,8 @@ ghost use Rattle.answers.specs.Numbers.{replied};
 ghost use Rattle.state.specs.Views.{buffered, bufferOf};
 ghost use Rattle.windows.specs.Promises.{Gives, storeOf};
 ghost use Rattle.sums.specs.Views.{countsIn};
-ghost use Rattle.removals.specs.Removal.{isLive, removed, removing, removeOf};
+ghost use Rattle.removals.specs.Removal.{isLive, removed, removing};
+ghost use Rattle.removals.specs.Promises.{Removes};
 ghost use Rattle.removals.specs.Taking.{Takeable, Removable};
 
 // Takes each of a window's counts back: it is added to the buffer negated, and a sum that comes to 0 is dropped.
@@ -154,7 +155,7 @@ fn remove_counts(s: State, card: &mut [u8], window: u32, c: Counts) -> Replied
 
 // Removes a closed window: each of its counts is buffered negated, and N is one less.
 pub fn remove(s: State, card: &mut [u8], window: u32) -> Replied
-    ensures { λ r. ⌜ Gives (storeOf s (now (card .entry))) (removeOf (storeOf s (now (card .entry))) window) (replied (r .reply)) (storeOf (r .state) (now (card .exit))) ⌝ }
+    ensures { λ r. ⌜ Removes s (now (card .entry)) window r (now (card .exit)) ⌝ }
 {
     if !state::state_ok(s) {
         return windows::refuse(s, Refusal::BrokenState);

@@ -15,12 +15,10 @@ ghost use mathlib.Core.Bool.{_&&_};
 ghost use mathlib.Core.List.{[]};
 ghost use mathlib.Core.Path.{_≡_};
 ghost use lib.ListN.{length, replicate};
-ghost use Rattle.answers.specs.Numbers.{replied, openedAs};
 ghost use Rattle.state.specs.Views.{bufferOf, emptyState};
 ghost use Rattle.state.specs.Rules.{cardLength, registerLength};
-ghost use Rattle.windows.specs.Calls.{startOf, unstarted, openOf, closeOf, eventOf, flushOf};
 ghost use Rattle.windows.specs.Verdicts.{Admitted};
-ghost use Rattle.windows.specs.Promises.{Gives, storeOf, probeOf};
+ghost use Rattle.windows.specs.Promises.{probeOf, Starts, Opens, Counts, Closes, Flushes};
 
 pub mod counting; // judging and counting an event
 pub mod flushing; // judging and writing a flush
@@ -160,8 +158,7 @@ fn empty_state(card: u32, register: u32, taken: u16) -> State
 // Counts an event that refusals 1 to 9 do not stop, with a flush first where its pair is new to a full buffer.
 fn count(s: State, card: &mut [u8], register: &mut [u8], id: &[u8], i: u16) -> Replied
     requires { ⌜ Admitted (probeOf s (now card) (now register)) (now id) i ⌝ }
-    ensures { λ r. ⌜ Gives (probeOf s (now (card .entry)) (now (register .entry))) (eventOf (probeOf s (now (card .entry)) (now (register .entry))) (now (id .entry)))
-        (replied (r .reply)) (probeOf (r .state) (now (card .exit)) (now (register .exit))) ⌝ }
+    ensures { λ r. ⌜ Counts s (now (card .entry)) (now (register .entry)) (now (id .entry)) r (now (card .exit)) (now (register .exit)) ⌝ }
 {
     let wanted = counting::must_flush(s.buffer, i, s.windows.current);
     let target = flushing::target_of(s, card, wanted);
@@ -181,8 +178,7 @@ fn count(s: State, card: &mut [u8], register: &mut [u8], id: &[u8], i: u16) -> R
 
 // A fresh card, register and state.
 pub fn start(card: &mut [u8], register: &mut [u8]) -> Replied
-    ensures { λ r. ⌜ Gives (unstarted (now (card .entry)) (now (register .entry))) (startOf (now (card .entry)) (now (register .entry)))
-        (replied (r .reply)) (probeOf (r .state) (now (card .exit)) (now (register .exit))) ⌝ }
+    ensures { λ r. ⌜ Starts (now (card .entry)) (now (register .entry)) r (now (card .exit)) (now (register .exit)) ⌝ }
 {
     let bytes = card.len();
     let entries = register.len();
@@ -197,7 +193,7 @@ pub fn start(card: &mut [u8], register: &mut [u8]) -> Replied
 
 // The next number is given to a window, which has no events yet.
 pub fn open(s: State) -> Opening
-    ensures { λ r. ⌜ Gives s (openOf s) (openedAs (r .answer)) (r .state) ⌝ }
+    ensures { λ r. ⌜ Opens s r ⌝ }
 {
     if !state::state_ok(s) {
         return Opening {
@@ -234,7 +230,7 @@ pub fn open(s: State) -> Opening
 
 // No window is open; one without events gives its number back.
 pub fn close(s: State) -> Replied
-    ensures { λ r. ⌜ Gives s (closeOf s) (replied (r .reply)) (r .state) ⌝ }
+    ensures { λ r. ⌜ Closes s r ⌝ }
 {
     if !state::state_ok(s) {
         return refuse(s, Refusal::BrokenState);
@@ -265,8 +261,7 @@ pub fn close(s: State) -> Replied
 
 // One event of an identifier in the open window. The register gets a new identifier only where the event is counted.
 pub fn event(s: State, card: &mut [u8], register: &mut [u8], id: &[u8]) -> Replied
-    ensures { λ r. ⌜ Gives (probeOf s (now (card .entry)) (now (register .entry))) (eventOf (probeOf s (now (card .entry)) (now (register .entry))) (now (id .entry)))
-        (replied (r .reply)) (probeOf (r .state) (now (card .exit)) (now (register .exit))) ⌝ }
+    ensures { λ r. ⌜ Counts s (now (card .entry)) (now (register .entry)) (now (id .entry)) r (now (card .exit)) (now (register .exit)) ⌝ }
 {
     let verdict = counting::judge_event(s, card, register, id);
     match verdict {
@@ -277,7 +272,7 @@ pub fn event(s: State, card: &mut [u8], register: &mut [u8], id: &[u8]) -> Repli
 
 // The buffer is written as one partition; an empty one writes nothing.
 pub fn flush(s: State, card: &mut [u8]) -> Replied
-    ensures { λ r. ⌜ Gives (storeOf s (now (card .entry))) (flushOf (storeOf s (now (card .entry)))) (replied (r .reply)) (storeOf (r .state) (now (card .exit))) ⌝ }
+    ensures { λ r. ⌜ Flushes s (now (card .entry)) r (now (card .exit)) ⌝ }
 {
     if !state::state_ok(s) {
         return refuse(s, Refusal::BrokenState);

@@ -25,7 +25,7 @@ unfolding queryOn
 returns-2 c =
     let s = c .before .before .before .before .before .before .before .before .before .before .before .before .before .args in
     let read = c .before .before .before .before .before .before .read-state .ensures in
-    let r = c .before .before .before .before .before .query-value in
+    let r = c .before .before .before .before .before .search in
     let w = c .before .before .before .put-hits .ensures in
     let g = on-query (probeOf (stateOn (s .image .now)) (s .card .now) (s .register .now)) (map now (now (s .ids))) (s .hits .now) (λ i. omega (arith, c .before .before .before .before .before .before .before .before .before .slice-known .given i)) (r .result .answer) (r .result .top) (w .1) (rw read at (r .ensures)) in
     tells-passed _ _ 1 _ _ _ (ap not (sym (c .before .before .before .before .before .before .before .before .image-ok .ensures)) ∙ c .before .before .before .before .before .before .before .if1 .left)

@@ -29,7 +29,7 @@ returns-2 c =
     let ok = sym (c .before .before .before .before .before .before .before .before .before .before .before .image-ok .ensures) ∙ not-false _ (c .before .before .before .before .before .before .before .before .before .before .if1 .left) in
     let back = imaged-back (s .image .now) (λ i. omega (arith, c .before .before .before .before .before .before .before .before .before .before .before .before .before .before .slice-known .given i)) ok in
     let read = c .before .before .before .before .before .before .before .before .read-state .ensures in
-    let r = c .before .before .before .before .before .before .step-value in
+    let r = c .before .before .before .before .before .before .step in
     let out = c .before .before .settle in
     passed _ 1 _ (ap not (sym (c .before .before .before .before .before .before .before .before .before .before .before .image-ok .ensures)) ∙ c .before .before .before .before .before .before .before .before .before .before .if1 .left)
     (rw (out .ensures .0, out .ensures .1)

@@ -5,7 +5,7 @@ use Rattle.commands.proofs.calls.step.Statement.{statement}
 use Rattle.commands.proofs.calls.step.Tie as tie
 
 returns : tie.Need-returns
-returns c = tells (c .before .before .before .before .before .before .before .step-value .ensures) (c .before .before .write-reply .ensures)
+returns c = tells (c .before .before .before .before .before .before .before .step .ensures) (c .before .before .write-reply .ensures)
 
 pub step-spec : {M : Type 1} → statement M
 step-spec =
