@@ -43,8 +43,8 @@ use Rattle.engine.specs.Calls.{Call, probeCall}
 use Rattle.engine.proofs.Refused.{call-unchanged}
 use Rattle.engine.proofs.ByteRule.{call-moved}
 use Rattle.merges.specs.Step.{stepOf}
-use Rattle.engine.specs.Lent.{Lent, withOwn, lentStepOf}
-use Rattle.engine.proofs.Lent.{lent-unchanged, lent-other, lent-own}
+use Rattle.jobs.specs.Lent.{Lent, withOwn, lentStepOf}
+use Rattle.jobs.proofs.Lent.{lent-unchanged, lent-other, lent-own}
 use Rattle.accounts.specs.Account.{Account, storedIn, inputsOf, merged, blocksOf, steppedAccount}
 use Rattle.accounts.specs.Ledger.{existing, including, byNumber}
 use Rattle.accounts.specs.Books.{Granted, expected}

@@ -24,7 +24,7 @@ use Rattle.windows.specs.declared.Replied.{Replied}
 use Rattle.queries.specs.Finds.{hitsIn, answered, Finds}
 use Rattle.queries.specs.declared.Answered.{Answered}
 use Rattle.queries.specs.declared.Top.{Top}
-use Rattle.engine.specs.Lent.{hitCount}
+use Rattle.hits.specs.Lent.{hitCount}
 
 -- ---- an answer says which value of the code it stands for
 

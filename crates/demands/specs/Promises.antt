@@ -16,7 +16,7 @@ use Rattle.queries.specs.declared.Answered.{Answered}
 pub use Rattle.removals.specs.Promises.{Removes}
 pub use Rattle.merges.specs.Promises.{Steps}
 use Rattle.engine.specs.Calls.{Call, Open, Event, Close, Remove, Flush, Step, Query}
-pub use Rattle.engine.specs.Lent.{Asks}
+pub use Rattle.hits.specs.Lent.{Asks}
 
 -- from this state, card and register on: the calls, each given what the one before left, and the answers of results that keep their promises
 pub data Row : State → List ℕ → List ℕ → List Call → List Answer → Type 0 where

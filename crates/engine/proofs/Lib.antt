@@ -1,6 +1,2 @@
 pub mod Refused
-pub mod Lent
-pub mod Unchanged
-pub mod Filling
-pub mod Loop
 pub mod ByteRule

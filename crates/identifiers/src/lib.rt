@@ -17,10 +17,7 @@ ghost use Rattle.identifiers.specs.Order.{lower, key, Inverse, Ascending
 pub fn bad_length(id: &[u8]) -> bool
     ensures { λ r. ⌜ r ≡ badLength (now (id .entry)) ⌝ }
 {
-    if id.len() == 0 {
-        return true;
-    }
-    64 < id.len()
+    (id.len() == 0) | (64 < id.len())
 }
 
 // Are two identifiers equal? The lengths come first, so that neither is read by the other's.
@@ -166,19 +163,24 @@ fn repeated(register: &[u8], links: &[u16; 1024], first: usize, i: usize, limit:
 
 // Do all identifiers of a formed register differ? Places with equal hashes are chained: `heads` holds, by hash, one more than the
 // last place so far, and `links`, by place, one more than the one before it on its chain; 0 ends a chain. Where a chain is longer than `limit`, the answer is no.
-fn chained_apart(register: &[u8], limit: usize) -> bool
+fn chained_apart(
+    register: &[u8],
+    heads: &mut [u16; 1024],
+    links: &mut [u16; 1024],
+    limit: usize,
+) -> bool
     requires { ⌜ (formedRule (now register) ≡ true) × (length (now register) ≤ 66560) ⌝ }
     ensures { λ r. ⌜ (r ≡ true → distinct (names (now (register .entry))) ≡ true)
         × (1024 ≤ limit → r ≡ distinct (names (now (register .entry)))) ⌝ }
 {
     let used = count_used(register);
-    let mut heads = [0u16; 1024];
-    let mut links = [0u16; 1024];
+    *heads = [0u16; 1024];
+    *links = [0u16; 1024];
     let mut i: usize = 0;
     while i < used {
         let hash = hash_of(name_at(register, i));
         let first = heads[hash];
-        if repeated(register, &links, first as usize, i, limit) {
+        if repeated(register, &*links, first as usize, i, limit) {
             return false;
         }
         links[i] = first;
@@ -335,7 +337,7 @@ fn ascending(register: &[u8], order: &[u16; 1024], n: usize) -> bool
 
 // Do all identifiers of a formed register differ, as their places show that are in order? The places are sorted by runs that are merged two by two, which
 // takes as long for identifiers that are chosen as for others. That they are in order is then looked at; where they are not, the answer is no.
-fn sorted_apart(register: &[u8]) -> bool
+fn sorted_apart(register: &[u8], order: &mut [u16; 1024], ranks: &mut [u16; 1024]) -> bool
     requires { ⌜ (formedRule (now register) ≡ true) × (length (now register) ≤ 66560) ⌝ }
     ensures { λ r. ⌜ (r ≡ true → distinct (names (now (register .entry))) ≡ true) ⌝ }
 {
@@ -343,34 +345,36 @@ fn sorted_apart(register: &[u8]) -> bool
     if n == 0 {
         return true;
     }
-    let mut order = [0u16; 1024];
-    let mut ranks = [0u16; 1024];
-    fill(&mut order, n);
+    *order = [0u16; 1024];
+    *ranks = [0u16; 1024];
+    fill(order, n);
     let mut width: usize = 1;
     while width < n {
-        pass(register, &order, &mut ranks, n, width);
-        pass(register, &ranks, &mut order, n, 2 * width);
+        pass(register, &*order, ranks, n, width);
+        pass(register, &*ranks, order, n, 2 * width);
         width = 4 * width;
     }
-    rank(&order, &mut ranks, n);
-    if !inverse(&order, &ranks, n) {
+    rank(&*order, ranks, n);
+    if !inverse(&*order, &*ranks, n) {
         return false;
     }
-    ascending(register, &order, n)
+    ascending(register, &*order, n)
 }
 
-// Do all identifiers of a formed register differ? Chains are short unless identifiers are chosen to have one hash.
+// Do all identifiers of a formed register differ? Chains are short unless identifiers are chosen to have one hash. Chains and sort use the same two tables.
 fn all_different(register: &[u8]) -> bool
     requires { ⌜ (formedRule (now register) ≡ true) × (length (now register) ≤ 66560) ⌝ }
     ensures { λ r. ⌜ r ≡ distinct (names (now (register .entry))) ⌝ }
 {
-    if chained_apart(register, 16) {
+    let mut a = [0u16; 1024];
+    let mut b = [0u16; 1024];
+    if chained_apart(register, &mut a, &mut b, 16) {
         return true;
     }
-    if sorted_apart(register) {
+    if sorted_apart(register, &mut a, &mut b) {
         return true;
     }
-    chained_apart(register, 1024)
+    chained_apart(register, &mut a, &mut b, 1024)
 }
 
 // Does a register keep its rule?

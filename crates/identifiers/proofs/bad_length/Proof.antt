@@ -1,29 +1,18 @@
--- `identifiers::bad_length` meets its contract, by the length of the list.
-use mathlib.Core.Bool.{true}
+use mathlib.Core.Bool.{_||_}
 use mathlib.Core.List.{[], _∷_}
-use mathlib.Core.Path.{_≡_, refl, sym}
+use mathlib.Core.Path.{_≡_, refl}
+use lib.Dec.{eqb, ltb}
 use native.Mathlib.Omega.{arith}
-use lib.Dec.{ltb}
+use borrow.Author.Tests.{ne-eqb}
 use lib.ListN.{length}
 use Rattle.identifiers.specs.Names.{Name, badLength}
 use Rattle.identifiers.proofs.bad_length.Statement.{statement}
 use Rattle.identifiers.proofs.bad_length.Tie as tie
 
-empty-bad : (n : Name) → length n ≡ 0 → badLength n ≡ true
+by-length : (n : Name) → (eqb (length n) 0 || ltb 64 (length n)) ≡ badLength n
 unfolding badLength
-empty-bad [] e = refl
-empty-bad (x ∷ n) e = absurd (omega arith)
-
-other-bad : (n : Name) → (length n ≡ 0 → ⊥) → badLength n ≡ ltb 64 (length n)
-unfolding badLength
-other-bad [] e = absurd (e refl)
-other-bad (x ∷ n) e = refl
-
-returns : tie.Need-returns
-returns c = sym (empty-bad (c .before .args .id .now) (c .if1 .taken))
-
-returns-2 : tie.Need-returns-2
-returns-2 c = sym (other-bad (c .before .args .id .now) (c .if1 .left))
+by-length [] = refl
+by-length (x ∷ n) = rw (ne-eqb (length (x ∷ n)) 0 (λ e. omega arith))
 
 pub bad-length-spec : {M : Type 1} → statement M
-bad-length-spec = tie.close (tie.spec returns returns-2)
+bad-length-spec = tie.close (tie.spec (λ c. by-length (c .args .id .now)))

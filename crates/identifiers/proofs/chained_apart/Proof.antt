@@ -19,7 +19,7 @@ use Rattle.identifiers.proofs.chained_apart.Statement.{statement}
 use Rattle.identifiers.proofs.chained_apart.Tie as tie
 
 abbrev Inv-loop : tie.InvT-loop
-Inv-loop register limit used heads₀ links₀ i₀ heads links i =
+Inv-loop register heads₀ links₀ limit used i₀ heads links i =
     (i ≤ used)
     × (distinct (take i (names register)) ≡ true)
     × (length heads ≡ 1024)
@@ -28,7 +28,7 @@ Inv-loop register limit used heads₀ links₀ i₀ heads links i =
     × Links (names register) i links
 
 abbrev μ-loop : tie.MeasureT-loop
-μ-loop register limit used heads₀ links₀ i₀ heads links i = used - i
+μ-loop register heads₀ links₀ limit used i₀ heads links i = used - i
 
 count-used-requires : tie.Need-count-used-requires Inv-loop μ-loop
 count-used-requires c κs = c .before .pre .0
@@ -37,36 +37,36 @@ loop-holds : tie.Need-loop-holds Inv-loop μ-loop
 loop-holds c = (zero-le, refl, refl, refl, heads-none _, λ p k. absurd (omega arith))
 
 name-at-requires : tie.Need-name-at-requires Inv-loop μ-loop
-name-at-requires c κs = (c .before .before .before .before .pre .0, omega (arith, c .before .before .count-used .ensures))
+name-at-requires c κs = (c .before .before .before .before .before .before .pre .0, omega (arith, c .before .before .before .before .count-used .ensures))
 
 mul-first : tie.Need-mul-first Inv-loop μ-loop
 mul-first c = omega (arith, c .hash-of .ensures, hash-below (c .before .name-at .result .now))
 
-array-read-first : tie.Need-array-read-first Inv-loop μ-loop
-array-read-first c = omega (arith, c .hash-of .ensures, hash-below (c .before .name-at .result .now))
+element-copy-out-first : tie.Need-element-copy-out-first Inv-loop μ-loop
+element-copy-out-first c = omega (arith, c .hash-of .ensures, hash-below (c .before .name-at .result .now))
 
 cast-repeated : tie.Need-cast-repeated Inv-loop μ-loop
 cast-repeated c =
-    let l = c .before .before .before .before in
-    let s = l .before .before .before in
+    let l = c .before .before .before .before .before in
+    let s = l .before .before .before .before .before in
     let r = s .args .register .now in
     let ms = names r in
     let i = l .loop .i in
-    let h : i < length ms = omega (arith, l .before .count-used .ensures) in
+    let h : i < length ms = omega (arith, l .before .before .before .count-used .ensures) in
     let n = getD ms i [] in
-    let q : c .before .hash-of .result ≡ hashOf n = c .before .hash-of .ensures ∙ ap hashOf (c .before .before .name-at .ensures) in
+    let q : c .before .before .hash-of .result ≡ hashOf n = c .before .before .hash-of .ensures ∙ ap hashOf (c .before .before .before .name-at .ensures) in
     rw (q, l .loop .inv .4 (hashOf n) (hash-below n)) (omega (arith, last-within ms (hashOf n) i))
 
 repeated-requires : tie.Need-repeated-requires Inv-loop μ-loop
 repeated-requires c κs =
-    let l = c .before .before .before .before in
-    let s = l .before .before .before in
+    let l = c .before .before .before .before .before in
+    let s = l .before .before .before .before .before in
     let r = s .args .register .now in
     let ms = names r in
     let i = l .loop .i in
-    let h : i < length ms = omega (arith, l .before .count-used .ensures) in
+    let h : i < length ms = omega (arith, l .before .before .before .count-used .ensures) in
     let n = getD ms i [] in
-    let q : c .before .hash-of .result ≡ hashOf n = c .before .hash-of .ensures ∙ ap hashOf (c .before .before .name-at .ensures) in (
+    let q : c .before .before .hash-of .result ≡ hashOf n = c .before .before .hash-of .ensures ∙ ap hashOf (c .before .before .before .name-at .ensures) in (
       s .pre .0,
       record {
         there = h;
@@ -78,42 +78,42 @@ repeated-requires c κs =
 
 returns : tie.Need-returns Inv-loop μ-loop
 returns c =
-    let l = c .before .before .before .before .before .before in
-    let s = l .before .before .before in
+    let l = c .before .before .before .before .before .before .before in
+    let s = l .before .before .before .before .before in
     let r = s .args .register .now in
     let ms = names r in
     let i = l .loop .i in
-    let h : i < length ms = omega (arith, l .before .count-used .ensures) in
+    let h : i < length ms = omega (arith, l .before .before .before .count-used .ensures) in
     (λ e. never e, λ k. sym (distinct-stopped ms i h (sym (c .before .repeated .ensures .1 k) ∙ c .if1 .taken)))
 
 mul-links : tie.Need-mul-links Inv-loop μ-loop
-mul-links c = omega (arith, c .before .before .before .before .before .before .before .count-used .ensures, names-bound (c .before .before .before .before .before .before .before .before .before .args .register .now) (c .before .before .before .before .before .before .before .before .before .pre .0) (c .before .before .before .before .before .before .before .before .before .pre .1))
+mul-links c = let l = c .before .before .before .before .before .before .before in let s = l .before .before .before .before .before in omega (arith, l .before .before .before .count-used .ensures, names-bound (s .args .register .now) (s .pre .0) (s .pre .1))
 
-array-write-links : tie.Need-array-write-links Inv-loop μ-loop
-array-write-links c = omega (arith, c .before .before .before .before .before .before .before .count-used .ensures, names-bound (c .before .before .before .before .before .before .before .before .before .args .register .now) (c .before .before .before .before .before .before .before .before .before .pre .0) (c .before .before .before .before .before .before .before .before .before .pre .1))
+element-write-links : tie.Need-element-write-links Inv-loop μ-loop
+element-write-links c = let l = c .before .before .before .before .before .before .before in let s = l .before .before .before .before .before in omega (arith, l .before .before .before .count-used .ensures, names-bound (s .args .register .now) (s .pre .0) (s .pre .1))
 
 add-i : tie.Need-add-i Inv-loop μ-loop
-add-i c = omega (arith, c .before .before .before .before .before .before .before .count-used .ensures, names-bound (c .before .before .before .before .before .before .before .before .before .args .register .now) (c .before .before .before .before .before .before .before .before .before .pre .0) (c .before .before .before .before .before .before .before .before .before .pre .1))
+add-i c = let l = c .before .before .before .before .before .before .before in let s = l .before .before .before .before .before in omega (arith, l .before .before .before .count-used .ensures, names-bound (s .args .register .now) (s .pre .0) (s .pre .1))
 
 cast-heads : tie.Need-cast-heads Inv-loop μ-loop
-cast-heads c = omega (arith, c .before .before .before .before .before .before .before .count-used .ensures, names-bound (c .before .before .before .before .before .before .before .before .before .args .register .now) (c .before .before .before .before .before .before .before .before .before .pre .0) (c .before .before .before .before .before .before .before .before .before .pre .1))
+cast-heads c = let l = c .before .before .before .before .before .before .before in let s = l .before .before .before .before .before in omega (arith, l .before .before .before .count-used .ensures, names-bound (s .args .register .now) (s .pre .0) (s .pre .1))
 
 mul-heads : tie.Need-mul-heads Inv-loop μ-loop
-mul-heads c = omega (arith, c .before .before .before .hash-of .ensures, hash-below (c .before .before .before .before .name-at .result .now))
+mul-heads c = omega (arith, c .before .before .before .before .hash-of .ensures, hash-below (c .before .before .before .before .before .name-at .result .now))
 
-array-write-heads : tie.Need-array-write-heads Inv-loop μ-loop
-array-write-heads c = omega (arith, c .before .before .before .hash-of .ensures, hash-below (c .before .before .before .before .name-at .result .now))
+element-write-heads : tie.Need-element-write-heads Inv-loop μ-loop
+element-write-heads c = omega (arith, c .before .before .before .before .hash-of .ensures, hash-below (c .before .before .before .before .before .name-at .result .now))
 
 loop-again : tie.Need-loop-again Inv-loop μ-loop
 loop-again c =
-    let l = c .before .before .before .before .before .before in
-    let s = l .before .before .before in
+    let l = c .before .before .before .before .before .before .before in
+    let s = l .before .before .before .before .before in
     let r = s .args .register .now in
     let ms = names r in
     let i = l .loop .i in
-    let h : i < length ms = omega (arith, l .before .count-used .ensures) in
+    let h : i < length ms = omega (arith, l .before .before .before .count-used .ensures) in
     let n = getD ms i [] in
-    let q : c .before .before .before .hash-of .result ≡ hashOf n = c .before .before .before .hash-of .ensures ∙ ap hashOf (c .before .before .before .before .name-at .ensures) in
+    let q : c .before .before .before .before .hash-of .result ≡ hashOf n = c .before .before .before .before .hash-of .ensures ∙ ap hashOf (c .before .before .before .before .before .name-at .ensures) in
     let e : among n (take i ms) ≡ false = c .before .repeated .ensures .0 (c .if1 .left) in
     rw (q, add-one i, l .loop .inv .4 (hashOf n) (hash-below n)) (
       omega arith,
@@ -127,8 +127,8 @@ loop-again c =
 returns-2 : tie.Need-returns-2 Inv-loop μ-loop
 returns-2 c =
     let l = c .before in
-    let ms = names (l .before .before .before .args .register .now) in
-    let d = rw (take-all (l .loop .i) ms (omega (arith, l .before .count-used .ensures))) at (l .loop .inv .1) in
+    let ms = names (l .before .before .before .before .before .args .register .now) in
+    let d = rw (take-all (l .loop .i) ms (omega (arith, l .before .before .before .count-used .ensures))) at (l .loop .inv .1) in
     (λ e. d, λ k. sym d)
 
 pub chained-apart-spec : {M : Type 1} → statement M
@@ -142,16 +142,16 @@ chained-apart-spec =
     name-at-requires
     (λ c κs. search needs)
     mul-first
-    array-read-first
+    element-copy-out-first
     cast-repeated
     repeated-requires
     returns
     mul-links
-    array-write-links
+    element-write-links
     add-i
     cast-heads
     mul-heads
-    array-write-heads
+    element-write-heads
     (λ c. omega arith)
     loop-again
     returns-2)

@@ -12,7 +12,7 @@ use Rattle.state.specs.Probe.{Store}
 use Rattle.windows.specs.Promises.{Gives}
 use Rattle.merges.specs.Step.{stepOf}
 use Rattle.merges.proofs.Refused.{step-unchanged}
-use Rattle.engine.specs.Lent.{Lent, withOwn, sameRecord, lentStepOf}
+use Rattle.jobs.specs.Lent.{Lent, withOwn, sameRecord, lentStepOf}
 
 -- the test says whether two records are equal
 same-equal : (a b : MergeJob) → sameRecord a b ≡ true → a ≡ b

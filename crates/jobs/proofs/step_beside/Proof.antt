@@ -1,14 +1,14 @@
--- `engine::step_beside` meets its contract: another record than the state's own is refused; with its own the step is that of state and card.
+-- `jobs::step_beside` meets its contract: another record than the state's own is refused; with its own the step is that of state and card.
 use mathlib.Core.Bool.{not}
 use mathlib.Core.Path.{sym, ap, _∙_}
 use borrow.Author.Needs.{needs}
 use borrow.Author.Tests.{not-false}
 use Rattle.windows.specs.Promises.{storeOf}
 use Rattle.windows.proofs.Outcomes.{stopped}
-use Rattle.engine.specs.Lent.{lentStepOf}
-use Rattle.engine.proofs.Lent.{gives-lent}
-use Rattle.engine.proofs.step_beside.Statement.{statement}
-use Rattle.engine.proofs.step_beside.Tie as tie
+use Rattle.jobs.specs.Lent.{lentStepOf}
+use Rattle.jobs.proofs.Lent.{gives-lent}
+use Rattle.jobs.proofs.step_beside.Statement.{statement}
+use Rattle.jobs.proofs.step_beside.Tie as tie
 
 returns : tie.Need-returns
 unfolding lentStepOf

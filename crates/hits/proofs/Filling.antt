@@ -19,7 +19,7 @@ use Rattle.queries.specs.Query.{fill, queryOf}
 use Rattle.queries.specs.Top.{noHit, listedHits, topOf}
 use Rattle.queries.specs.Finds.{hitsIn, answered, Finds}
 use Rattle.queries.proofs.Outcomes.{found-filled}
-use Rattle.engine.specs.Lent.{hitCount}
+use Rattle.hits.specs.Lent.{hitCount}
 
 -- the first n of `found`, and then what `places` has after its first n
 abbrev pub filled : ℕ → List Hit → List Hit → List Hit

@@ -1,4 +1,4 @@
--- `engine::fill_by` meets its contract: a walk of its MIR, by hand, with a loop. The borrow is opened once, before the loop, and closed once, after it; between the two the row of elements is the function's own.
+-- `hits::fill_by` meets its contract: a walk of its MIR, by hand, with a loop. The borrow is opened once, before the loop, and closed once, after it; between the two the row of elements is the function's own.
 -- After i turns the row is `filled i top ys`. A turn calls `hit_at` and stores what it returned over element i. All that the proof knows of `listed` and `hit_at` is that each meets its contract.
 --
 use mathlib.Core.Path.{_≡_, refl, sym, _∙_, ap, subst}
@@ -52,21 +52,21 @@ use Rattle.answers.proofs.Hit as T
 use Rattle.answers.proofs.Hit.Laws as T′
 use Rattle.queries.proofs.Top as K
 use Rattle.queries.proofs.Top.Laws as K′
-use Rattle.engine.proofs.Filling.{filled, filled-more, filled-length, filled-all}
-use Rattle.engine.proofs.Loop.{Turn, Fewer, fewer-wf, tests}
-use Rattle.engine.proofs.listed as listed
-use Rattle.engine.proofs.listed.Symbol as listed-def
-use Rattle.engine.proofs.listed.Symbol.{name as #engine·listed}
-use Rattle.engine.proofs.listed.Met as listed-thm
-use Rattle.engine.proofs.hit_at as hit-at
-use Rattle.engine.proofs.hit_at.Symbol as hit-at-def
-use Rattle.engine.proofs.hit_at.Symbol.{name as #engine·hit-at}
-use Rattle.engine.proofs.hit_at.Met as hit-at-thm
-use Rattle.engine.proofs.fill_by.Key.{name as #engine·fill-by}
-use Rattle.engine.proofs.fill_by as f
-use Rattle.engine.proofs.fill_by.Statement as stated
-use Rattle.engine.proofs.fill_by.Code as code
-use Rattle.engine.proofs.fill_by.Code.Mir as mir
+use Rattle.hits.proofs.Filling.{filled, filled-more, filled-length, filled-all}
+use Rattle.hits.proofs.Loop.{Turn, Fewer, fewer-wf, tests}
+use Rattle.hits.proofs.listed as listed
+use Rattle.hits.proofs.listed.Symbol as listed-def
+use Rattle.hits.proofs.listed.Symbol.{name as #hits·listed}
+use Rattle.hits.proofs.listed.Met as listed-thm
+use Rattle.hits.proofs.hit_at as hit-at
+use Rattle.hits.proofs.hit_at.Symbol as hit-at-def
+use Rattle.hits.proofs.hit_at.Symbol.{name as #hits·hit-at}
+use Rattle.hits.proofs.hit_at.Met as hit-at-thm
+use Rattle.hits.proofs.fill_by.Key.{name as #hits·fill-by}
+use Rattle.hits.proofs.fill_by as f
+use Rattle.hits.proofs.fill_by.Statement as stated
+use Rattle.hits.proofs.fill_by.Code as code
+use Rattle.hits.proofs.fill_by.Code.Mir as mir
 
 abbrev stayed : Stays (f.ended .signature .params) (f.ended .kept)
 stayed = (stay-slice (0 ∷ []) tt (plain (λ _. T.the-row)), (stay-none (λ _. K.the-row) yes, tt))
@@ -186,7 +186,7 @@ module _ {M : Type 1} (𝓤 : URA M) (H : Heap 𝓤) (A : Atoms 𝓤) (W : Given
       qed W [] ∵ says ! l $ nothing ! $ owned ! usize (Is usize) (uint-makes 𝓤 H A W w64) i _ (refl, ok) $ fjoin ! $ owned ! K.the-row (Is K.the-row) (LL.makes K.the-type K′.the-plain 𝓤 H A) top _ top-is $ fjoin ! $
       nothing ! $ done !
 
-  module _ (𝓣 : Tables 𝓤 H) (known-listed : Triple 𝓤 (𝓣 .C #engine·listed) (Listed 𝓤 H A at-mem run)) (known : Triple 𝓤 (𝓣 .C #engine·hit-at) (HitAt 𝓤 H A at-mem run)) where
+  module _ (𝓣 : Tables 𝓤 H) (known-listed : Triple 𝓤 (𝓣 .C #hits·listed) (Listed 𝓤 H A at-mem run)) (known : Triple 𝓤 (𝓣 .C #hits·hit-at) (HitAt 𝓤 H A at-mem run)) where
     module _ (l₀ l₁ l₂ l₃ l₄ l₅ l₆ l₇ l₈ : ℕ) where
       abbrev E : Env 𝓤 H
       E = (tyUnit, l₀) ∷ (slice, l₁) ∷ (K′.mir, l₂) ∷ (tyInt w64, l₃) ∷ (tyInt w64, l₄) ∷ (tyBool, l₅) ∷ (T′.mir, l₆) ∷ (tyInt w64, l₇) ∷ (tyPtr, l₈) ∷ []
@@ -263,13 +263,13 @@ module _ {M : Type 1} (𝓤 : URA M) (H : Heap 𝓤) (A : Atoms 𝓤) (W : Given
         looped l₀ l₁ l₂ l₃ l₄ l₅ l₆ l₇ l₈)))))))))))))
 
 module _ {M : Type 1} (𝓤 : URA M) (H : Heap 𝓤) (A : Atoms 𝓤) (W : Given 𝓤 H A) (mem : Memory → SProp 𝓤) (run : Routine → Fun 𝓤) where
-  fill-by-walks : (𝓣 : Tables 𝓤 H) → Triple 𝓤 (𝓣 .C #engine·listed) (Listed 𝓤 H A mem run) → Triple 𝓤 (𝓣 .C #engine·hit-at) (HitAt 𝓤 H A mem run) → Walks 𝓤 H A f.ended stayed (WpFn 𝓤 H (𝓣 .C) (𝓣 .Λ) code.function) (f.clauses 𝓤 H A mem run)
+  fill-by-walks : (𝓣 : Tables 𝓤 H) → Triple 𝓤 (𝓣 .C #hits·listed) (Listed 𝓤 H A mem run) → Triple 𝓤 (𝓣 .C #hits·hit-at) (HitAt 𝓤 H A mem run) → Walks 𝓤 H A f.ended stayed (WpFn 𝓤 H (𝓣 .C) (𝓣 .Λ) code.function) (f.clauses 𝓤 H A mem run)
   fill-by-walks 𝓣 known-listed known = walked 𝓤 H A f.ended stayed (f.clauses 𝓤 H A mem run) (WpFn 𝓤 H (𝓣 .C) (𝓣 .Λ) code.function)
       (λ κs. (slice-vals, (LL.vals K.the-type K′.the-laws, tt))) (λ κs. (mut-slice-tells (named 0) (κs .0) T.the-row, (LL.tells K.the-type K′.the-laws, tt)))
       (λ κs qs bounds a g are. needs 𝓤 ((a .1 .0 .used ≤ 32) × (a .1 .0 .used ≤ length (a .0 .now))) _ (λ within.
       walk 𝓤 H A W mem run (κs .0) (qs .0) (a .0 .ptr .0) (a .0 .ptr .1) (a .0 .name) (a .0 .now) (a .1 .0) (are .0 .0 .1) (are .1 .0) (within .0) (within .1) 𝓣 known-listed known))
 
-fill-by-meets : {M : Type 1} (𝓤 : URA M) (H : Heap 𝓤) (A : Atoms 𝓤) → Given 𝓤 H A → (mem : Memory → SProp 𝓤) (run : Routine → Fun 𝓤) (𝓣 : Tables 𝓤 H) → Triple 𝓤 (𝓣 .C #engine·listed) (Listed 𝓤 H A mem run) → Triple 𝓤 (𝓣 .C #engine·hit-at) (HitAt 𝓤 H A mem run)
+fill-by-meets : {M : Type 1} (𝓤 : URA M) (H : Heap 𝓤) (A : Atoms 𝓤) → Given 𝓤 H A → (mem : Memory → SProp 𝓤) (run : Routine → Fun 𝓤) (𝓣 : Tables 𝓤 H) → Triple 𝓤 (𝓣 .C #hits·listed) (Listed 𝓤 H A mem run) → Triple 𝓤 (𝓣 .C #hits·hit-at) (HitAt 𝓤 H A mem run)
     → Meets 𝓤 H A f.signature (WpFn 𝓤 H (𝓣 .C) (𝓣 .Λ) code.function) (f.spec 𝓤 H A mem run)
 fill-by-meets 𝓤 H A W mem run 𝓣 known-listed known =
     walk-meets 𝓤 H A f.ended stayed W (goes-slice 𝓤 H A W 1 0 tt (plain (λ _. T.the-row)), (goes-none 𝓤 H A W 1 (λ _. K.the-row) yes (λ κs x f. refl), tt)) (f.clauses 𝓤 H A mem run)
@@ -279,7 +279,7 @@ pub fill-by-spec : {M : Type 1} → stated.statement M
 unfolding code.routine tablesOf
 fill-by-spec 𝓤 H 𝓜 𝓖 𝓡 =
     entered 𝓤 H (tripleOf 𝓤 H (𝓖 .A) f.signature (f.spec 𝓤 H (𝓖 .A) (𝓜 .mem) (𝓡 .run)))
-    (tables 𝓤 H 𝓜 𝓡 code.env .C) (tables 𝓤 H 𝓜 𝓡 code.env .Λ) #engine·fill-by code.function (code.unfolded 𝓤 H 𝓜 𝓡)
+    (tables 𝓤 H 𝓜 𝓡 code.env .C) (tables 𝓤 H 𝓜 𝓡 code.env .Λ) #hits·fill-by code.function (code.unfolded 𝓤 H 𝓜 𝓡)
     (fill-by-meets 𝓤 H (𝓖 .A) (givenOf 𝓤 H 𝓜 𝓖) (𝓜 .mem) (𝓡 .run) (tablesOf 𝓤 H 𝓜 (tables 𝓤 H 𝓜 𝓡 code.env))
-    (cited 𝓤 H (Listed 𝓤 H (𝓖 .A) (𝓜 .mem) (𝓡 .run)) 𝓜 𝓡 code.env #engine·listed listed-def.routine code.calls-engine·listed (listed-thm.met 𝓤 H 𝓜 𝓖 𝓡))
-    (cited 𝓤 H (HitAt 𝓤 H (𝓖 .A) (𝓜 .mem) (𝓡 .run)) 𝓜 𝓡 code.env #engine·hit-at hit-at-def.routine code.calls-engine·hit-at (hit-at-thm.met 𝓤 H 𝓜 𝓖 𝓡)))
+    (cited 𝓤 H (Listed 𝓤 H (𝓖 .A) (𝓜 .mem) (𝓡 .run)) 𝓜 𝓡 code.env #hits·listed listed-def.routine code.calls-hits·listed (listed-thm.met 𝓤 H 𝓜 𝓖 𝓡))
+    (cited 𝓤 H (HitAt 𝓤 H (𝓖 .A) (𝓜 .mem) (𝓡 .run)) 𝓜 𝓡 code.env #hits·hit-at hit-at-def.routine code.calls-hits·hit-at (hit-at-thm.met 𝓤 H 𝓜 𝓖 𝓡)))
