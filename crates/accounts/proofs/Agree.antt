@@ -1,15 +1,5 @@
 -- The engine on lists answers every call as ledger and account do, and leaves the lists that stand for what they leave.
-use mathlib.Core.Bool.{Bool, true, false, _||_, _&&_, not, cond, true≢false}
-use mathlib.Core.List.{List, [], _∷_, map}
-use mathlib.Core.Path.{_≡_, refl, sym, ap, ap₂, _∙_, fun-ext, subst}
-use Prim.Native.Nat.{ℕ, suc, _+_, _-_, _*_, _<_, _≤_}
-use native.Mathlib.Omega.{arith}
-use lib.Dec.{eqb, ltb, leb}
-use lib.IntN.{pos}
-use lib.ListN.{length, getD, length-map}
-use borrow.Author.Tests.{eqb-true, eqb-false, ne-eqb, ltb-true, ltb-false, le-ltb, lt-leb, not-false}
-use Rattle.lists.specs.Lists.{empty, down}
-use Rattle.lists.proofs.Bools.{by-test, and-left, and-right}
+use Rattle.lists.proofs.Prelude.{Bool, true, false, _||_, _&&_, not, cond, true≢false, List, [], _∷_, map, _≡_, refl, sym, ap, ap₂, _∙_, fun-ext, subst, ℕ, suc, _+_, _-_, _*_, _<_, _≤_, arith, eqb, ltb, leb, pos, length, getD, length-map, eqb-true, eqb-false, ne-eqb, ltb-true, ltb-false, le-ltb, lt-leb, not-false, empty, down, by-test, and-left, and-right}
 use Rattle.postings.specs.declared.Posting.{Posting}
 use Rattle.postings.specs.Merge.{put, nonzero, negated}
 use Rattle.postings.specs.Sums.{above}
@@ -19,7 +9,7 @@ use Rattle.state.specs.Views.{bufferOf}
 use Rattle.state.specs.Levels.{ofLevel}
 use Rattle.buffer.proofs.Canonical.{buffered-of}
 use Rattle.identifiers.specs.Names.{Name, badLength, among, numberOf, numbersOf}
-use Rattle.windows.proofs.Pairs.{pair-kept}
+use Rattle.events.proofs.Pairs.{pair-kept}
 use Rattle.queries.specs.Hits.{ranked}
 use Rattle.removals.specs.Removal.{countsOf, isLive}
 use Rattle.engine.specs.Calls.{Call, Open, Event, Close, Remove, Flush, Step, Query}

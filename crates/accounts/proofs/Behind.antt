@@ -1,13 +1,5 @@
 -- The partitions hold no more of the open window than was counted, so its buffered counts are from 1 to its events.
-use mathlib.Core.Bool.{Bool, true, false, _&&_, cond, false≢true, true≢false}
-use mathlib.Core.List.{List, [], _++_, append-nil}
-use mathlib.Core.Path.{_≡_, refl, sym, ap, ap₂, _∙_}
-use Prim.Native.Nat.{ℕ, zero, suc, _+_, _-_, _≤_}
-use native.Mathlib.Omega.{arith}
-use lib.Dec.{eqb, ltb}
-use lib.IntN.{ℤ, pos, negsuc, natAbs, _+ℤ_, pos-ne-negsuc}
-use borrow.Author.Tests.{ne-eqb, ltb-false}
-use Rattle.lists.proofs.Bools.{by-test}
+use Rattle.lists.proofs.Prelude.{Bool, true, false, _&&_, cond, false≢true, true≢false, List, [], _++_, append-nil, _≡_, refl, sym, ap, ap₂, _∙_, ℕ, zero, suc, _+_, _-_, _≤_, arith, eqb, ltb, ℤ, pos, negsuc, natAbs, _+ℤ_, pos-ne-negsuc, ne-eqb, ltb-false, by-test}
 use Rattle.postings.specs.declared.Posting.{Posting}
 use Rattle.postings.specs.Merge.{isZero}
 use Rattle.postings.specs.Sums.{sum}

@@ -1,15 +1,5 @@
 -- An event keeps what holds of the ledger.
-use mathlib.Core.Bool.{Bool, true, false, _||_, _&&_, not, cond, true≢false, or-false}
-use mathlib.Core.Path.{_≡_, refl, sym, ap, _∙_, fun-ext}
-use Prim.Native.Nat.{ℕ, suc, _≤_}
-use native.Mathlib.Omega.{arith}
-use lib.Dec.{eqb, ltb, leb}
-use lib.ListN.{length}
-use borrow.Author.Tests.{eqb-true, eqb-false, eq-eqb, ne-eqb, lt-ltb, leb-false}
-use Rattle.lists.specs.Lists.{keep, same}
-use Rattle.lists.proofs.Bools.{by-test, or-none, or-right}
-use Rattle.lists.proofs.Same.{same-refl, same-true}
-use Rattle.lists.proofs.Tests.{keep-same}
+use Rattle.lists.proofs.Prelude.{Bool, true, false, _||_, _&&_, not, cond, true≢false, or-false, _≡_, refl, sym, ap, _∙_, fun-ext, ℕ, suc, _≤_, arith, eqb, ltb, leb, length, eqb-true, eqb-false, eq-eqb, ne-eqb, lt-ltb, leb-false, keep, same, by-test, or-none, or-right, same-refl, same-true, keep-same}
 use Rattle.identifiers.specs.Names.{Name, among}
 use Rattle.accounts.specs.Ledger.{Ledger, live, including, counts}
 use Rattle.accounts.proofs.Numbers.{goodLength, among-including, among-grows, distinct-including, every-including, length-including}

@@ -1,14 +1,5 @@
 -- The blocks of finished partitions and of the output in progress are together at most the card's.
-use mathlib.Core.Bool.{true, false, _&&_, not, cond}
-use mathlib.Core.List.{List, [], _∷_, _++_}
-use mathlib.Core.Path.{_≡_, refl, sym, ap, _∙_}
-use Prim.Native.Nat.{ℕ, suc, _+_, _*_, _≤_}
-use native.Mathlib.Omega.{arith}
-use lib.Dec.{eqb, ltb, leb}
-use lib.ListN.{length, take, drop}
-use borrow.Author.Tests.{eqb-false, ne-eqb, ltb-false, le-leb, not-true}
-use Rattle.lists.specs.Lists.{every, empty, totalBy}
-use Rattle.lists.proofs.Bools.{by-test, and-left, and-right, and-both}
+use Rattle.lists.proofs.Prelude.{true, false, _&&_, not, cond, List, [], _∷_, _++_, _≡_, refl, sym, ap, _∙_, ℕ, suc, _+_, _*_, _≤_, arith, eqb, ltb, leb, length, take, drop, eqb-false, ne-eqb, ltb-false, le-leb, not-true, every, empty, totalBy, by-test, and-left, and-right, and-both}
 use Rattle.postings.specs.declared.Posting.{Posting}
 use Rattle.postings.specs.Merge.{nonzero, pairs}
 use Rattle.state.specs.Levels.{oldestAt, dueAt, replaced}

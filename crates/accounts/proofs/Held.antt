@@ -1,17 +1,5 @@
 -- A window's counts, read from what is stored, are the ledger's: the same identifiers by number, the same counts, in the same order.
-use mathlib.Core.Bool.{Bool, true, false, _||_, _&&_, not, cond}
-use mathlib.Core.List.{List, [], _∷_, map}
-use mathlib.Core.Path.{_≡_, refl, sym, ap, _∙_, fun-ext}
-use Prim.Native.Nat.{ℕ, zero, suc, _+_, _<_, _≤_}
-use native.Mathlib.Omega.{arith}
-use lib.Dec.{eqb, ltb, leb}
-use lib.IntN.{ℤ, pos, negℤ, +ℤ-idl, +ℤ-idr}
-use lib.ListN.{length, getD, List·getD-eq-default}
-use borrow.Author.Tests.{eqb-true, eqb-false, eq-eqb, ne-eqb, lt-ltb, ltb-true, ltb-false, le-leb, leb-true}
-use Rattle.lists.specs.Lists.{keep, any, every, rising, upTo}
-use Rattle.lists.proofs.Bools.{by-test, and-both, and-left, and-right}
-use Rattle.lists.proofs.Tests.{every-from}
-use Rattle.lists.proofs.Ranges.{map-upTo}
+use Rattle.lists.proofs.Prelude.{Bool, true, false, _||_, _&&_, not, cond, List, [], _∷_, map, _≡_, refl, sym, ap, _∙_, fun-ext, ℕ, zero, suc, _+_, _<_, _≤_, arith, eqb, ltb, leb, ℤ, pos, negℤ, +ℤ-idl, +ℤ-idr, length, getD, List·getD-eq-default, eqb-true, eqb-false, eq-eqb, ne-eqb, lt-ltb, ltb-true, ltb-false, le-leb, leb-true, keep, any, every, rising, upTo, by-test, and-both, and-left, and-right, every-from, map-upTo}
 use Rattle.postings.specs.declared.Posting.{Posting}
 use Rattle.postings.specs.Order.{precedes, ordered}
 use Rattle.postings.specs.Merge.{counting, isZero, isCounted, nonzero, pairs, negated}

@@ -1,9 +1,5 @@
 -- No history of calls from a fresh card is answered otherwise by the engine on lists than by ledger and account; and what holds after every history.
-use mathlib.Core.Bool.{true}
-use mathlib.Core.List.{List, [], _∷_}
-use mathlib.Core.Path.{_≡_, refl, sym, ap₂, subst}
-use Prim.Native.Nat.{ℕ, _≤_}
-use Rattle.lists.specs.Lists.{down}
+use Rattle.lists.proofs.Prelude.{true, List, [], _∷_, _≡_, refl, sym, ap₂, subst, ℕ, _≤_, down}
 use Rattle.answers.specs.Answers.{Outcome, answerOf, stateOf}
 use Rattle.engine.specs.Calls.{Call, run, afterwards}
 use Rattle.accounts.specs.Account.{emptyAccount}

@@ -1,15 +1,5 @@
 -- The inputs of a merge stay the same while partitions of level 0 come last in the list, for partitions of whatever kind that have a level.
-use mathlib.Core.Bool.{Bool, true, false, cond}
-use mathlib.Core.List.{List, [], _∷_, _++_}
-use mathlib.Core.Path.{_≡_, refl, ap, _∙_}
-use Prim.Native.Nat.{ℕ, zero, suc, _+_, _<_, _≤_}
-use native.Mathlib.Omega.{arith}
-use lib.Dec.{eqb, leb}
-use lib.ListN.{length, drop, length-drop}
-use lib.Seq.{take-append-le, drop-append-le}
-use borrow.Author.Tests.{eqb-true, eqb-false, ne-eqb, le-leb, lt-leb}
-use Rattle.lists.specs.Lists.{keep, below}
-use Rattle.lists.proofs.Bools.{by-test}
+use Rattle.lists.proofs.Prelude.{Bool, true, false, cond, List, [], _∷_, _++_, _≡_, refl, ap, _∙_, ℕ, zero, suc, _+_, _<_, _≤_, arith, eqb, leb, length, drop, length-drop, take-append-le, drop-append-le, eqb-true, eqb-false, ne-eqb, le-leb, lt-leb, keep, below, by-test}
 use Rattle.state.specs.Levels.{dueAt, ofLevel, dueLevels, oldestAt, oldest}
 use Rattle.state.proofs.Counts.{levels-below}
 use Rattle.state.proofs.Runs.{due-first, place-within}

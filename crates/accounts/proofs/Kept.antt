@@ -1,13 +1,5 @@
 -- What holds of ledger and account together, after every list of calls: the invariant of the history theorem, and that each change keeps it.
-use mathlib.Core.Bool.{Bool, true, false, _&&_, not, cond, false≢true}
-use mathlib.Core.List.{[], _∷_, foldr}
-use mathlib.Core.Path.{_≡_, refl, sym, ap, _∙_, subst}
-use Prim.Native.Nat.{ℕ, suc, _+_, _<_, _≤_}
-use native.Mathlib.Omega.{arith}
-use lib.Dec.{eqb, ltb, leb}
-use lib.IntN.{pos, _+ℤ_, +ℤ-idl}
-use lib.ListN.{length}
-use Rattle.lists.specs.Lists.{every, empty}
+use Rattle.lists.proofs.Prelude.{Bool, true, false, _&&_, not, cond, false≢true, [], _∷_, foldr, _≡_, refl, sym, ap, _∙_, subst, ℕ, suc, _+_, _<_, _≤_, arith, eqb, ltb, leb, pos, _+ℤ_, +ℤ-idl, length, every, empty}
 use Rattle.postings.specs.Merge.{put, nonzero, negated}
 use Rattle.removals.specs.Removal.{countsOf}
 use Rattle.postings.specs.Sums.{sum}

@@ -1,15 +1,5 @@
 -- What holds of every ledger that calls lead to: bounds of its counts, its numbers and its identifiers. Each call keeps it.
-use mathlib.Core.Bool.{Bool, true, false, _&&_, cond, false≢true, true≢false}
-use mathlib.Core.List.{[]}
-use mathlib.Core.Path.{_≡_, refl, sym, ap, _∙_}
-use Prim.Native.Nat.{ℕ, suc, _-_, _<_, _≤_}
-use native.Mathlib.Omega.{arith}
-use lib.Dec.{eqb, ltb, leb}
-use lib.ListN.{length}
-use borrow.Author.Tests.{eqb-true, eqb-false, leb-false}
-use Rattle.lists.specs.Lists.{keep, every}
-use Rattle.lists.proofs.Bools.{by-test}
-use Rattle.lists.proofs.Tests.{any-none, keep-none}
+use Rattle.lists.proofs.Prelude.{Bool, true, false, _&&_, cond, false≢true, true≢false, [], _≡_, refl, sym, ap, _∙_, ℕ, suc, _-_, _<_, _≤_, arith, eqb, ltb, leb, length, eqb-true, eqb-false, leb-false, keep, every, by-test, any-none, keep-none}
 use Rattle.identifiers.specs.Names.{Name, among, distinct}
 use Rattle.accounts.specs.Ledger.{Ledger, emptyLedger, live, opens, closes, removes}
 use Rattle.accounts.proofs.Numbers.{goodLength, Within}

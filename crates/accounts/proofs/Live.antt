@@ -1,15 +1,5 @@
 -- Which windows are live after each call, and how many exist.
-use mathlib.Core.Bool.{Bool, true, false, _&&_, cond}
-use mathlib.Core.Path.{_≡_, refl, sym, ap, _∙_, fun-ext, subst}
-use Prim.Native.Nat.{ℕ, zero, suc, _-_, _<_, _≤_}
-use native.Mathlib.Omega.{arith}
-use lib.Dec.{eqb, ltb}
-use lib.ListN.{length}
-use borrow.Author.Tests.{eqb-true, eq-eqb, ne-eqb, lt-ltb}
-use Rattle.lists.specs.Lists.{keep, any, same, down}
-use Rattle.lists.proofs.Bools.{by-test}
-use Rattle.lists.proofs.Same.{same-refl}
-use Rattle.lists.proofs.Tests.{any-none, keep-down}
+use Rattle.lists.proofs.Prelude.{Bool, true, false, _&&_, cond, _≡_, refl, sym, ap, _∙_, fun-ext, subst, ℕ, zero, suc, _-_, _<_, _≤_, arith, eqb, ltb, length, eqb-true, eq-eqb, ne-eqb, lt-ltb, keep, any, same, down, by-test, same-refl, any-none, keep-down}
 use Rattle.identifiers.specs.Names.{Name, among}
 use Rattle.accounts.specs.Ledger.{Ledger, live, existing, opens, closes, including, counts, removes}
 use Rattle.accounts.proofs.Numbers.{among-itself}

@@ -1,9 +1,5 @@
 -- What holds of each member of a list holds of every one.
-use mathlib.Core.Bool.{Bool, true}
-use mathlib.Core.List.{List, [], _∷_, List·Memᴰ, List·Memᴰ·head, List·Memᴰ·tail}
-use mathlib.Core.Path.{_≡_, refl}
-use Rattle.lists.specs.Lists.{every}
-use Rattle.lists.proofs.Bools.{and-both}
+use Rattle.lists.proofs.Prelude.{Bool, true, List, [], _∷_, List·Memᴰ, List·Memᴰ·head, List·Memᴰ·tail, _≡_, refl, every, and-both}
 
 pub members-every : {A : Type 0} (t : A → Bool) (l : List A) → ((x : A) → List·Memᴰ x l → t x ≡ true) → every t l ≡ true
 members-every t [] h = refl

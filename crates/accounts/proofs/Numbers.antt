@@ -1,16 +1,5 @@
 -- Identifiers by name and by number: one identifier more changes no number, and numbers differ where names do.
-use mathlib.Core.Bool.{Bool, true, false, _||_, not, cond, or-false, or-comm, true≢false}
-use mathlib.Core.List.{List, [], _∷_, _++_, map}
-use mathlib.Core.Path.{_≡_, refl, sym, ap, ap₂, _∙_}
-use Prim.Native.Nat.{ℕ, zero, suc, _≤_}
-use native.Mathlib.Omega.{arith}
-use lib.Dec.{eqb, ltb, leb}
-use lib.ListN.{length, getD, length-append, List·getD-eq-default}
-use borrow.Author.Tests.{eqb-true, eqb-false, eq-eqb, ne-eqb, ltb-true, ltb-false, lt-ltb, le-ltb, le-leb, lt-leb}
-use Rattle.lists.specs.Lists.{every, elem, different, same}
-use Rattle.lists.proofs.Bools.{by-test, and-left, and-right, and-both, or-right}
-use Rattle.lists.proofs.Same.{same-refl, same-true}
-use Rattle.lists.proofs.Tests.{every-append}
+use Rattle.lists.proofs.Prelude.{Bool, true, false, _||_, not, cond, or-false, or-comm, true≢false, List, [], _∷_, _++_, map, _≡_, refl, sym, ap, ap₂, _∙_, ℕ, zero, suc, _≤_, arith, eqb, ltb, leb, length, getD, length-append, List·getD-eq-default, eqb-true, eqb-false, eq-eqb, ne-eqb, ltb-true, ltb-false, lt-ltb, le-ltb, le-leb, lt-leb, every, elem, different, same, by-test, and-left, and-right, and-both, or-right, same-refl, same-true, every-append}
 use Rattle.identifiers.specs.Names.{Name, badLength, among, distinct, numberOf}
 use Rattle.identifiers.proofs.Names.{number-there, number-none, number-among, number-at, number-added, number-kept, number-place, among-snoc, distinct-snoc}
 use Rattle.accounts.specs.Ledger.{including}

@@ -1,19 +1,9 @@
 -- Sums over a part of the postings: those that pass a test, those of one window, those of one identifier; and pairs whose sums fit.
-use mathlib.Core.Bool.{Bool, true, false, _&&_}
-use mathlib.Core.List.{List, [], _∷_}
-use mathlib.Core.Path.{_≡_, refl, sym}
-use Prim.Native.Nat.{ℕ, _≤_}
-use native.Mathlib.Omega.{arith}
-use lib.Dec.{eqb}
-use lib.IntN.{pos, natAbs, +ℤ-idl}
-use borrow.Author.Tests.{eqb-true, eqb-false, ne-eqb, le-leb}
-use Rattle.lists.specs.Lists.{keep, every}
-use Rattle.lists.proofs.Bools.{by-test, and-left, and-right}
-use Rattle.lists.proofs.Tests.{every-kept}
+use Rattle.lists.proofs.Prelude.{Bool, true, false, _&&_, List, [], _∷_, _≡_, refl, sym, ℕ, _≤_, arith, eqb, pos, natAbs, +ℤ-idl, eqb-true, eqb-false, ne-eqb, le-leb, keep, every, by-test, and-left, and-right, every-kept}
 use Rattle.accounts.proofs.Members.{members-every}
 use Rattle.postings.specs.declared.Posting.{Posting}
 use Rattle.postings.specs.Merge.{pairs}
-use Rattle.postings.specs.Sums.{share, sum, under}
+use Rattle.postings.specs.Sums.{sum, under}
 use Rattle.postings.proofs.Sums.{sum-pairs, sum-under}
 use Rattle.postings.proofs.Merge.{pairs-ordered, ordered-sum}
 use Rattle.partitions.specs.Formed.{inRange, sumsInRange}
@@ -22,10 +12,6 @@ use Rattle.removals.specs.Removal.{ofWindow}
 -- does a posting belong to the pair of i and w
 abbrev pub ofPair : ℕ → ℕ → Posting → Bool
 ofPair i w p = eqb (p .id) i && eqb (p .window) w
-
--- what does not belong to a pair adds nothing to it
-pub share-other : (p : Posting) (i w : ℕ) → ofPair i w p ≡ false → share p i w ≡ pos 0
-share-other p i w e = rw e
 
 module _ (i w : ℕ) where
   -- postings that a test leaves out add nothing, where none of them belongs to the pair

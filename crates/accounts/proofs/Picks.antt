@@ -1,16 +1,5 @@
 -- What a test keeps of a list of identifiers, where one identifier is added to the list or changes its answer.
-use mathlib.Core.Bool.{Bool, true, false, not, cond, or-false}
-use mathlib.Core.List.{List, [], _∷_, append-nil}
-use mathlib.Core.Path.{_≡_, refl, sym, ap, _∙_}
-use Prim.Native.Nat.{ℕ, zero, suc, _≤_}
-use native.Mathlib.Omega.{arith}
-use lib.ListN.{length, length-append}
-use lib.Dec.{eqb}
-use borrow.Author.Tests.{eqb-true, eqb-false, ne-eqb, not-true}
-use Rattle.lists.specs.Lists.{keep, any, same, down}
-use Rattle.lists.proofs.Bools.{by-test, and-left, and-right, or-right, or-none}
-use Rattle.lists.proofs.Same.{same-true, same-swap}
-use Rattle.lists.proofs.Tests.{keep-append, any-append, keep-down}
+use Rattle.lists.proofs.Prelude.{Bool, true, false, not, cond, or-false, List, [], _∷_, append-nil, _≡_, refl, sym, ap, _∙_, ℕ, zero, suc, _≤_, arith, length, length-append, eqb, eqb-true, eqb-false, ne-eqb, not-true, keep, any, same, down, by-test, and-left, and-right, or-right, or-none, same-true, same-swap, keep-append, any-append, keep-down}
 use Rattle.identifiers.specs.Names.{Name, among, distinct}
 use Rattle.accounts.specs.Ledger.{including}
 

@@ -1,17 +1,6 @@
 -- The sum of a pair over the oldest partitions is a count that was once right: never negative and never above 32,767. So a run of partitions has
 -- the difference of two such counts, and no sum that a call must form leaves ±32,767.
-use mathlib.Core.Bool.{Bool, true, false, cond}
-use mathlib.Core.List.{List, [], _∷_, _++_, append-nil}
-use mathlib.Core.Path.{_≡_, refl, sym, ap, _∙_, subst}
-use Prim.Native.Nat.{ℕ, suc, _+_, _-_, _*_, _≤_}
-use native.Mathlib.Omega.{arith}
-use lib.Dec.{ltb, leb}
-use lib.IntN.{ℤ, pos, negsuc, natAbs, _+ℤ_, pos-ne-negsuc}
-use lib.ListN.{length, take, drop, length-append}
-use lib.Seq.{take-append-le, take-append-add, take-all}
-use borrow.Author.Tests.{leb-true, leb-false, ltb-false}
-use Rattle.lists.specs.Lists.{empty}
-use Rattle.lists.proofs.Bools.{by-test}
+use Rattle.lists.proofs.Prelude.{Bool, true, false, cond, List, [], _∷_, _++_, append-nil, _≡_, refl, sym, ap, _∙_, subst, ℕ, suc, _+_, _-_, _*_, _≤_, arith, ltb, leb, ℤ, pos, negsuc, natAbs, _+ℤ_, pos-ne-negsuc, length, take, drop, length-append, take-append-le, take-append-add, take-all, leb-true, leb-false, ltb-false, empty, by-test}
 use Rattle.postings.specs.Sums.{sum}
 use Rattle.state.specs.Levels.{oldestAt, dueAt, oldest, replaced}
 use Rattle.accounts.specs.Account.{Portion, Account, postingsIn, storedIn, dueOf, inputsOf, merged, portionOf, completed, furthered, steppedAccount, flushedAccount}

@@ -1,16 +1,5 @@
 -- Stored postings have an identifier of the register and a window from 1 up to the last that has events.
-use mathlib.Core.Bool.{Bool, true, false, _&&_}
-use mathlib.Core.List.{List, [], _∷_, map, foldr}
-use mathlib.Core.Path.{_≡_, refl, sym, ap, _∙_}
-use Prim.Native.Nat.{ℕ, suc, _*_, _<_, _≤_}
-use native.Mathlib.Omega.{arith}
-use lib.Dec.{eqb, leb}
-use lib.IntN.{ℤ, pos, negℤ}
-use lib.ListN.{drop}
-use borrow.Author.Tests.{ne-eqb, le-leb, leb-true}
-use Rattle.lists.specs.Lists.{keep, every}
-use Rattle.lists.proofs.Bools.{by-test, and-left, and-right, and-both}
-use Rattle.lists.proofs.Tests.{every-append, every-keep, every-from, every-take, every-drop}
+use Rattle.lists.proofs.Prelude.{Bool, true, false, _&&_, List, [], _∷_, map, foldr, _≡_, refl, sym, ap, _∙_, ℕ, suc, _*_, _<_, _≤_, arith, eqb, leb, ℤ, pos, negℤ, drop, ne-eqb, le-leb, leb-true, keep, every, by-test, and-left, and-right, and-both, every-append, every-keep, every-from, every-take, every-drop}
 use Rattle.postings.specs.declared.Posting.{Posting}
 use Rattle.postings.specs.Merge.{counting, put, isCounted, nonzero, pairs, negated}
 use Rattle.postings.specs.Sums.{sum}

@@ -1,14 +1,5 @@
 -- A query by number and by name, over all windows and over those given, finds the same.
-use mathlib.Core.Bool.{Bool, false, _||_, cond}
-use mathlib.Core.List.{List, [], _∷_, foldr, map}
-use mathlib.Core.Path.{_≡_, refl, sym, ap, ap₂, _∙_, fun-ext}
-use Prim.Native.Nat.{ℕ, zero, suc, _+_, _*_, _-_, _<_, _≤_}
-use native.Mathlib.Omega.{arith}
-use lib.Dec.{ltb}
-use lib.ListN.{length, getD, take}
-use Rattle.lists.specs.Lists.{keep, any, totalBy, down}
-use Rattle.lists.proofs.Bools.{by-test}
-use Rattle.lists.proofs.Tests.{any-none}
+use Rattle.lists.proofs.Prelude.{Bool, false, _||_, cond, List, [], _∷_, foldr, map, _≡_, refl, sym, ap, ap₂, _∙_, fun-ext, ℕ, zero, suc, _+_, _*_, _-_, _<_, _≤_, arith, ltb, length, getD, take, keep, any, totalBy, down, by-test, any-none}
 use Rattle.weights.specs.Weights.{tfWeight, idfWeight}
 use Rattle.identifiers.specs.Names.{Name, among, numbersOf}
 use Rattle.identifiers.proofs.Names.{number-at}

@@ -1,17 +1,6 @@
 -- The account's own shape: partitions and buffer in order and without a count of 0, levels within their limits and never rising, and the merge in
 -- progress. Flushes, steps and what is added to the buffer keep it.
-use mathlib.Core.Bool.{Bool, true, false, _||_, _&&_, not}
-use mathlib.Core.List.{List, [], _∷_, foldr}
-use mathlib.Core.Path.{_≡_, refl, sym, ap, ap₂, _∙_, subst}
-use Prim.Native.Nat.{ℕ, zero, suc, _+_, _*_, _≤_}
-use native.Mathlib.Omega.{arith}
-use lib.Dec.{eqb, leb}
-use lib.IntN.{pos}
-use lib.ListN.{length, take, drop}
-use borrow.Author.Tests.{eqb-true, eqb-false, eq-eqb, le-leb, leb-false, ltb-false}
-use Rattle.lists.specs.Lists.{any, every, empty}
-use Rattle.lists.proofs.Bools.{by-test, and-both}
-use Rattle.lists.proofs.Tests.{every-append, every-take, every-drop, every-from, length-keep}
+use Rattle.lists.proofs.Prelude.{Bool, true, false, _||_, _&&_, not, List, [], _∷_, foldr, _≡_, refl, sym, ap, ap₂, _∙_, subst, ℕ, zero, suc, _+_, _*_, _≤_, arith, eqb, leb, pos, length, take, drop, eqb-true, eqb-false, eq-eqb, le-leb, leb-false, ltb-false, any, every, empty, by-test, and-both, every-append, every-take, every-drop, every-from, length-keep}
 use Rattle.postings.specs.declared.Posting.{Posting}
 use Rattle.postings.specs.Order.{samePair, ordered}
 use Rattle.postings.specs.Merge.{put, isCounted, nonzero}

@@ -1,19 +1,6 @@
 -- Lists that stand for a ledger and its account keep every rule of the state, and what a call uses of them is well formed: refusals 1 and 3 have no
 -- cause.
-use mathlib.Core.Bool.{Bool, true, false, _||_, _&&_, not, cond}
-use mathlib.Core.List.{List, [], _∷_, map, List·Memᴰ}
-use mathlib.Core.Logic.{_⊎_, inl, inr}
-use mathlib.Core.Path.{_≡_, refl, sym, ap, ap₂, _∙_}
-use Prim.Native.Nat.{ℕ, zero, suc, _+_, _*_, _<_, _≤_}
-use native.Mathlib.Omega.{arith}
-use lib.Dec.{eqb, leb}
-use lib.IntN.{pos, natAbs, _+ℤ_}
-use lib.ListN.{length, getD, length-map}
-use borrow.Author.Tests.{eqb-false, le-leb, lt-leb, leb-true, not-true}
-use Rattle.lists.specs.Lists.{keep, every, empty, totalBy, down}
-use Rattle.lists.proofs.Bools.{by-test, and-left, and-right, and-both}
-use Rattle.lists.proofs.Tests.{every-from, every-keep, every-mem, length-keep}
-use Rattle.lists.proofs.Ranges.{every-map}
+use Rattle.lists.proofs.Prelude.{Bool, true, false, _||_, _&&_, not, cond, List, [], _∷_, map, List·Memᴰ, _⊎_, inl, inr, _≡_, refl, sym, ap, ap₂, _∙_, ℕ, zero, suc, _+_, _*_, _<_, _≤_, arith, eqb, leb, pos, natAbs, _+ℤ_, length, getD, length-map, eqb-false, le-leb, lt-leb, leb-true, not-true, keep, every, empty, totalBy, down, by-test, and-left, and-right, and-both, every-from, every-keep, every-mem, length-keep, every-map}
 use Rattle.postings.specs.declared.Posting.{Posting}
 use Rattle.postings.specs.Order.{ordered}
 use Rattle.postings.specs.Merge.{isZero, isCounted, pairs}

@@ -1,12 +1,5 @@
 -- The merge in progress: its inputs do not change, pairs are left to take, and it ends when they are taken.
-use mathlib.Core.List.{List, [], _∷_}
-use mathlib.Core.Path.{_≡_, refl, ap, _∙_}
-use Prim.Native.Nat.{ℕ, zero, suc, _+_, _*_, _/_, _<_, _≤_}
-use native.Mathlib.Omega.{arith}
-use lib.Dec.{leb}
-use lib.ListN.{length}
-use borrow.Author.Tests.{leb-false, le-leb, lt-leb}
-use Rattle.lists.proofs.Bools.{by-test}
+use Rattle.lists.proofs.Prelude.{List, [], _∷_, _≡_, refl, ap, _∙_, ℕ, zero, suc, _+_, _*_, _/_, _<_, _≤_, arith, leb, length, leb-false, le-leb, lt-leb, by-test}
 use Rattle.postings.specs.declared.Posting.{Posting}
 use Rattle.postings.specs.Merge.{pairs}
 use Rattle.accounts.specs.Account.{Account, postingsIn, dueOf, inputsOf, merged, completed, furthered, steppedAccount, flushedAccount, addedTo}
@@ -85,7 +78,7 @@ steps-counted a z (suc j) h =
     ∙ step-goes (atStep j a) (unfold inputsOf in lt-leb (pairCount a) (16 * suc j) h)
     ∙ (unfold furthered in refl)
 
--- a merge of n pairs ends at step n / 16, rounded up
+-- a merge takes as many steps as sixteens cover its pairs
 pub merge-ends : (a : Account) → a .steps ≡ 0 → 1 ≤ pairCount a → afterSteps ((pairCount a + 15) / 16) a ≡ completed a
 merge-ends a z some = go ((pairCount a + 15) / 16) refl
   where

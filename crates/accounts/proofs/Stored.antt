@@ -1,14 +1,5 @@
 -- What flushes, merge steps, events and removals do to the sums of what is stored. Each law stands for every account, whatever it holds.
-use mathlib.Core.Bool.{Bool, true, false, cond}
-use mathlib.Core.List.{List, [], _∷_, _++_, foldr, append-nil}
-use mathlib.Core.Path.{_≡_, refl, sym, ap, ap₂, _∙_}
-use Prim.Native.Nat.{ℕ, suc, _*_}
-use lib.Dec.{eqb, leb}
-use lib.IntN.{ℤ, pos, negℤ, _+ℤ_, +ℤ-idl, +ℤ-invl}
-use lib.ListN.{length, take, drop, take-append-drop}
-use borrow.Author.Tests.{eqb-true, eqb-false}
-use Rattle.lists.specs.Lists.{every, empty}
-use Rattle.lists.proofs.Bools.{by-test}
+use Rattle.lists.proofs.Prelude.{Bool, true, false, cond, List, [], _∷_, _++_, foldr, append-nil, _≡_, refl, sym, ap, ap₂, _∙_, ℕ, suc, _*_, eqb, leb, ℤ, pos, negℤ, _+ℤ_, +ℤ-idl, +ℤ-invl, length, take, drop, take-append-drop, eqb-true, eqb-false, every, empty, by-test}
 use Rattle.lists.proofs.Ints.{sum-swap}
 use Rattle.lists.proofs.Stores.{joined-append}
 use Rattle.postings.specs.declared.Posting.{Posting}

@@ -1,9 +1,5 @@
 -- What ledger and account say is never refusal 1, 2 or 3: these are of what the probe remembers and was lent.
-use mathlib.Core.Bool.{Bool, true, false}
-use mathlib.Core.List.{List, [], _∷_}
-use Prim.Native.Nat.{ℕ, _≤_}
-use native.Mathlib.Omega.{arith}
-use Rattle.lists.specs.All.{AllOf}
+use Rattle.lists.proofs.Prelude.{Bool, true, false, List, [], _∷_, ℕ, _≤_, arith, AllOf}
 use Rattle.answers.specs.Answers.{Outcome, refuseIf, choose, answerOf}
 use Rattle.engine.specs.Calls.{Call, Open, Event, Close, Remove, Flush, Step, Query, run}
 use Rattle.accounts.specs.Account.{Account, stepping, flushing, flushingIf}

@@ -1,5 +1,5 @@
--- "The ledger": live windows with their counts, the last number given, and the identifiers ever counted. It knows nothing of partitions.
-use mathlib.Core.Bool.{Bool, true, false, _&&_, not, cond}
+-- The ledger: what a plain list of windows would say. It has each window's counts, the highest number handed out and the names it has met, and knows nothing of partitions.
+use mathlib.Core.Bool.{Bool, true, false, _&&_, cond}
 use mathlib.Core.List.{List, [], _∷_, _++_}
 use Prim.Native.Nat.{ℕ, suc, _-_}
 use lib.Dec.{eqb, ltb}
@@ -20,7 +20,7 @@ pub record Ledger : Type 0 where
 unfoldable pub emptyLedger : Ledger
 emptyLedger = record { last = 0; identifiers = []; isOpen = false; events = 0; listed = []; count = λ n w. 0 }
 
--- a window is live when a count of it is above 0
+-- a window that has been counted in and not removed
 unfoldable pub live : Ledger → ℕ → Bool
 live l w = any (λ n. ltb 0 (l .count n w)) (l .identifiers)
 
@@ -38,7 +38,7 @@ byNumber l i w = l .count (getD (l .identifiers) i []) w
 unfoldable pub opens : Ledger → Ledger
 opens l = record { last = suc (l .last); identifiers = l .identifiers; isOpen = true; events = 0; listed = []; count = l .count }
 
--- closing a window without events gives its number back
+-- a close; the number of a window that saw no event is free again
 unfoldable pub closes : Ledger → Ledger
 closes l = record { last = cond (eqb (l .events) 0) (l .last - 1) (l .last); identifiers = l .identifiers; isOpen = false; events = 0; listed = []; count = l .count }
 

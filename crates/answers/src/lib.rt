@@ -1,4 +1,6 @@
 // What the engine's calls answer.
+ghost use mathlib.Core.Path.{_≡_};
+ghost use Rattle.answers.specs.Numbers.{refusalNumber};
 
 // Why a call is refused. A refused call changes nothing.
 pub enum Refusal {
@@ -40,4 +42,26 @@ pub enum Found {
 pub struct Hit {
     pub window: u16,
     pub score: u32,
+}
+
+// The number that the document has for a refusal.
+pub fn number_of(why: Refusal) -> u32
+    ensures { λ r. ⌜ r ≡ refusalNumber why ⌝ }
+{
+    match why {
+        Refusal::BrokenState => 1,
+        Refusal::WrongLength => 2,
+        Refusal::Malformed => 3,
+        Refusal::BadIdentifier => 4,
+        Refusal::OutOfTurn => 5,
+        Refusal::Exhausted => 6,
+        Refusal::NotLive => 7,
+        Refusal::RegisterFull => 8,
+        Refusal::WindowFull => 9,
+        Refusal::LevelFull => 10,
+        Refusal::HalfFull => 11,
+        Refusal::TooFewFree => 12,
+        Refusal::NothingDue => 13,
+        Refusal::BadQuery => 14,
+    }
 }

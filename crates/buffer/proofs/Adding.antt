@@ -1,28 +1,14 @@
 -- A posting added to an ordered list: what it does to sums, order and length, and that the order of adding does not matter.
-use mathlib.Core.Bool.{Bool, true, false, _&&_}
-use mathlib.Core.List.{List, [], _∷_, foldr, foldl, List·Permᴰ}
-use mathlib.Core.Path.{_≡_, refl, sym, ap, _∙_}
-use Prim.Native.Nat.{ℕ, suc, _+_, _<_, _≤_}
-use native.Mathlib.Omega.{arith}
-use lib.Dec.{eqb}
-use lib.IntN.{ℤ, natAbs, _+ℤ_, +ℤ-idl}
-use lib.ListN.{length}
-use borrow.Author.Tests.{eq-eqb}
-use Rattle.lists.specs.Lists.{keep, any, every}
-use Rattle.lists.proofs.Bools.{by-test}
-use Rattle.lists.proofs.Ints.{sum-swap}
-use Rattle.lists.proofs.Tests.{length-keep, every-keep}
+use Rattle.lists.proofs.Prelude.{true, false, List, [], _∷_, foldr, _≡_, sym, ap, _∙_, ℕ, suc, _+_, _<_, _≤_, arith, ℤ, natAbs, _+ℤ_, +ℤ-idl, length, any, every, length-keep}
 use Rattle.postings.specs.declared.Posting.{Posting}
 use Rattle.postings.specs.Order.{samePair, ordered}
-use Rattle.postings.specs.Merge.{counting, put, isCounted, nonzero}
+use Rattle.postings.specs.Merge.{put, isCounted, nonzero}
 use Rattle.postings.specs.Sums.{share, sum}
-use Rattle.postings.proofs.Order.{ordered-once}
-use Rattle.postings.proofs.Sums.{sum-permuted, sum-put, sum-puts, sum-nonzero}
-use Rattle.postings.proofs.Merge.{every-put, put-ordered, puts-ordered, nonzero-ordered, nonzero-counts, length-put, length-puts, length-put-there, sum-none, same-sums}
-use Rattle.state.specs.declared.Buffer.{Buffer}
-use Rattle.state.specs.Views.{buffered, bufferOf}
-use Rattle.buffer.specs.Canonical.{Canonical, Addable}
-use Rattle.buffer.proofs.Canonical.{buffered-of, canonical-of, canonical-used}
+use Rattle.postings.proofs.Sums.{sum-put, sum-puts, sum-nonzero}
+use Rattle.postings.proofs.Merge.{put-ordered, puts-ordered, nonzero-ordered, nonzero-counts, length-put, length-puts, sum-none, same-sums}
+use Rattle.state.specs.Views.{bufferOf}
+use Rattle.buffer.specs.Canonical.{Addable}
+use Rattle.buffer.proofs.Canonical.{buffered-of}
 
 length-nonzero : (l : List Posting) → length (nonzero l) ≤ length l
 unfolding nonzero
@@ -35,45 +21,9 @@ module _ (p : Posting) (l : List Posting) where
   pub sum-added : (i w : ℕ) → sum (nonzero (put p l)) i w ≡ share p i w +ℤ sum l i w
   sum-added i w = sum-nonzero i w (put p l) ∙ sum-put i w p l
 
-  -- so its pair's sum moves by its count
-  pub sum-added-own : sum (nonzero (put p l)) (p .id) (p .window) ≡ p .count +ℤ sum l (p .id) (p .window)
-  sum-added-own = sum-added (p .id) (p .window) ∙ rw (eq-eqb (p .id) (p .id) refl, eq-eqb (p .window) (p .window) refl)
-
-  -- and every other sum stays
-  pub sum-added-other : (i w : ℕ) → (eqb (p .id) i && eqb (p .window) w) ≡ false → sum (nonzero (put p l)) i w ≡ sum l i w
-  sum-added-other i w n = sum-added i w ∙ rw n (+ℤ-idl (sum l i w))
-
-  -- the order stays
-  pub added-ordered : ordered l ≡ true → ordered (nonzero (put p l)) ≡ true
-  added-ordered o = nonzero-ordered (put p l) (put-ordered p l o)
-
-  -- each pair stays at most once
-  pub added-once : (q : Posting) → ordered l ≡ true → length (keep (samePair q) (nonzero (put p l))) ≤ 1
-  added-once q o = ordered-once q (nonzero (put p l)) (added-ordered o)
-
   -- at most one place more
   pub length-added : length (nonzero (put p l)) ≤ suc (length l)
   length-added = omega (arith, length-nonzero (put p l), length-put p l)
-
-  -- none more for a pair that is there
-  pub length-added-there : ordered l ≡ true → any (samePair p) l ≡ true → length (nonzero (put p l)) ≤ length l
-  length-added-there o e = omega (arith, length-nonzero (put p l), length-put-there p l o e)
-
-  -- what all pass by their pairs alone, all pass
-  pub every-added : (t : Posting → Bool) → ((q : Posting) (c : ℤ) → t q ≡ true → t (counting q c) ≡ true) → t p ≡ true → every t l ≡ true → every t (nonzero (put p l)) ≡ true
-  unfolding nonzero
-  every-added t h f e = every-keep isCounted t (put p l) (every-put t h p l f e)
-
--- what `add` leaves is canonical again
-pub canonical-added : (b : Buffer) (p : Posting) → Canonical b → Addable b p → Canonical (bufferOf (nonzero (put p (buffered b))))
-canonical-added b p c a =
-    let l = buffered b in
-    let u = canonical-used b c in
-    let s = c .short in
-    canonical-of (nonzero (put p l)) (added-ordered p l (c .inOrder))
-    (by-test (any (samePair p) l)
-    (λ y. omega (arith, length-added-there p l (c .inOrder) y))
-    (λ n. omega (arith, length-added p l, a .room n)))
 
 -- ---- many postings
 
@@ -100,12 +50,6 @@ module _ (l : List Posting) (o : ordered l ≡ true) where
   added-back (p ∷ ps) c =
       ap (λ (m : List Posting). nonzero (put p m)) (added-back ps c) ∙ added-nonzero p (foldr put l ps) (puts-ordered ps l o)
 
-  -- in whatever order they are put in
-  pub added-permuted : {ps qs : List Posting} → List·Permᴰ ps qs → nonzero (foldr put l ps) ≡ nonzero (foldr put l qs)
-  added-permuted {ps} {qs} d =
-      nonzero-sums (foldr put l ps) (foldr put l qs) (puts-ordered ps l o) (puts-ordered qs l o)
-      (λ i w. sum-puts i w ps l ∙ ap (λ (z : ℤ). z +ℤ sum l i w) (sum-permuted i w d) ∙ sym (sum-puts i w qs l))
-
   -- a pair that none of them has keeps its sum
   pub sum-added-all : (q : Posting) (ps : List Posting) → any (samePair q) ps ≡ false → sum (nonzero (foldr put l ps)) (q .id) (q .window) ≡ sum l (q .id) (q .window)
   sum-added-all q ps e =
@@ -126,12 +70,3 @@ addable-after l ps p o e f h g =
       room = λ n. omega arith;
       within = rw (buffered-of m, sum-added-all l o p ps e) g;
     }
-
--- added one by one from the first to the last: the same
-pub added-forth : (ps l : List Posting) → ordered l ≡ true → every isCounted l ≡ true → foldl (λ m p. nonzero (put p m)) l ps ≡ nonzero (foldr put l ps)
-added-forth [] l o c = sym (nonzero-self l o c)
-added-forth (p ∷ ps) l o c =
-    let a = added-ordered p l o in
-    added-forth ps (nonzero (put p l)) a (nonzero-counts (put p l))
-    ∙ nonzero-sums (foldr put (nonzero (put p l)) ps) (put p (foldr put l ps)) (puts-ordered ps (nonzero (put p l)) a) (put-ordered p (foldr put l ps) (puts-ordered ps l o))
-    (λ i w. sum-puts i w ps (nonzero (put p l)) ∙ rw (sum-added p l i w, sum-put i w p (foldr put l ps), sum-puts i w ps l) (sum-swap (sum ps i w) (share p i w) (sum l i w)))

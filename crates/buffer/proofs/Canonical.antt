@@ -1,17 +1,5 @@
 -- The canonical form of a buffer: which buffers have it, and what the helper functions make of it.
-use mathlib.Core.Bool.{true}
-use mathlib.Core.List.{List}
-use mathlib.Core.Path.{_≡_, sym, ap, ap₂, _∙_}
-use Prim.Native.Nat.{ℕ, _+_, _-_, _<_, _≤_}
-use native.Mathlib.Numerals.{add-one}
-use native.Mathlib.Omega.{arith}
-use lib.Dec.{leb, eqb}
-use lib.ListN.{length, set, length-set}
-use lib.Seq.{length-take-le, take-append-seam}
-use borrow.Author.Tests.{leb-true, eqb-true}
-use Rattle.lists.specs.Lists.{every}
-use Rattle.lists.proofs.Bools.{and-left, and-right}
-use Rattle.lists.proofs.Tests.{every-from}
+use Rattle.lists.proofs.Prelude.{true, List, _≡_, sym, ap, ap₂, _∙_, ℕ, _+_, _-_, _<_, _≤_, add-one, arith, leb, eqb, length, set, length-set, length-take-le, take-append-seam, leb-true, eqb-true, every, and-left, and-right, every-from}
 use Rattle.lists.proofs.Shifts.{raised, lowered}
 use Rattle.lists.proofs.Places.{length-insert, length-without, filled-from, filled-insert, filled-without, filled-set}
 use Rattle.postings.specs.declared.Posting.{Posting}

@@ -1,13 +1,5 @@
 -- A posting put in by its rank: at the place of its pair, or before the place where the pair would stand.
-use mathlib.Core.Bool.{true, false, true≢false}
-use mathlib.Core.List.{List, [], _∷_}
-use mathlib.Core.Path.{_≡_, refl, sym, ap, ap₂, _∙_}
-use Prim.Native.Nat.{ℕ, zero, suc}
-use lib.IntN.{ℤ, _+ℤ_, +ℤ-idr}
-use lib.ListN.{set}
-use Rattle.lists.specs.Lists.{any, every}
-use Rattle.lists.proofs.Bools.{by-test, and-right, or-none}
-use Rattle.lists.proofs.Tests.{keep-all}
+use Rattle.lists.proofs.Prelude.{true, false, true≢false, List, [], _∷_, _≡_, refl, sym, ap, ap₂, _∙_, ℕ, zero, suc, ℤ, _+ℤ_, +ℤ-idr, set, any, every, by-test, and-right, or-none, keep-all}
 use Rattle.lists.proofs.Places.{mem-at, every-insert, keep-set}
 use Rattle.postings.specs.declared.Posting.{Posting}
 use Rattle.postings.specs.Order.{precedes, samePair, ordered}

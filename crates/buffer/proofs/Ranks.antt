@@ -1,15 +1,5 @@
 -- The rank of a posting in an ordered list: what stands before it, and where its pair stands.
-use mathlib.Core.Bool.{true, false, true≢false}
-use mathlib.Core.List.{List, [], _∷_}
-use mathlib.Core.Path.{_≡_, refl, sym, _∙_}
-use Prim.Native.Nat.{ℕ, zero, suc, _<_, _≤_}
-use native.Mathlib.Omega.{arith}
-use lib.Dec.{ltb}
-use lib.ListN.{length, getD, take, drop}
-use borrow.Author.Tests.{ltb-true, ltb-false}
-use Rattle.lists.specs.Lists.{any, every}
-use Rattle.lists.proofs.Bools.{by-test, and-left, and-right, and-both, or-none}
-use Rattle.lists.proofs.Tests.{every-at, length-keep, keep-none}
+use Rattle.lists.proofs.Prelude.{true, false, true≢false, List, [], _∷_, _≡_, refl, sym, _∙_, ℕ, zero, suc, _<_, _≤_, arith, ltb, length, getD, take, drop, ltb-true, ltb-false, any, every, by-test, and-left, and-right, and-both, or-none, every-at, length-keep, keep-none}
 use Rattle.lists.proofs.Places.{any-at}
 use Rattle.postings.specs.declared.Posting.{Posting}
 use Rattle.postings.specs.Order.{precedes, samePair, ordered}
@@ -25,14 +15,6 @@ precedes-asym p q e =
 -- what stands before p is of another pair
 pub before-apart : (p q : Posting) → precedes q p ≡ true → samePair p q ≡ false
 before-apart p q e = same-swap p q ∙ precedes-apart q p e
-
--- a posting of an ordered list is of another pair than those before it
-pub earlier-apart : (l : List Posting) (d : Posting) (i : ℕ) → ordered l ≡ true → i < length l → any (samePair (getD l i d)) (take i l) ≡ false
-earlier-apart [] d i o h = absurd (omega arith)
-earlier-apart (q ∷ l) d zero o h = refl
-earlier-apart (q ∷ l) d (suc i) o h =
-    rw (before-apart (getD l i d) q (every-at (precedes q) l d (and-left _ _ o) i (omega arith)))
-    (earlier-apart l d i (and-right (every (precedes q) l) _ o) (omega arith))
 
 module _ (p : Posting) where
   -- one that stands before p counts

@@ -22,10 +22,7 @@ pub enum Place {
 fn is_pair(q: Posting, id: u16, window: u16) -> bool
     ensures { λ r. ⌜ r ≡ samePair (pair id window) q ⌝ }
 {
-    if id == q.id {
-        return window == q.window;
-    }
-    false
+    (id == q.id) & (window == q.window)
 }
 
 // Whether the pair is buffered, in whatever order the postings stand.

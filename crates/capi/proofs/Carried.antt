@@ -1,29 +1,20 @@
 -- What an engine's call promises of states, promised of their images.
-use mathlib.Core.Bool.{true, false}
-use mathlib.Core.List.{List}
-use mathlib.Core.Path.{_≡_, refl, sym, ap, _∙_}
-use Prim.Native.Nat.{ℕ, _+_, _-_, _<_, _≤_}
-use native.Mathlib.Omega.{arith}
-use lib.Dec.{eqb}
-use lib.ListN.{length}
-use borrow.Author.Tests.{lt-ltb, le-ltb}
+use Rattle.lists.proofs.Prelude.{Bool, true, false, not, List, _≡_, refl, sym, ap, _∙_, ℕ, _+_, _-_, _<_, _≤_, arith, eqb, length, lt-ltb, le-ltb, not-false}
 use Rattle.words.specs.Words.{Below}
 use Rattle.answers.specs.declared.Refusal.{Refusal}
 use Rattle.answers.specs.declared.Refusal.the-variants.{BrokenState, WrongLength, Malformed, BadIdentifier, OutOfTurn, Exhausted, NotLive, RegisterFull, WindowFull, LevelFull, HalfFull, TooFewFree, NothingDue, BadQuery}
-use Rattle.answers.specs.declared.Reply.{Reply}
-use Rattle.answers.specs.declared.Reply.the-variants as reply
-use Rattle.answers.specs.declared.Opened.{Opened}
-use Rattle.answers.specs.declared.Opened.the-variants as opened
-use Rattle.answers.specs.Answers.{Answer, refused, number, Outcome, refuse, leave, refuseIf, carry, answerOf, stateOf}
-use Rattle.answers.specs.Numbers.{refusalNumber, replied, openedAs}
+use Rattle.answers.specs.Answers.{Answer, done, number, hits, refused, Outcome, refuse, leave, refuseIf, carry, answerOf, stateOf}
+use Rattle.answers.specs.Numbers.{refusalNumber}
 use Rattle.answers.specs.Unchanged.{Unchanged}
 use Rattle.state.specs.declared.State.{State}
 use Rattle.state.specs.Probe.{Store, Probe}
 use Rattle.windows.specs.Promises.{Gives, storeOf, probeOf}
 use Rattle.windows.specs.Calls.{startOf, unstarted}
+use Rattle.windows.proofs.Outcomes.{stopped, passed}
 use Rattle.images.specs.Images.{imageRule}
+use Rattle.images.proofs.Fits.{image-length}
 use Rattle.images.proofs.Inverse.{image-back}
-use Rattle.capi.specs.Exports.{cardedOf, lentOf, stateOn, imaged, imagedStore, imagedProbe, repliedBy, openedBy, settledOn, openedOn, Lent, startOn, unstartedOn}
+use Rattle.capi.specs.Exports.{cardedOf, lentOf, stateOn, imaged, imagedStore, imagedProbe, repliedBy, openedBy, leftOn, Lent, startOn, unstartedOn}
 
 -- the number of a refusal stands for it
 pub number-refused : (why : Refusal) → repliedBy (refusalNumber why) ≡ refused (refusalNumber why)
@@ -82,58 +73,68 @@ module _ {S T : Type 0} (f : S → T) (s : S) (b : T) (e : f s ≡ b) where
   carried o a after g = record { answer = g .answer ∙ sym (answer-carried o); left = ap f (g .left) ∙ sym (state-carried o) }
 
 -- a refused call leaves what was there
-pub left-refused : {S : Type 0} (s : S) (o : Outcome S) (n : ℕ) (after : S) → Unchanged s o → Gives s o (refused n) after → after ≡ s
+left-refused : {S : Type 0} (s : S) (o : Outcome S) (n : ℕ) (after : S) → Unchanged s o → Gives s o (refused n) after → after ≡ s
 left-refused s o n after u g = g .left ∙ u .same n (sym (g .answer))
 
 -- the image put back is that of the state after the call
-pub settled-image : (r : Reply) (t : State) (image : List ℕ) → imaged (stateOn image) ≡ image → ((n : ℕ) → replied r ≡ refused n → t ≡ stateOn image)
-    → settledOn r t image ≡ imaged t
-settled-image reply.Done t image e h = refl
-settled-image (reply.Refused why) t image e h = sym e ∙ ap imaged (sym (h (refusalNumber why) refl))
-
-pub opened-image : (r : Opened) (t : State) (image : List ℕ) → imaged (stateOn image) ≡ image → ((n : ℕ) → openedAs r ≡ refused n → t ≡ stateOn image)
-    → openedOn r t image ≡ imaged t
-opened-image (opened.Number n) t image e h = refl
-opened-image (opened.Refused why) t image e h = sym e ∙ ap imaged (sym (h (refusalNumber why) refl))
+left-image : (a : Answer) (t : State) (image : List ℕ) → imaged (stateOn image) ≡ image → ((n : ℕ) → a ≡ refused n → t ≡ stateOn image) → leftOn a t image ≡ imaged t
+left-image done t image e h = refl
+left-image (number n) t image e h = refl
+left-image (hits l n) t image e h = refl
+left-image (refused n) t image e h = sym e ∙ ap imaged (sym (h n refl))
 
 -- the image of an image's state is the image
-pub imaged-back : (b : List ℕ) → Below 256 b → imageRule b ≡ true → imaged (stateOn b) ≡ b
+imaged-back : (b : List ℕ) → Below 256 b → imageRule b ≡ true → imaged (stateOn b) ≡ b
 unfolding imaged
 imaged-back b below h = image-back b below h
 
 -- Calls --------------------------------------------------------------------------------------------------------------
 
--- on a state alone
-pub on-state : (image : List ℕ) → imaged (stateOn image) ≡ image → (o : Outcome State) → Unchanged (stateOn image) o → (r : Reply) (t : State)
-    → Gives (stateOn image) o (replied r) t → Gives image (carry imaged o) (replied r) (settledOn r t image)
-on-state image e o u r t g =
-    let same = settled-image r t image e (λ n q. left-refused (stateOn image) o n t u (rw q at g)) in
-    rw same (carried imaged (stateOn image) image e o (replied r) t g)
+-- bytes that are no image are refused
+pub no-image : {S : Type 0} (s : S) (o : Outcome S) (image : List ℕ) {good : Bool} → good ≡ imageRule image → not good ≡ true → Gives s (refuseIf (not (imageRule image)) 1 o) (refused 1) s
+no-image s o image rule taken = stopped _ 1 o (ap not (sym rule) ∙ taken)
 
-pub on-state-open : (image : List ℕ) → imaged (stateOn image) ≡ image → (o : Outcome State) → Unchanged (stateOn image) o → (r : Opened) (t : State)
-    → Gives (stateOn image) o (openedAs r) t → Gives image (carry imaged o) (openedAs r) (openedOn r t image)
-on-state-open image e o u r t g =
-    let same = opened-image r t image e (λ n q. left-refused (stateOn image) o n t u (rw q at g)) in
-    rw same (carried imaged (stateOn image) image e o (openedAs r) t g)
+module _ (image : List ℕ) {good : Bool} (rule : good ≡ imageRule image) (left : not good ≡ false) where
+  pub is-image : imageRule image ≡ true
+  is-image = sym rule ∙ not-false good left
 
--- with a card
-pub on-store : (image card : List ℕ) → imaged (stateOn image) ≡ image → (o : Outcome Store) → Unchanged (storeOf (stateOn image) card) o → (r : Reply) (t : State) (after : List ℕ)
-    → Gives (storeOf (stateOn image) card) o (replied r) (storeOf t after) → Gives (cardedOf image card) (carry imagedStore o) (replied r) (cardedOf (settledOn r t image) after)
-unfolding imagedStore
-on-store image card e o u r t after g =
-    let same = settled-image r t image e (λ n q. ap (λ (p : Store). p .state) (left-refused (storeOf (stateOn image) card) o n (storeOf t after) u (rw q at g))) in
-    rw same (carried imagedStore (storeOf (stateOn image) card) (cardedOf image card) (ap (λ (i : List ℕ). cardedOf i card) e) o (replied r) (storeOf t after) g)
+  pub image-long : length image ≡ 2456
+  image-long = image-length image is-image
 
--- with both buffers
-pub on-probe : (image card register : List ℕ) → imaged (stateOn image) ≡ image → (o : Outcome Probe) → Unchanged (probeOf (stateOn image) card register) o
-    → (r : Reply) (t : State) (card' register' : List ℕ)
-    → Gives (probeOf (stateOn image) card register) o (replied r) (probeOf t card' register')
-    → Gives (lentOf image card register) (carry imagedProbe o) (replied r) (lentOf (settledOn r t image) card' register')
-unfolding imagedProbe
-on-probe image card register e o u r t card' register' g =
-    let same = settled-image r t image e (λ n q. ap (λ (p : Probe). p .state) (left-refused (probeOf (stateOn image) card register) o n (probeOf t card' register') u (rw q at g))) in
-    rw same
-    (carried imagedProbe (probeOf (stateOn image) card register) (lentOf image card register) (ap (λ (i : List ℕ). lentOf i card register) e) o (replied r) (probeOf t card' register') g)
+  -- of the state read, a call promises the answer a and the state t; it is told as a', and the image is put back
+  module _ (known : Below 256 image) {s : State} (t : State) {a a' : Answer} {image' : List ℕ} (read : s ≡ stateOn image) (out : (a' ≡ a) × (image' ≡ leftOn a t image)) where
+    back : imaged (stateOn image) ≡ image
+    back = imaged-back image known is-image
+
+    put : ((n : ℕ) → a ≡ refused n → t ≡ stateOn image) → image' ≡ imaged t
+    put h = out .1 ∙ left-image a t image back h
+
+    -- on a state alone
+    pub on-state : (o : State → Outcome State) → ((s : State) → Unchanged s (o s)) → Gives s (o s) a t → Gives image (refuseIf (not (imageRule image)) 1 (carry imaged (o (stateOn image)))) a' image'
+    on-state o u g =
+        let r : Gives (stateOn image) (o (stateOn image)) a t = rw read at g in
+        let same = put (λ n q. left-refused _ _ n t (u (stateOn image)) (rw q at r)) in
+        passed _ 1 _ (ap not (sym rule) ∙ left) (rw (out .0, same) (carried imaged (stateOn image) image back (o (stateOn image)) a t r))
+
+    -- with a card
+    pub on-store : {card card' : List ℕ} (o : Store → Outcome Store) → ((p : Store) → Unchanged p (o p)) → Gives (storeOf s card) (o (storeOf s card)) a (storeOf t card')
+        → Gives (cardedOf image card) (refuseIf (not (imageRule image)) 1 (carry imagedStore (o (storeOf (stateOn image) card)))) a' (cardedOf image' card')
+    unfolding imagedStore
+    on-store {card = card} {card' = card'} o u g =
+        let p : Store = storeOf (stateOn image) card in
+        let r : Gives p (o p) a (storeOf t card') = rw read at g in
+        let same = put (λ n q. ap (λ (x : Store). x .state) (left-refused p (o p) n (storeOf t card') (u p) (rw q at r))) in
+        passed _ 1 _ (ap not (sym rule) ∙ left) (rw (out .0, same) (carried imagedStore p (cardedOf image card) (ap (λ (i : List ℕ). cardedOf i card) back) (o p) a (storeOf t card') r))
+
+    -- with both buffers
+    pub on-probe : {card card' register register' : List ℕ} (o : Probe → Outcome Probe) → ((p : Probe) → Unchanged p (o p)) → Gives (probeOf s card register) (o (probeOf s card register)) a (probeOf t card' register')
+        → Gives (lentOf image card register) (refuseIf (not (imageRule image)) 1 (carry imagedProbe (o (probeOf (stateOn image) card register)))) a' (lentOf image' card' register')
+    unfolding imagedProbe
+    on-probe {card = card} {card' = card'} {register = register} {register' = register'} o u g =
+        let p : Probe = probeOf (stateOn image) card register in
+        let r : Gives p (o p) a (probeOf t card' register') = rw read at g in
+        let same = put (λ n q. ap (λ (x : Probe). x .state) (left-refused p (o p) n (probeOf t card' register') (u p) (rw q at r))) in
+        passed _ 1 _ (ap not (sym rule) ∙ left) (rw (out .0, same) (carried imagedProbe p (lentOf image card register) (ap (λ (i : List ℕ). lentOf i card register) back) (o p) a (probeOf t card' register') r))
 
 -- Start --------------------------------------------------------------------------------------------------------------
 

@@ -1,15 +1,5 @@
 -- A lent list of hits as bytes: filling its first places.
-use mathlib.Core.Bool.{Bool, true, false}
-use mathlib.Core.List.{List, [], _∷_, _++_, map, append-assoc}
-use mathlib.Core.Path.{_≡_, refl, sym, ap, ap₂, _∙_}
-use Prim.Native.Nat.{ℕ, zero, suc, _+_, _*_, _/_, _<_, _≤_}
-use native.Mathlib.Nat.{zero-add}
-use native.Mathlib.Numerals.{add-one}
-use native.Mathlib.Omega.{arith}
-use lib.ListN.{length, getD, set, take, drop, length-append, length-drop, drop-of-length-le}
-use lib.Seq.{sets, sets-eq, take-all, drop-drop, drop-cons, length-take-le}
-use Rattle.lists.specs.Lists.{joined}
-use Rattle.lists.proofs.Ranges.{length-joined}
+use Rattle.lists.proofs.Prelude.{Bool, true, false, List, [], _∷_, _++_, map, append-assoc, _≡_, refl, sym, ap, ap₂, _∙_, ℕ, zero, suc, _+_, _*_, _/_, _<_, _≤_, zero-add, add-one, arith, length, getD, set, take, drop, length-append, length-drop, drop-of-length-le, sets, sets-eq, take-all, drop-drop, drop-cons, length-take-le, joined, length-joined}
 use Rattle.lists.proofs.Stores.{joined-append}
 use Rattle.words.specs.Words.{words, bytes, Below}
 use Rattle.words.proofs.Views.{apart, length-words, words-drop}

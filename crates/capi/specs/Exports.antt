@@ -5,11 +5,7 @@ use Prim.Native.Nat.{ℕ, zero, suc, _-_}
 use lib.Dec.{eqb, ltb}
 use lib.ListN.{length}
 use Rattle.words.specs.Words.{words, bytes}
-use Rattle.answers.specs.Answers.{Answer, done, number, refused, Outcome, refuseIf, carry}
-use Rattle.answers.specs.declared.Reply.{Reply}
-use Rattle.answers.specs.declared.Reply.the-variants as reply
-use Rattle.answers.specs.declared.Opened.{Opened}
-use Rattle.answers.specs.declared.Opened.the-variants as opened
+use Rattle.answers.specs.Answers.{Answer, done, number, hits, refused, Outcome, refuseIf, carry}
 use Rattle.state.specs.declared.State.{State}
 use Rattle.state.specs.Probe.{Store, Probe}
 use Rattle.identifiers.specs.Names.{Name}
@@ -89,11 +85,9 @@ removeOn l w = refuseIf (not (imageRule (l .image))) 1 (carry imagedStore (remov
 unfoldable pub stepOn : Carded → Outcome Carded
 stepOn l = refuseIf (not (imageRule (l .image))) 1 (carry imagedStore (stepOf (storeOf (stateOn (l .image)) (l .card))))
 
--- the image after a call: the new state's where it is done, else as it was
-abbrev pub settledOn : Reply → State → List ℕ → List ℕ
-settledOn reply.Done s image = imaged s
-settledOn (reply.Refused why) s image = image
-
-abbrev pub openedOn : Opened → State → List ℕ → List ℕ
-openedOn (opened.Number n) s image = imaged s
-openedOn (opened.Refused why) s image = image
+-- the image after a call: as it was where it is refused, else the new state's
+abbrev pub leftOn : Answer → State → List ℕ → List ℕ
+leftOn done s image = imaged s
+leftOn (number n) s image = imaged s
+leftOn (hits l n) s image = imaged s
+leftOn (refused n) s image = image

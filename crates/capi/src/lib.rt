@@ -1,34 +1,28 @@
 // The engine's functions for callers in C and Rust: numbers and byte slices alone. A state is lent as its byte image.
 use answers::Found;
 use answers::Opened;
-use answers::Refusal;
 use answers::Reply;
 use queries::Top;
-use state::State;
+use windows::Opening;
+use windows::Replied;
 ghost use mathlib.Core.Bool.{cond, _&&_};
 ghost use mathlib.Core.List.{map};
 ghost use mathlib.Core.Path.{_≡_};
 ghost use Prim.Native.Nat.{_*_, _≤_};
 ghost use lib.ListN.{length};
-ghost use Rattle.answers.specs.Numbers.{refusalNumber, replied, openedAs};
+ghost use Rattle.answers.specs.Numbers.{replied, openedAs};
 ghost use Rattle.identifiers.specs.Register.{registerRule};
 ghost use Rattle.state.specs.Rules.{registerLength};
 ghost use Rattle.windows.specs.Promises.{Gives};
 ghost use Rattle.queries.specs.Top.{listedHits};
-ghost use Rattle.capi.specs.Exports.{cardedOf, lentOf, repliedBy, openedBy, startOn, unstartedOn, openOn, closeOn, eventOn, flushOn, removeOn, stepOn, settledOn, openedOn};
+ghost use Rattle.capi.specs.Exports.{cardedOf, lentOf, repliedBy, openedBy, startOn, unstartedOn, openOn, closeOn, eventOn, flushOn, removeOn, stepOn, leftOn};
 ghost use Rattle.capi.specs.Queries.{hitBytes, numberFound, Tells, queryOn};
 
 // Has a register of so many bytes 1 to 1,024 whole entries?
 fn length_ok(bytes: usize) -> bool
     ensures { λ r. ⌜ r ≡ registerLength bytes ⌝ }
 {
-    if bytes % 65 != 0 {
-        return false;
-    }
-    if bytes / 65 < 1 {
-        return false;
-    }
-    bytes / 65 <= 1024
+    (bytes % 65 == 0) & ((1 <= bytes / 65) & (bytes / 65 <= 1024))
 }
 
 // Is a register well formed? 1 where it is; 0 where it is not, or has no length within the limits.
@@ -46,51 +40,41 @@ pub extern "C" fn gemsilver_register_ok(register: &[u8]) -> u8
     }
 }
 
-// A refusal's number.
-fn number_of(why: Refusal) -> u32
-    ensures { λ r. ⌜ r ≡ refusalNumber why ⌝ }
+// The number of a reply.
+fn reply_number(reply: Reply) -> u32
+    ensures { λ r. ⌜ repliedBy r ≡ replied reply ⌝ }
 {
-    match why {
-        Refusal::BrokenState => 1,
-        Refusal::WrongLength => 2,
-        Refusal::Malformed => 3,
-        Refusal::BadIdentifier => 4,
-        Refusal::OutOfTurn => 5,
-        Refusal::Exhausted => 6,
-        Refusal::NotLive => 7,
-        Refusal::RegisterFull => 8,
-        Refusal::WindowFull => 9,
-        Refusal::LevelFull => 10,
-        Refusal::HalfFull => 11,
-        Refusal::TooFewFree => 12,
-        Refusal::NothingDue => 13,
-        Refusal::BadQuery => 14,
+    match reply {
+        Reply::Refused(why) => answers::number_of(why),
+        Reply::Done => 0,
     }
 }
 
 // The number of an answer, with the image put back where the call is done.
-fn settle(image: &mut [u8], reply: Reply, s: State) -> u32
+fn settle(image: &mut [u8], after: Replied) -> u32
     requires { ⌜ length (now image) ≡ 2456 ⌝ }
-    ensures { λ r. ⌜ (repliedBy r ≡ replied reply) × (now (image .exit) ≡ settledOn reply s (now (image .entry))) ⌝ }
+    ensures { λ r. ⌜ (repliedBy r ≡ replied (after .reply)) × (now (image .exit) ≡ leftOn (replied (after .reply)) (after .state) (now (image .entry))) ⌝ }
 {
+    let reply = after.reply;
     match reply {
-        Reply::Refused(why) => number_of(why),
+        Reply::Refused(why) => answers::number_of(why),
         Reply::Done => {
-            images::write_state(image, s);
+            images::write_state(image, after.state);
             0
         }
     }
 }
 
 // The same for an open.
-fn settle_open(image: &mut [u8], answer: Opened, s: State) -> u32
+fn settle_open(image: &mut [u8], after: Opening) -> u32
     requires { ⌜ length (now image) ≡ 2456 ⌝ }
-    ensures { λ r. ⌜ (openedBy r ≡ openedAs answer) × (now (image .exit) ≡ openedOn answer s (now (image .entry))) ⌝ }
+    ensures { λ r. ⌜ (openedBy r ≡ openedAs (after .answer)) × (now (image .exit) ≡ leftOn (openedAs (after .answer)) (after .state) (now (image .entry))) ⌝ }
 {
+    let answer = after.answer;
     match answer {
-        Opened::Refused(why) => 65536 + number_of(why),
+        Opened::Refused(why) => 65536 + answers::number_of(why),
         Opened::Number(n) => {
-            images::write_state(image, s);
+            images::write_state(image, after.state);
             n as u32
         }
     }
@@ -109,10 +93,7 @@ pub extern "C" fn gemsilver_start(image: &mut [u8], card: &mut [u8], register: &
     let r = engine::start(card, register);
     images::write_state(image, r.state);
     let reply = r.reply;
-    match reply {
-        Reply::Refused(why) => number_of(why),
-        Reply::Done => 0,
-    }
+    reply_number(reply)
 }
 
 // A window is opened: its number, or 65,536 more than a refusal's.
@@ -125,8 +106,7 @@ pub extern "C" fn gemsilver_open(image: &mut [u8]) -> u32
     }
     let s = images::read_state(image);
     let r = engine::open(s);
-    let answer = r.answer;
-    settle_open(image, answer, r.state)
+    settle_open(image, r)
 }
 
 // The open window is closed.
@@ -139,8 +119,7 @@ pub extern "C" fn gemsilver_close(image: &mut [u8]) -> u32
     }
     let s = images::read_state(image);
     let r = engine::close(s);
-    let reply = r.reply;
-    settle(image, reply, r.state)
+    settle(image, r)
 }
 
 // An event is counted.
@@ -160,8 +139,7 @@ pub extern "C" fn gemsilver_event(
     }
     let s = images::read_state(image);
     let r = engine::event(s, card, register, id);
-    let reply = r.reply;
-    settle(image, reply, r.state)
+    settle(image, r)
 }
 
 // The buffered postings are written.
@@ -175,8 +153,7 @@ pub extern "C" fn gemsilver_flush(image: &mut [u8], card: &mut [u8]) -> u32
     }
     let s = images::read_state(image);
     let r = engine::flush(s, card);
-    let reply = r.reply;
-    settle(image, reply, r.state)
+    settle(image, r)
 }
 
 // The hits into lent bytes, two words each.
@@ -199,7 +176,7 @@ fn found_number(answer: Found) -> u64
     ensures { λ r. ⌜ r ≡ numberFound answer ⌝ }
 {
     match answer {
-        Found::Refused(why) => number_of(why) as u64,
+        Found::Refused(why) => answers::number_of(why) as u64,
         Found::Hits(n, taken) => 256 * n as u64 + 65536 * taken as u64,
     }
 }
@@ -237,8 +214,7 @@ pub extern "C" fn gemsilver_remove(image: &mut [u8], card: &mut [u8], window: u3
     }
     let s = images::read_state(image);
     let r = engine::remove(s, card, window);
-    let reply = r.reply;
-    settle(image, reply, r.state)
+    settle(image, r)
 }
 
 // A merge is taken one step further, or begun.
@@ -252,6 +228,5 @@ pub extern "C" fn gemsilver_step(image: &mut [u8], card: &mut [u8]) -> u32
     }
     let s = images::read_state(image);
     let r = engine::step_value(s, card);
-    let reply = r.reply;
-    settle(image, reply, r.state)
+    settle(image, r)
 }

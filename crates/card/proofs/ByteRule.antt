@@ -1,14 +1,5 @@
 -- Storing to free blocks and releasing blocks move words and bytes only as is allowed.
-use mathlib.Core.Bool.{true}
-use mathlib.Core.List.{List, [], _∷_}
-use mathlib.Core.Logic.{_⊎_, inl, inr, ⊎-elim}
-use mathlib.Core.Path.{_≡_, refl, sym, ap, _∙_}
-use Prim.Native.Nat.{ℕ, zero, suc, _*_, _/_, _%_, _<_}
-use native.Mathlib.Omega.{arith}
-use lib.ListN.{length, getD, getD-replicate}
-use Rattle.lists.specs.Lists.{every, elem}
-use Rattle.lists.proofs.Bools.{by-test}
-use Rattle.lists.proofs.Sets.{every-elem}
+use Rattle.lists.proofs.Prelude.{true, List, [], _∷_, _⊎_, inl, inr, ⊎-elim, _≡_, sym, ap, _∙_, ℕ, zero, suc, _*_, _/_, _%_, _<_, arith, length, getD, getD-replicate, every, elem, by-test, every-elem}
 use Rattle.words.specs.Words.{words, bytes, allOnes, Below}
 use Rattle.words.proofs.Views.{length-words, bytes-words}
 use Rattle.card.specs.Blocks.{block, isFree}
@@ -52,10 +43,6 @@ fills-frees W W′ W″ e f m k h =
     (λ s. ⊎-elim (λ t. inl (t ∙ s)) (λ g. inr (inr (λ j l q. g j (omega arith) q))) (m k (omega arith)))
     (λ o. inr (inl o))
     (f k h)
-
--- a word stays, or was all ones, or goes to all ones
-pub moves-word : (W W′ : List ℕ) → Moves W W′ → (k : ℕ) → k < length W → (getD W′ k 0 ≡ getD W k 0) ⊎ (getD W k 0 ≡ allOnes) ⊎ (getD W′ k 0 ≡ allOnes)
-moves-word W W′ m k h = ⊎-elim (λ s. inl s) (λ r. inr (⊎-elim (λ o. inl o) (λ g. inr (g k h refl)) r)) (m k h)
 
 -- Bytes ------------------------------------------------------------------------------------------------------------
 

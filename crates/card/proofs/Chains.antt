@@ -1,12 +1,5 @@
 -- A chain block by block: the rule of the whole is the rule of what is left.
-use mathlib.Core.Bool.{Bool, false, _&&_}
-use mathlib.Core.List.{List, [], _∷_}
-use mathlib.Core.Path.{_≡_, refl}
-use Prim.Native.Nat.{ℕ, zero, suc, _-_, _<_, _≤_}
-use native.Mathlib.Omega.{arith}
-use lib.Dec.{eqb, ltb}
-use borrow.Author.Tests.{lt-ltb, le-ltb}
-use Rattle.lists.specs.All.{AllOf}
+use Rattle.lists.proofs.Prelude.{Bool, false, _&&_, List, [], _∷_, _≡_, refl, ℕ, zero, suc, _-_, _<_, _≤_, arith, eqb, ltb, lt-ltb, le-ltb, AllOf}
 use Rattle.card.specs.Blocks.{noBlock, link}
 use Rattle.card.specs.Chains.{chain, chainRule}
 use Rattle.card.specs.Cursors.{InCard, Chained}

@@ -1,12 +1,5 @@
 -- Laws of a cursor: what is ahead of it is its head and what is ahead of the moved cursor.
-use mathlib.Core.List.{List, _∷_}
-use mathlib.Core.Path.{_≡_, refl, ap}
-use Prim.Native.Nat.{ℕ, zero, suc, _-_, _<_}
-use native.Mathlib.Omega.{arith}
-use lib.Dec.{eqb}
-use lib.ListN.{length}
-use borrow.Author.Tests.{lt-ltb, eq-eqb}
-use Rattle.lists.proofs.Bools.{by-test}
+use Rattle.lists.proofs.Prelude.{List, _∷_, _≡_, refl, ap, ℕ, zero, suc, _-_, _<_, arith, eqb, length, lt-ltb, eq-eqb, by-test}
 use Rattle.card.specs.declared.Cursor.{Cursor}
 use Rattle.card.specs.Blocks.{link}
 use Rattle.card.specs.Cursors.{wordIn, InCard, nextBlock, nextWord, aheadAt, ahead, goodAt, Good, headOf, movedOf}

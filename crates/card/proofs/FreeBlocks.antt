@@ -1,19 +1,5 @@
 -- Free blocks: which they are, that a release frees, and that neither a store nor a release touches any other.
-use mathlib.Core.Bool.{Bool, true, false, not, _||_, true≢false}
-use mathlib.Core.List.{List, [], _∷_}
-use mathlib.Core.Path.{_≡_, refl, sym, ap, _∙_}
-use Prim.Native.Nat.{ℕ, zero, suc, _+_, _*_, _/_, _%_, _<_, _≤_}
-use native.Mathlib.Omega.{arith}
-use lib.Dec.{eqb, ltb}
-use lib.ListN.{length, getD, drop, replicate, length-replicate, length-take, length-drop}
-use lib.Seq.{sets, length-sets}
-use borrow.Author.Tests.{eqb-true, lt-ltb, ltb-true, not-true}
-use Rattle.lists.specs.Lists.{keep, every, elem, different, upTo}
-use Rattle.lists.proofs.Bools.{by-test, and-left, and-right}
-use Rattle.lists.proofs.Tests.{every-at, every-from, every-keep, every-kept}
-use Rattle.lists.proofs.Ranges.{every-rising, elem-rising, different-rising}
-use Rattle.lists.proofs.Tests.{every-replicate}
-use Rattle.lists.proofs.Sets.{every-elem, elem-keep, different-keep, every-turned, any-turned, length-keep-turned, different-turned}
+use Rattle.lists.proofs.Prelude.{Bool, true, false, not, _||_, true≢false, List, [], _∷_, _≡_, refl, sym, ap, _∙_, ℕ, zero, suc, _+_, _*_, _/_, _%_, _<_, _≤_, arith, eqb, ltb, length, getD, drop, replicate, length-replicate, length-take, length-drop, sets, length-sets, eqb-true, lt-ltb, ltb-true, not-true, keep, every, elem, different, upTo, by-test, and-left, and-right, every-at, every-from, every-keep, every-kept, every-rising, different-rising, every-replicate, every-elem, different-keep, every-turned, length-keep-turned, different-turned}
 use Rattle.words.specs.Words.{allOnes}
 use Rattle.card.specs.Blocks.{noBlock, block, link, isFree, afterTaken, freeBlocks, onCard}
 use Rattle.card.specs.Chains.{chain, chainRule}
@@ -71,13 +57,6 @@ module _ (W : List ℕ) (n taken : ℕ) where
   pub free-different : different (freeBlocks W n taken) ≡ true
   unfolding freeBlocks
   free-different = different-keep (isFree W) (afterTaken n taken) (different-turned (suc taken) (upTo n) (different-rising 0 n))
-
-  -- none is left out
-  pub free-all : (b : ℕ) → b < n → isFree W b ≡ true → elem b (freeBlocks W n taken) ≡ true
-  unfolding freeBlocks
-  free-all b h e =
-      elem-keep (isFree W) (afterTaken n taken) b e
-      (any-turned (suc taken) (upTo n) (λ m. eqb m b) ∙ elem-rising 0 n b (omega arith) (omega arith))
 
   -- the one at place j is on the card and free
   pub free-at : (j : ℕ) → j < length (freeBlocks W n taken) → (getD (freeBlocks W n taken) j 0 < n) × (isFree W (getD (freeBlocks W n taken) j 0) ≡ true)

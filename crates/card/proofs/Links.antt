@@ -1,15 +1,5 @@
 -- What a chain says by its places: its blocks, their links, and the words of its content.
-use mathlib.Core.Bool.{true, cond, true≢false}
-use mathlib.Core.List.{List, [], _∷_}
-use mathlib.Core.Path.{_≡_, refl, sym, ap, _∙_}
-use Prim.Native.Nat.{ℕ, zero, suc, _+_, _*_, _/_, _%_, _<_}
-use native.Mathlib.Omega.{arith}
-use lib.Dec.{ltb}
-use lib.ListN.{length, getD, drop, length-append, length-take, length-drop, List·getD-append}
-use lib.Seq.{getD-take, getD-drop, getD-append-add}
-use borrow.Author.Tests.{ltb-true, ltb-false, eqb-true}
-use Rattle.lists.specs.Lists.{every}
-use Rattle.lists.proofs.Bools.{by-test, and-left, and-right, and-both}
+use Rattle.lists.proofs.Prelude.{true, cond, true≢false, List, [], _∷_, _≡_, refl, sym, ap, _∙_, ℕ, zero, suc, _+_, _*_, _/_, _%_, _<_, arith, ltb, length, getD, drop, length-append, length-take, length-drop, List·getD-append, getD-take, getD-drop, getD-append-add, ltb-true, ltb-false, eqb-true, by-test, and-left, and-right, and-both}
 use Rattle.card.specs.Blocks.{noBlock, block, contentOf, link, onCard}
 use Rattle.card.specs.Chains.{chain, chainRule, content}
 

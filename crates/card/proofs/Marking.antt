@@ -1,18 +1,7 @@
 -- Marks bit by bit: setting one bit of one word marks one block more.
-use mathlib.Core.Bool.{Bool, false, _&&_, _||_}
-use mathlib.Core.List.{List, _++_}
-use mathlib.Core.Path.{_≡_, refl, sym, ap, _∙_}
-use Prim.Native.Nat.{ℕ, zero, suc, _+_, _-_, _*_, _/_, _%_, _^_, _<_, _≤_}
-use native.Mathlib.Omega.{arith}
+use Rattle.lists.proofs.Prelude.{Bool, false, _&&_, _||_, List, _++_, _≡_, refl, sym, ap, _∙_, ℕ, zero, suc, _+_, _-_, _*_, _/_, _%_, _^_, _<_, _≤_, arith, eqb, ltb, lit≤, length, getD, set, replicate, getD-set-same, getD-set-other, eqb-true, eqb-false, eq-eqb, ne-eqb, ltb-true, ltb-false, elem, different, by-test, apart-append, apart-none}
 use lib.Bits.{bitOr, or-shr, or-mod, or-zero-r, shifted-even}
-use lib.Dec.{eqb, ltb, lit≤}
-use lib.ListN.{length, getD, set, replicate}
 use lib.Pow.{pow-add, pow-lt, shl-shr, shl-exact, shr-lt, shr-le}
-use lib.Seq.{getD-set-same, getD-set-other}
-use borrow.Author.Tests.{eqb-true, eqb-false, eq-eqb, ne-eqb, ltb-true, ltb-false}
-use Rattle.lists.specs.Lists.{elem, different}
-use Rattle.lists.proofs.Bools.{by-test}
-use Rattle.lists.proofs.Runs.{apart-append, apart-none}
 use Rattle.card.specs.declared.Marks.{Marks}
 use Rattle.card.specs.Marks.{marked, unmarked}
 

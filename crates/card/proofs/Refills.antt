@@ -1,16 +1,5 @@
 -- Blocks that are chained already and are stored to again: where the new content keeps what was there and fills what was all ones, the card is filled.
-use mathlib.Core.Bool.{true}
-use mathlib.Core.List.{List, _++_}
-use mathlib.Core.Logic.{_⊎_, inl, inr, ⊎-elim}
-use mathlib.Core.Path.{_≡_, sym, ap, _∙_}
-use Prim.Native.Nat.{ℕ, _+_, _*_, _-_, _/_, _%_, _<_, _≤_}
-use native.Mathlib.Omega.{arith}
-use lib.Dec.{ltb}
-use lib.ListN.{length, getD, replicate}
-use borrow.Author.Tests.{ltb-true, ltb-false}
-use Rattle.lists.specs.Lists.{elem, different}
-use Rattle.lists.proofs.Bools.{by-test}
-use Rattle.lists.proofs.Sets.{elem-place}
+use Rattle.lists.proofs.Prelude.{true, List, _++_, _⊎_, inl, inr, ⊎-elim, _≡_, sym, ap, _∙_, ℕ, _+_, _*_, _-_, _/_, _%_, _<_, _≤_, arith, ltb, length, getD, replicate, ltb-true, ltb-false, elem, different, by-test, elem-place}
 use Rattle.words.specs.Words.{allOnes}
 use Rattle.card.specs.Blocks.{link, onCard}
 use Rattle.card.specs.Chains.{chain, chainRule, content}

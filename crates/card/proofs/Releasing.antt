@@ -1,19 +1,5 @@
 -- Blocks freed one by one along their chain.
-use mathlib.Core.Bool.{true, false, not}
-use mathlib.Core.List.{List, [], _∷_}
-use mathlib.Core.Logic.{inl, inr}
-use mathlib.Core.Path.{_≡_, refl}
-use Prim.Native.Nat.{ℕ, zero, suc, _+_, _-_, _*_, _<_}
-use native.Mathlib.Omega.{arith}
-use native.Mathlib.Numerals.{add-one}
-use lib.Dec.{eqb, ltb}
-use lib.ListN.{length, set, replicate, length-replicate}
-use lib.Seq.{sets, length-sets}
-use borrow.Author.Tests.{eqb-false, ltb-true, ltb-false, not-true}
-use Rattle.lists.specs.All.{AllOf}
-use Rattle.lists.specs.Lists.{elem, different}
-use Rattle.lists.proofs.Bools.{by-test, and-left, and-right, or-none}
-use Rattle.lists.proofs.Runs.{getD-sets-out}
+use Rattle.lists.proofs.Prelude.{true, false, not, List, [], _∷_, inl, inr, _≡_, refl, ℕ, zero, suc, _+_, _-_, _*_, _<_, arith, add-one, eqb, ltb, length, set, replicate, length-replicate, sets, length-sets, eqb-false, ltb-true, ltb-false, not-true, AllOf, elem, different, by-test, and-left, and-right, or-none, getD-sets-out}
 use Rattle.words.specs.Words.{allOnes}
 use Rattle.card.specs.Blocks.{link}
 use Rattle.card.specs.Chains.{chain}
@@ -21,28 +7,42 @@ use Rattle.card.specs.Writes.{release}
 use Rattle.card.specs.Cursors.{InCard, Chained}
 use Rattle.card.proofs.Chains.{chain-more, chain-none}
 
--- a word of all ones, of n that are still to be stored from i on
-pub ones-more : (W : List ℕ) (i n : ℕ) → 0 < n → sets W i (replicate n allOnes) ≡ sets (set W i allOnes) (i + 1) (replicate (n - 1) allOnes)
+-- n words of all ones; the name stays shut, as 1,024 words written out are dear to compare
+pub ones : ℕ → List ℕ
+ones n = replicate n allOnes
+
+length-ones : (n : ℕ) → length (ones n) ≡ n
+unfolding ones
+length-ones n = length-replicate n allOnes
+
+-- one block freed is 1,024 of them stored
+pub release-one : (W : List ℕ) (b : ℕ) → release W (b ∷ []) ≡ sets W (1024 * b) (ones 1024)
+unfolding release ones
+release-one W b = refl
+
+-- one of n that are still to be stored from i on
+pub ones-more : (W : List ℕ) (i n : ℕ) → 0 < n → sets W i (ones n) ≡ sets (set W i allOnes) (i + 1) (ones (n - 1))
+unfolding ones
 ones-more W i zero h = absurd (omega arith)
 ones-more W i (suc n) h = let e : suc n - 1 ≡ n = omega arith in rw (e, add-one i)
 
-module _ (W : List ℕ) (b : ℕ) where
-  -- one block freed is 1,024 words stored
-  pub release-one : release W (b ∷ []) ≡ sets W (1024 * b) (replicate 1024 allOnes)
-  unfolding release
-  release-one = refl
+-- none is left
+pub ones-none : (W : List ℕ) (i n : ℕ) → n ≡ 0 → sets W i (ones n) ≡ W
+unfolding ones
+ones-none W i n e = rw e
 
+module _ (W : List ℕ) (b : ℕ) where
   -- as many words as before
   pub length-one : length (release W (b ∷ [])) ≡ length W
-  length-one = rw release-one (length-sets W (1024 * b) (replicate 1024 allOnes))
+  length-one = rw (release-one W b) (length-sets W (1024 * b) (ones 1024))
 
   link-kept : (c : ℕ) → (c ≡ b → ⊥) → link (release W (b ∷ [])) c ≡ link W c
   link-kept c d =
-      rw release-one
-      (getD-sets-out (replicate 1024 allOnes) W (1024 * b) (1024 * c + 1023) 0
+      rw (release-one W b)
+      (getD-sets-out (ones 1024) W (1024 * b) (1024 * c + 1023) 0
       (by-test (ltb c b)
       (λ y. inl (omega (arith, ltb-true c b y)))
-      (λ y. inr (rw (length-replicate 1024 allOnes) (omega (arith, ltb-false c b y))))))
+      (λ y. inr (rw (length-ones 1024) (omega (arith, ltb-false c b y))))))
 
   -- the chain of other blocks is as it was
   chain-kept : (c n : ℕ) → elem b (chain W c n) ≡ false → chain (release W (b ∷ [])) c n ≡ chain W c n

@@ -1,18 +1,5 @@
 -- A cursor on a chain: what is ahead of it is a part of the chain's content.
-use mathlib.Core.Bool.{true}
-use mathlib.Core.List.{List, _∷_, _++_}
-use mathlib.Core.Logic.{_⊎_, ⊎-elim}
-use mathlib.Core.Path.{_≡_, refl, ap, _∙_}
-use Prim.Native.Nat.{ℕ, zero, suc, _+_, _-_, _*_, _<_, _≤_}
-use native.Mathlib.Nat.{eq-or-lt-of-le}
-use native.Mathlib.Numerals.{add-one}
-use native.Mathlib.Omega.{arith}
-use lib.Dec.{ltb}
-use lib.ListN.{length, getD, take, drop, length-append, length-drop, List·getD-append}
-use lib.Seq.{drop-cons, getD-take, getD-drop, drop-append-add, length-take-le}
-use borrow.Author.Tests.{eq-eqb, ne-eqb, ltb-true}
-use Rattle.lists.specs.All.{AllOf}
-use Rattle.lists.proofs.Bools.{and-left, and-right}
+use Rattle.lists.proofs.Prelude.{true, List, _∷_, _++_, _⊎_, ⊎-elim, _≡_, refl, ap, _∙_, ℕ, zero, suc, _+_, _-_, _*_, _<_, _≤_, eq-or-lt-of-le, add-one, arith, ltb, length, getD, take, drop, length-append, length-drop, List·getD-append, drop-cons, getD-take, getD-drop, drop-append-add, length-take-le, eq-eqb, ne-eqb, ltb-true, AllOf, and-left, and-right}
 use Rattle.card.specs.Blocks.{block, contentOf, link}
 use Rattle.card.specs.Chains.{chain, chainRule, content}
 use Rattle.card.specs.Cursors.{wordIn, InCard, Chained, aheadAt, goodAt}

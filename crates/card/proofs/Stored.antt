@@ -1,16 +1,5 @@
 -- What is stored along blocks is read back: the chain, its rule, and the content with its padding.
-use mathlib.Core.Bool.{true, false, not}
-use mathlib.Core.List.{List, [], _∷_, _++_, append-nil}
-use mathlib.Core.Path.{_≡_, refl, sym, ap, ap₂, _∙_}
-use Prim.Native.Nat.{ℕ, suc, _+_, _*_, _-_, _<_, _≤_}
-use native.Mathlib.Omega.{arith}
-use lib.Dec.{ltb}
-use lib.ListN.{length, getD, take, drop, replicate, length-append, length-replicate, length-drop}
-use lib.Seq.{sets, take-at, getD-at, take-all}
-use borrow.Author.Tests.{ltb-true, not-true, lt-ltb, eq-eqb}
-use Rattle.lists.specs.Lists.{elem, different}
-use Rattle.lists.proofs.Bools.{and-left, and-right, and-both}
-use Rattle.lists.proofs.Sets.{sets-back, pad-split}
+use Rattle.lists.proofs.Prelude.{true, false, not, List, [], _∷_, _++_, append-nil, _≡_, refl, sym, ap, ap₂, _∙_, ℕ, suc, _+_, _*_, _-_, _<_, _≤_, arith, ltb, length, getD, take, drop, replicate, length-append, length-replicate, length-drop, sets, take-at, getD-at, take-all, ltb-true, not-true, lt-ltb, eq-eqb, elem, different, and-left, and-right, and-both, sets-back, pad-split}
 use Rattle.words.specs.Words.{allOnes}
 use Rattle.card.specs.Blocks.{noBlock, block, contentOf, link, onCard}
 use Rattle.card.specs.Chains.{chain, chainRule, content}

@@ -1,16 +1,5 @@
 -- What storing and releasing leave: the card's length, every block that they do not name, and every chain of such blocks.
-use mathlib.Core.Bool.{Bool, true, false, not, _&&_}
-use mathlib.Core.List.{List, [], _∷_, _++_}
-use mathlib.Core.Path.{_≡_, refl, sym, ap, ap₂, _∙_}
-use Prim.Native.Nat.{ℕ, zero, suc, _+_, _*_, _-_, _<_, _≤_}
-use native.Mathlib.Omega.{arith}
-use lib.Dec.{eqb, ltb}
-use lib.ListN.{length, getD, take, drop, replicate, length-append, length-replicate, length-take}
-use lib.Seq.{sets, length-sets}
-use borrow.Author.Tests.{ltb-true, ltb-false, eqb-false, eq-eqb, not-true}
-use Rattle.lists.specs.Lists.{every, elem}
-use Rattle.lists.proofs.Bools.{by-test, or-right, or-none}
-use Rattle.lists.proofs.Sets.{sets-before, sets-past, every-elem}
+use Rattle.lists.proofs.Prelude.{Bool, true, false, not, _&&_, List, [], _∷_, _++_, _≡_, refl, sym, ap, ap₂, _∙_, ℕ, zero, suc, _+_, _*_, _-_, _<_, _≤_, arith, eqb, ltb, length, getD, take, drop, replicate, length-append, length-replicate, length-take, sets, length-sets, ltb-true, ltb-false, eqb-false, eq-eqb, not-true, every, elem, by-test, or-right, or-none, sets-before, sets-past, every-elem}
 use Rattle.words.specs.Words.{allOnes}
 use Rattle.card.specs.Blocks.{noBlock, block, link}
 use Rattle.card.specs.Chains.{chain, chainRule, content}

@@ -1,17 +1,5 @@
 -- The order in which blocks are taken, place by place, and a block word by word.
-use mathlib.Core.Bool.{true, false}
-use mathlib.Core.List.{List, [], _∷_}
-use mathlib.Core.Path.{_≡_, sym, ap, _∙_}
-use Prim.Native.Nat.{ℕ, suc, _+_, _-_, _*_, _<_, _≤_}
-use native.Mathlib.Omega.{arith}
-use native.Mathlib.Numerals.{add-one}
-use lib.Dec.{eqb}
-use lib.ListN.{length, getD, take, drop, length-append, length-drop, List·getD-append, drop-of-length-le}
-use lib.Seq.{drop-cons, getD-take, getD-drop, getD-append-add, length-take-le}
-use borrow.Author.Tests.{ne-eqb}
-use Rattle.lists.specs.Lists.{keep, every, upTo}
-use Rattle.lists.proofs.Ranges.{length-rising}
-use Rattle.lists.proofs.Runs.{getD-rising, keep-here, keep-past}
+use Rattle.lists.proofs.Prelude.{true, false, List, [], _∷_, _≡_, sym, ap, _∙_, ℕ, suc, _+_, _-_, _*_, _<_, _≤_, arith, add-one, eqb, length, getD, take, drop, length-append, length-drop, List·getD-append, drop-of-length-le, drop-cons, getD-take, getD-drop, getD-append-add, length-take-le, ne-eqb, keep, every, upTo, length-rising, getD-rising, keep-here, keep-past}
 use Rattle.words.specs.Words.{allOnes}
 use Rattle.card.specs.Blocks.{block, isFree, afterTaken}
 use Rattle.card.specs.Cursors.{wordIn}

@@ -1,18 +1,12 @@
 -- Orders by letter and fields.
-use mathlib.Core.Bool.{Bool, true, false, cond}
-use mathlib.Core.List.{List, [], _∷_, map}
+use Rattle.lists.proofs.Prelude.{Bool, true, false, cond, List, [], _∷_, map, _≡_, refl, sym, _∙_, ap, ℕ, _≤_, _<_, arith, length, getD, drop, length-map, ne-eqb, never}
 use mathlib.Core.Option.{Option, none, some}
-use mathlib.Core.Path.{_≡_, refl, sym, _∙_, ap}
-use Prim.Native.Nat.{ℕ, _≤_, _<_}
-use native.Mathlib.Omega.{arith}
-use lib.ListN.{length, getD, drop, length-map}
-use borrow.Author.Tests.{ne-eqb}
 use denote.Ref.{RefT, now}
 use Rattle.queries.proofs.Gathering.{nothing, lent-at}
-use Rattle.lists.proofs.Runs.{never}
 use Rattle.identifiers.specs.Names.{Name}
 use Rattle.engine.specs.Calls.{Open, Close, Flush, Step}
 use Rattle.texts.specs.Fields.{numberIn}
+use Rattle.commands.specs.declared.Change.the-variants as change
 use Rattle.commands.specs.declared.Order.{Order}
 use Rattle.commands.specs.declared.Order.the-variants as order
 use Rattle.commands.specs.Commands.{alone, eventIn, removeBy, removeIn, queryBy, queryIn, byLetter, callIn, meant, reach, removeOrder, queryOrder, Names, Means}
@@ -26,19 +20,19 @@ pub opens : (b : ℕ) → b ≡ 79 → Names b [] order.Open
 unfolding byLetter alone
 opens b e = rw e (record { call = λ f. refl; held = omega arith })
 
-pub closes : (b : ℕ) → b ≡ 67 → Names b [] order.Close
+pub closes : (b : ℕ) → b ≡ 67 → Names b [] (order.Change change.Close)
 unfolding byLetter alone
 closes b e = rw e (record { call = λ f. refl; held = omega arith })
 
-pub flushes : (b : ℕ) → b ≡ 70 → Names b [] order.Flush
+pub flushes : (b : ℕ) → b ≡ 70 → Names b [] (order.Change change.Flush)
 unfolding byLetter alone
 flushes b e = rw e (record { call = λ f. refl; held = omega arith })
 
-pub steps : (b : ℕ) → b ≡ 77 → Names b [] order.Step
+pub steps : (b : ℕ) → b ≡ 77 → Names b [] (order.Change change.Step)
 unfolding byLetter alone
 steps b e = rw e (record { call = λ f. refl; held = omega arith })
 
-pub counts : (b : ℕ) (g : Name) → b ≡ 69 → Names b (g ∷ []) order.Event
+pub counts : (b : ℕ) (g : Name) → b ≡ 69 → Names b (g ∷ []) (order.Change change.Event)
 unfolding byLetter eventIn
 counts b g e = rw e (record { call = λ f. refl; held = omega arith })
 

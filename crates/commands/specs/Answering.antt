@@ -3,10 +3,9 @@ use mathlib.Core.List.{List}
 use mathlib.Core.Option.{Option, none, some}
 use mathlib.Core.Path.{_≡_}
 use Prim.Native.Nat.{ℕ}
-use Rattle.answers.specs.Answers.{Outcome, answerOf, stateOf}
-use Rattle.identifiers.specs.Names.{Name}
+use Rattle.answers.specs.Answers.{answerOf, stateOf}
 use Rattle.state.specs.Probe.{Probe}
-use Rattle.engine.specs.Calls.{Call, Query, probeCall}
+use Rattle.engine.specs.Calls.{Call, probeCall}
 use Rattle.texts.specs.Texts.{answerText, unknownText, Says}
 
 -- the text for a call, and for a line that says none
@@ -18,15 +17,6 @@ textOf p (some c) = answerText (answerOf (probeCall p c))
 unfoldable pub leftOf : Probe → Option Call → Probe
 leftOf p none = p
 leftOf p (some c) = stateOf p (probeCall p c)
-
--- the first n bytes of a buffer are an outcome's text, and `after` is there then
-pub record Tells {S : Type 0} (s : S) (o : Outcome S) (buffer : List ℕ) (n : ℕ) (after : S) : Type 0 where
-  pub says : Says buffer n (answerText (answerOf o))
-  pub left : after ≡ stateOf s o
-
--- the first n bytes of a buffer are the text of a query's answer
-pub record Told (p : Probe) (ids : List Name) (places : ℕ) (buffer : List ℕ) (n : ℕ) : Type 0 where
-  pub says : Says buffer n (answerText (answerOf (probeCall p (Query places ids))))
 
 -- the first n bytes of a buffer are the text for a line that says c, and `after` is there then
 pub record Obeys (p : Probe) (c : Option Call) (buffer : List ℕ) (n : ℕ) (after : Probe) : Type 0 where

@@ -9,6 +9,8 @@ use lib.ListN.{length, getD, drop}
 use Rattle.identifiers.specs.Names.{Name}
 use Rattle.engine.specs.Calls.{Call, Open, Event, Close, Remove, Flush, Step, Query}
 use Rattle.texts.specs.Fields.{partsOf, numberIn}
+use Rattle.commands.specs.declared.Change.{Change}
+use Rattle.commands.specs.declared.Change.the-variants as change
 use Rattle.commands.specs.declared.Order.{Order}
 use Rattle.commands.specs.declared.Order.the-variants as order
 
@@ -67,31 +69,37 @@ abbrev pub commandOf : List ℕ → Option Call
 commandOf line = callIn (partsOf line)
 
 -- the call of an order of the code, whose identifiers are fields
+abbrev pub changing : Change → List Name → Call
+changing change.Event fs = Event (getD fs 1 [])
+changing change.Close fs = Close
+changing (change.Remove w) fs = Remove w
+changing change.Flush fs = Flush
+changing change.Step fs = Step
+
 abbrev pub meant : Order → List Name → Option Call
 meant order.Open fs = some Open
-meant order.Event fs = some (Event (getD fs 1 []))
-meant order.Close fs = some Close
-meant (order.Remove w) fs = some (Remove w)
-meant order.Flush fs = some Flush
-meant order.Step fs = some Step
+meant (order.Change k) fs = some (changing k fs)
 meant (order.Query k) fs = some (Query k (drop 2 fs))
 meant order.Unknown fs = none
 
 -- how many fields an order needs
+abbrev pub changeReach : Change → ℕ
+changeReach change.Event = 2
+changeReach change.Close = 0
+changeReach (change.Remove w) = 0
+changeReach change.Flush = 0
+changeReach change.Step = 0
+
 abbrev pub reach : Order → ℕ
 reach order.Open = 0
-reach order.Event = 2
-reach order.Close = 0
-reach (order.Remove w) = 0
-reach order.Flush = 0
-reach order.Step = 0
+reach (order.Change k) = changeReach k
 reach (order.Query k) = 2
 reach order.Unknown = 0
 
 -- the orders of a removal and of a query, by the number that they have
 abbrev pub removeOrder : Option ℕ → Order
 removeOrder none = order.Unknown
-removeOrder (some w) = order.Remove w
+removeOrder (some w) = order.Change (change.Remove w)
 
 abbrev pub queryOrder : Option ℕ → Order
 queryOrder none = order.Unknown

@@ -1,22 +1,23 @@
-// Lines of commands, obeyed on the engine.
+// What a line of the command program asks for.
 use texts::Number;
 ghost use mathlib.Core.List.{[], _∷_, map};
 ghost use mathlib.Core.Path.{_≡_};
-ghost use Prim.Native.Nat.{_≤_};
-ghost use lib.ListN.{length};
 ghost use Rattle.texts.specs.Fields.{numberIn};
 ghost use Rattle.commands.specs.Commands.{removeOrder, queryOrder, Names, Means};
 
-pub mod calls; // each call, with the text of its answer
-
-// What a line asks for. An event's identifier is its second field, and a query's are those from the third on.
-pub enum Order {
-    Open,
+// A call that is answered with a reply. An event's identifier is the line's second field.
+pub enum Change {
     Event,
     Close,
     Remove(u32),
     Flush,
     Step,
+}
+
+// What a line asks for. A query's identifiers are the fields from the third on.
+pub enum Order {
+    Open,
+    Change(Change),
     Query(u32),
     Unknown,
 }
@@ -29,13 +30,13 @@ fn single(letter: u8) -> Order
         return Order::Open;
     }
     if letter == 67 {
-        return Order::Close;
+        return Order::Change(Change::Close);
     }
     if letter == 70 {
-        return Order::Flush;
+        return Order::Change(Change::Flush);
     }
     if letter == 77 {
-        return Order::Step;
+        return Order::Change(Change::Step);
     }
     Order::Unknown
 }
@@ -46,7 +47,7 @@ fn removal(field: &[u8]) -> Order
 {
     let n = texts::read_number(field);
     match n {
-        Number::Value(window) => Order::Remove(window),
+        Number::Value(window) => Order::Change(Change::Remove(window)),
         Number::Nothing => Order::Unknown,
     }
 }
@@ -67,7 +68,7 @@ fn double(letter: u8, field: &[u8]) -> Order
     ensures { λ r. ⌜ Names letter (now (field .entry) ∷ []) r ⌝ }
 {
     if letter == 69 {
-        return Order::Event;
+        return Order::Change(Change::Event);
     }
     if letter == 82 {
         return removal(field);

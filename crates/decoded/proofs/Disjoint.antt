@@ -1,14 +1,5 @@
 -- Lists of numbers that have none in common.
-use mathlib.Core.Bool.{true, false, _||_, not, true≢false}
-use mathlib.Core.List.{List, [], _∷_, _++_}
-use mathlib.Core.Path.{_≡_, refl, sym, ap, ap₂, _∙_}
-use Prim.Native.Nat.{ℕ}
-use lib.Dec.{eqb}
-use borrow.Author.Tests.{eqb-true, eq-eqb, not-true}
-use Rattle.lists.specs.Lists.{elem, different}
-use Rattle.lists.proofs.Bools.{by-test, and-left, and-right, and-both, or-none, or-right}
-use Rattle.lists.proofs.Tests.{any-append}
-use Rattle.lists.proofs.Sets.{every-elem, elem-every}
+use Rattle.lists.proofs.Prelude.{true, false, _||_, not, true≢false, List, [], _∷_, _++_, _≡_, refl, sym, ap, ap₂, _∙_, ℕ, eqb, eqb-true, eq-eqb, not-true, elem, different, by-test, and-left, and-right, and-both, or-none, or-right, any-append, elem-every}
 use Rattle.card.proofs.Stores.{apart}
 
 -- none of x is in y
@@ -50,9 +41,6 @@ apart-join x y z g h b e = by-test (elem b x) (g b) (λ n. h b (sym (ap (λ t. t
 -- as a test
 pub apart-test : (x y : List ℕ) → Apart x y → apart x y ≡ true
 apart-test x y h = elem-every (λ d. not (elem d y)) x (λ d e. ap not (h d e))
-
-pub test-apart : (x y : List ℕ) → apart x y ≡ true → Apart x y
-test-apart x y h d e = not-true (elem d y) (every-elem (λ d. not (elem d y)) x d h e)
 
 -- a list in which none stands twice, in two parts
 pub different-parts : (x y : List ℕ) → different (x ++ y) ≡ true → (different x ≡ true) × (different y ≡ true) × Apart x y

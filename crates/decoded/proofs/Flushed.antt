@@ -1,17 +1,5 @@
 -- After a flush the state and the card hold what the account holds after it.
-use mathlib.Core.Bool.{Bool, true, false, _||_, _&&_, not, cond, true≢false, or-false}
-use mathlib.Core.List.{List, [], _∷_, _++_, map, append-nil, append-assoc}
-use mathlib.Core.Path.{_≡_, refl, sym, ap, ap₂, _∙_, subst}
-use Prim.Native.Nat.{ℕ, _*_, _<_, _≤_}
-use native.Mathlib.Omega.{arith}
-use lib.Dec.{eqb, ltb}
-use lib.ListN.{length}
-use borrow.Author.Tests.{eqb-true, eqb-false, eq-eqb, ne-eqb, lt-ltb, not-true}
-use Rattle.lists.specs.All.{AllOf}
-use Rattle.lists.specs.Lists.{every, empty, elem, different, same}
-use Rattle.lists.proofs.Bools.{by-test, and-left, and-right, and-both, or-none, or-right}
-use Rattle.lists.proofs.Tests.{every-append, any-append}
-use Rattle.lists.proofs.Sets.{elem-every, different-insert}
+use Rattle.lists.proofs.Prelude.{Bool, true, false, _||_, _&&_, not, cond, true≢false, or-false, List, [], _∷_, _++_, map, append-nil, append-assoc, _≡_, refl, sym, ap, ap₂, _∙_, subst, ℕ, _*_, _<_, _≤_, arith, eqb, ltb, length, eqb-true, eqb-false, eq-eqb, ne-eqb, lt-ltb, not-true, AllOf, every, empty, elem, different, same, by-test, and-left, and-right, and-both, or-none, or-right, every-append, any-append, elem-every, different-insert}
 use Rattle.lists.proofs.Stores.{joined-append}
 use Rattle.words.specs.Words.{allOnes}
 use Rattle.postings.specs.declared.Posting.{Posting}

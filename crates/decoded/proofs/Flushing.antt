@@ -1,12 +1,5 @@
 -- A flush on bytes comes to what a flush on lists comes to, with whatever follows it.
-use mathlib.Core.Bool.{Bool, true, false, true≢false}
-use mathlib.Core.List.{List, [], _∷_}
-use mathlib.Core.Path.{_≡_, refl, sym, ap, _∙_, subst}
-use Prim.Native.Nat.{ℕ, suc, _+_, _*_, _<_, _≤_}
-use native.Mathlib.Omega.{arith}
-use lib.Dec.{ltb, leb}
-use lib.ListN.{length}
-use Rattle.lists.specs.Lists.{every, empty}
+use Rattle.lists.proofs.Prelude.{Bool, true, false, true≢false, List, [], _∷_, _≡_, refl, sym, ap, _∙_, subst, ℕ, suc, _+_, _*_, _<_, _≤_, arith, ltb, leb, length, every, empty}
 use Rattle.lists.proofs.Padding.{length-padded}
 use Rattle.words.specs.Words.{words, bytes}
 use Rattle.words.proofs.Views.{words-bytes, length-bytes}

@@ -1,12 +1,5 @@
 -- A fresh card with its state and register holds nothing.
-use mathlib.Core.Bool.{true, false≢true}
-use mathlib.Core.Path.{_≡_, refl, ap, _∙_}
-use Prim.Native.Nat.{ℕ, _*_, _/_}
-use native.Mathlib.Omega.{arith}
-use lib.Dec.{eqb}
-use lib.ListN.{length, drop, replicate, length-replicate}
-use Rattle.lists.proofs.Bools.{and-both}
-use Rattle.lists.proofs.Tests.{every-take, every-drop, every-replicate}
+use Rattle.lists.proofs.Prelude.{true, false≢true, _≡_, refl, ap, _∙_, ℕ, _*_, _/_, arith, eqb, length, drop, replicate, length-replicate, and-both, every-take, every-drop, every-replicate}
 use Rattle.words.specs.Words.{words, allOnes}
 use Rattle.words.proofs.Views.{words-ones}
 use Rattle.state.specs.Rules.{cardLength, registerLength, lengthsRule}

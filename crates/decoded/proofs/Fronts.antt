@@ -1,7 +1,5 @@
 -- A state with other window numbers, another list of identifiers and another buffer holds the lists that have them; the card is as it was.
-use mathlib.Core.List.{List}
-use mathlib.Core.Path.{_≡_, sym, _∙_}
-use Prim.Native.Nat.{ℕ}
+use Rattle.lists.proofs.Prelude.{List, _≡_, sym, _∙_, ℕ}
 use Rattle.state.specs.declared.Windows.{Windows}
 use Rattle.state.specs.declared.Listed.{Listed}
 use Rattle.state.specs.declared.Buffer.{Buffer}

@@ -1,11 +1,5 @@
 -- What a state and the words of its card hold: lists of postings, window numbers, and the steps of the merge in progress.
-use mathlib.Core.Bool.{true, not}
-use mathlib.Core.List.{List, _++_, map}
-use mathlib.Core.Path.{_≡_, sym, ap, ap₂, _∙_}
-use Prim.Native.Nat.{ℕ, _*_, _<_}
-use lib.Dec.{eqb}
-use lib.ListN.{length}
-use Rattle.lists.specs.Lists.{every, elem, joined}
+use Rattle.lists.proofs.Prelude.{true, not, List, _++_, map, _≡_, sym, ap, ap₂, _∙_, ℕ, _*_, _<_, eqb, length, every, elem, joined}
 use Rattle.words.specs.Words.{words}
 use Rattle.postings.specs.declared.Posting.{Posting}
 use Rattle.postings.specs.Merge.{pairs}

@@ -1,13 +1,6 @@
 -- Partitions of one kind seen as another that has the same levels: due levels, oldest and replaced are seen the same.
-use mathlib.Core.Bool.{Bool, cond}
-use mathlib.Core.List.{List, [], _∷_, _++_, map}
-use mathlib.Core.Path.{_≡_, refl, sym, ap, ap₂, _∙_, fun-ext}
-use Prim.Native.Nat.{ℕ, zero, suc}
-use lib.Dec.{eqb, leb}
-use lib.ListN.{take, drop}
-use Rattle.lists.specs.Lists.{keep}
-use Rattle.lists.proofs.Bools.{by-test}
-use Rattle.state.specs.Levels.{dueAt, levels, ofLevel, dueLevels, oldestAt, oldest, replaced}
+use Rattle.lists.proofs.Prelude.{Bool, cond, List, [], _∷_, _++_, map, _≡_, refl, sym, ap, _∙_, fun-ext, ℕ, zero, suc, eqb, leb, take, drop, keep, by-test}
+use Rattle.state.specs.Levels.{dueAt, levels, ofLevel, dueLevels, oldestAt, oldest}
 
 pub map-append : {A B : Type 0} (f : A → B) (xs ys : List A) → map f (xs ++ ys) ≡ map f xs ++ map f ys
 map-append f [] ys = refl
@@ -45,12 +38,3 @@ module _ {P Q : Type 0} (f : P → Q) (level : Q → ℕ) where
       let k = oldestAt (λ p. level (f p)) v ps in
       ap (λ n. take (dueAt v) (drop n (map f ps))) (place-map v ps)
       ∙ sym (map-take f (dueAt v) (drop k ps) ∙ ap (take (dueAt v)) (map-drop f k ps))
-
-  pub replaced-map : (vs : List ℕ) (ps R : List P) → replaced level vs (map f ps) (map f R) ≡ map f (replaced (λ p. level (f p)) vs ps R)
-  replaced-map [] ps R = refl
-  replaced-map (v ∷ vs) ps R =
-      let k = oldestAt (λ p. level (f p)) v ps in
-      let back = drop (dueAt v) (drop k ps) in
-      ap (λ n. take n (map f ps) ++ (map f R ++ drop (dueAt v) (drop n (map f ps)))) (place-map v ps)
-      ∙ sym (map-append f (take k ps) (R ++ back) ∙ ap₂ (λ (x y : List Q). x ++ y) (map-take f k ps)
-      (map-append f R back ∙ ap (λ l. map f R ++ l) (map-drop f (dueAt v) (drop k ps) ∙ ap (drop (dueAt v)) (map-drop f k ps))))

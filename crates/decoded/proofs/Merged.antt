@@ -1,16 +1,5 @@
 -- After the step that ends a merge, state and card hold what the account holds after it: the result in its inputs' place, and the inputs' blocks free.
-use mathlib.Core.Bool.{Bool, true, false, _||_, _&&_, not, cond, false≢true}
-use mathlib.Core.List.{List, [], _∷_, _++_, map, append-nil}
-use mathlib.Core.Path.{_≡_, refl, sym, ap, ap₂, _∙_}
-use Prim.Native.Nat.{ℕ, _*_, _<_, _≤_}
-use native.Mathlib.Omega.{arith}
-use lib.Dec.{eqb}
-use lib.ListN.{length, getD, take, drop}
-use borrow.Author.Tests.{eq-eqb}
-use Rattle.lists.specs.All.{AllOf}
-use Rattle.lists.specs.Lists.{every, empty, elem, different}
-use Rattle.lists.proofs.Bools.{by-test, and-left, and-both}
-use Rattle.lists.proofs.Tests.{every-append, every-take, every-drop}
+use Rattle.lists.proofs.Prelude.{Bool, true, false, _||_, _&&_, not, cond, false≢true, List, [], _∷_, _++_, map, append-nil, _≡_, refl, sym, ap, ap₂, _∙_, ℕ, _*_, _<_, _≤_, arith, eqb, length, getD, take, drop, eq-eqb, AllOf, every, empty, elem, different, by-test, and-left, and-both, every-append, every-take, every-drop}
 use Rattle.lists.proofs.Stores.{joined-append}
 use Rattle.words.specs.Words.{allOnes}
 use Rattle.postings.specs.declared.Posting.{Posting}

@@ -1,16 +1,5 @@
 -- The blocks that a step writes its output to: those that the output has, or the next free ones.
-use mathlib.Core.Bool.{Bool, true, false, _&&_, not, cond, true≢false}
-use mathlib.Core.List.{List, [], _∷_, _++_}
-use mathlib.Core.Path.{_≡_, refl, sym, ap, _∙_}
-use Prim.Native.Nat.{ℕ, _<_, _≤_}
-use lib.Dec.{ltb}
-use lib.ListN.{length, take}
-use lib.Seq.{length-take-le}
-use borrow.Author.Tests.{ltb-true, ltb-false}
-use Rattle.lists.specs.Lists.{every, elem, different}
-use Rattle.lists.proofs.Bools.{by-test, and-left, and-right, and-both}
-use Rattle.lists.proofs.Tests.{every-take}
-use Rattle.lists.proofs.Sets.{every-elem, different-take}
+use Rattle.lists.proofs.Prelude.{Bool, true, false, _&&_, not, cond, true≢false, List, [], _∷_, _++_, _≡_, refl, sym, ap, _∙_, ℕ, _<_, _≤_, ltb, length, take, length-take-le, ltb-true, ltb-false, every, elem, different, by-test, and-left, and-right, and-both, every-take, every-elem, different-take}
 use Rattle.state.specs.declared.Partition.{Partition}
 use Rattle.state.specs.declared.State.{State}
 use Rattle.state.specs.Views.{blocks, finished}

@@ -1,15 +1,5 @@
 -- The content past a partition's length: 255 in what is written, and as it was where its blocks are.
-use mathlib.Core.Bool.{true, _&&_}
-use mathlib.Core.List.{List, [], _∷_, _++_}
-use mathlib.Core.Path.{_≡_, refl, ap, ap₂, _∙_}
-use Prim.Native.Nat.{ℕ, _*_, _-_, _/_}
-use native.Mathlib.Omega.{arith}
-use lib.Dec.{eqb}
-use lib.ListN.{length, drop, replicate}
-use lib.Seq.{drop-at}
-use Rattle.lists.specs.All.{AllOf}
-use Rattle.lists.specs.Lists.{every, different}
-use Rattle.lists.proofs.Tests.{every-replicate}
+use Rattle.lists.proofs.Prelude.{true, _&&_, List, [], _∷_, _++_, _≡_, refl, ap, ap₂, _∙_, ℕ, _*_, _-_, _/_, arith, eqb, length, drop, replicate, drop-at, AllOf, every, different, every-replicate}
 use Rattle.words.specs.Words.{allOnes}
 use Rattle.postings.specs.declared.Posting.{Posting}
 use Rattle.state.specs.declared.Partition.{Partition}

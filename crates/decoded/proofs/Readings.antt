@@ -1,13 +1,5 @@
 -- Query and removal on bytes are those on lists.
-use mathlib.Core.Bool.{Bool, true, _||_, _&&_, not, cond}
-use mathlib.Core.List.{List, foldr}
-use mathlib.Core.Path.{_≡_, refl, sym, ap, ap₂, _∙_, subst, fun-ext}
-use Prim.Native.Nat.{ℕ, _+_, _-_}
-use lib.Dec.{eqb, ltb, leb}
-use lib.ListN.{length, replicate, length-replicate}
-use Rattle.lists.specs.Lists.{keep, every, elem, down}
-use Rattle.lists.proofs.Bools.{and-both}
-use Rattle.lists.proofs.Ranges.{every-map}
+use Rattle.lists.proofs.Prelude.{Bool, true, _||_, _&&_, not, cond, List, foldr, _≡_, refl, sym, ap, ap₂, _∙_, subst, fun-ext, ℕ, _+_, _-_, eqb, ltb, leb, length, replicate, length-replicate, keep, every, elem, down, and-both, every-map}
 use Rattle.words.specs.Words.{words}
 use Rattle.postings.specs.declared.Posting.{Posting}
 use Rattle.postings.specs.Merge.{put, nonzero, negated}
@@ -27,10 +19,10 @@ use Rattle.partitions.specs.Formed.{partitionsFormed, listRule, sumsInRange, id
 use Rattle.windows.specs.Flush.{flushingIf}
 use Rattle.queries.specs.Hits.{ranked}
 use Rattle.queries.specs.Query.{countIn, takenUp, numbers, queryFormed, badQuery, hitsOf, querying, queryOf, fill}
-use Rattle.removals.specs.Removal.{ofWindow, countsOf, isLive, listsFormed, removalFormed, removalFlushes, removed, removing, removeOf, openCounted}
+use Rattle.removals.specs.Removal.{ofWindow, countsOf, isLive, listsFormed, removalFormed, removalFlushes, removed, removing, removeOf}
 use Rattle.engine.specs.Calls.{Remove, Query, noHit, withStore, probeCall}
 use Rattle.accounts.specs.Account.{Portion, Account, postingsIn, storedIn, takenFrom, exceeds, addedTo, flushingIf as accountFlushingIf}
-use Rattle.accounts.specs.Lists.{Lists, identifierRule, windowRule, callRule, countOf, removedLists, removingLists, withAccount, pursued, openCounted as openCountedIn}
+use Rattle.accounts.specs.Lists.{Lists, identifierRule, windowRule, callRule, countOf, removedLists, removingLists, withAccount, pursued}
 use Rattle.decoded.specs.Portions.{portionOn}
 use Rattle.decoded.proofs.Holds.{Holds, Stored, partitions-is, buffer-is, stored-is}
 use Rattle.decoded.proofs.Fronts.{holds-fronted}
@@ -138,9 +130,6 @@ module _ {ls : Lengths} (p : Probe) (e : Lists) (k : Stored ls p e) (fine : Fine
       (bufferOf (nonzero (foldr put (buffered (t .buffer)) (negated cs))))
       (ap (λ (w : Windows). record { last = w .last; live = w .live - 1; current = w .current; events = w .events }) (g .windows)) (g .listed)
       (ap (λ l. bufferOf (nonzero (foldr put l (negated cs)))) (buffer-is t X (withAccount e a) g)) refl refl
-
-  counted-is : openCounted s ≡ openCountedIn e
-  counted-is = ap (λ (w : Windows). cond (not (eqb (w .current) 0) && ltb 0 (w .events)) 1 0) (h .windows)
 
   removing-same : (w : ℕ) (cs : List Posting) → Same (λ q e′. Stored ls (withStore p q) e′) (removing s (p .card) w cs) (removingLists (blocks s) (registerSize s) e w cs)
   unfolding removing removingLists

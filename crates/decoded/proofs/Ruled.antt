@@ -1,15 +1,5 @@
 -- A state that holds lists keeps its rules where the lists keep theirs: refusals 1 and 2 have no cause.
-use mathlib.Core.Bool.{Bool, true, false, _||_, _&&_, not, cond}
-use mathlib.Core.List.{List, [], _∷_, map}
-use mathlib.Core.Path.{_≡_, refl, sym, ap, ap₂, _∙_, subst}
-use Prim.Native.Nat.{ℕ, _≤_}
-use lib.Dec.{eqb, leb}
-use lib.ListN.{length, length-map}
-use borrow.Author.Tests.{eqb-true, eq-eqb}
-use Rattle.lists.specs.Lists.{every, empty}
-use Rattle.lists.proofs.Bools.{by-test, and-left, and-right}
-use Rattle.lists.proofs.Tests.{every-from}
-use Rattle.lists.proofs.Ranges.{map-where, every-map}
+use Rattle.lists.proofs.Prelude.{Bool, true, false, _||_, _&&_, not, cond, List, [], _∷_, map, _≡_, refl, sym, ap, ap₂, _∙_, subst, ℕ, _≤_, eqb, leb, length, length-map, eqb-true, eq-eqb, every, empty, by-test, and-left, and-right, every-from, map-where, every-map}
 use Rattle.state.specs.declared.Partition.{Partition}
 use Rattle.state.specs.declared.State.{State}
 use Rattle.state.specs.Views.{noPartition, noMerge, blocks, finished, listedOf, bufferOf, partitionsOf}

@@ -1,16 +1,5 @@
 -- Every call on bytes is the call on lists, as long as the lists stand for ledger and account; so every list of calls is answered the same.
-use mathlib.Core.Bool.{true, false, _&&_, not, true≢false}
-use mathlib.Core.List.{List, [], _∷_}
-use mathlib.Core.Path.{_≡_, refl, sym, ap, ap₂, _∙_, subst}
-use Prim.Native.Nat.{ℕ, _/_, _≤_}
-use native.Mathlib.Omega.{arith}
-use lib.Dec.{leb}
-use lib.IntN.{pos}
-use lib.ListN.{length}
-use borrow.Author.Tests.{le-leb}
-use Rattle.lists.specs.Lists.{every, empty}
-use Rattle.lists.proofs.Bools.{and-both}
-use Rattle.lists.proofs.Tests.{every-from, every-keep}
+use Rattle.lists.proofs.Prelude.{true, false, _&&_, not, true≢false, List, [], _∷_, _≡_, refl, sym, ap, ap₂, _∙_, subst, ℕ, _/_, _≤_, arith, leb, pos, length, le-leb, every, empty, and-both, every-from, every-keep}
 use Rattle.postings.specs.declared.Posting.{Posting}
 use Rattle.postings.specs.Order.{ordered}
 use Rattle.postings.specs.Merge.{isZero, isCounted, nonzero, pairs}
@@ -18,14 +7,13 @@ use Rattle.postings.specs.Sums.{sum}
 use Rattle.answers.specs.Answers.{Outcome, answerOf, stateOf}
 use Rattle.words.specs.Words.{words}
 use Rattle.state.specs.declared.Lengths.{Lengths}
-use Rattle.state.specs.declared.Windows.{Windows}
 use Rattle.state.specs.Views.{blocks, registerSize}
 use Rattle.state.specs.Probe.{Probe}
 use Rattle.partitions.specs.Reading.{stored}
 use Rattle.partitions.specs.Formed.{listRule, inRange, sumsInRange, Writable}
 use Rattle.engine.specs.Calls.{Call, Open, Event, Close, Remove, Flush, Step, Query, probeCall, run, afterwards}
 use Rattle.accounts.specs.Account.{Account, storedIn, inputsOf, merged}
-use Rattle.accounts.specs.Ledger.{Ledger, existing, byNumber}
+use Rattle.accounts.specs.Ledger.{Ledger, byNumber}
 use Rattle.accounts.specs.Books.{Books, booksCall}
 use Rattle.accounts.specs.Lists.{Lists, callRule, pursued, listsCall}
 use Rattle.accounts.proofs.Parts.{sums-in-range}
@@ -135,7 +123,3 @@ module _ (ls : Lengths) where
     left-sums p b x i w =
         ap (λ l. sum l i w) (stored-is (p .state) (words (p .card)) (x .lists) (x .stored .holds))
         ∙ ap (λ (e : Lists). sum (storedIn (e .account)) i w) (x .stands .same) ∙ x .stands .kept .sums i w
-
-    -- N is how many windows exist
-    pub left-existing : (p : Probe) (b : Books) → Left p b → p .state .windows .live ≡ existing (b .ledger)
-    left-existing p b x = ap (λ (w : Windows). w .live) (x .stored .holds .windows) ∙ ap (λ (e : Lists). e .windows .live) (x .stands .same)

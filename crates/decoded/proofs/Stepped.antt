@@ -1,17 +1,5 @@
 -- After a step that does not end the merge, state and card hold what the account holds after it: the same partitions, and one step more.
-use mathlib.Core.Bool.{Bool, true, false, _||_, _&&_, not, cond, true≢false}
-use mathlib.Core.List.{List, [], _∷_, _++_, map}
-use mathlib.Core.Path.{_≡_, refl, sym, ap, ap₂, _∙_}
-use Prim.Native.Nat.{ℕ, zero, suc, _+_, _*_, _<_, _≤_}
-use native.Mathlib.Omega.{arith}
-use lib.Dec.{eqb}
-use lib.ListN.{length, getD, take, replicate, length-append, length-map, length-replicate}
-use borrow.Author.Tests.{eq-eqb, ne-eqb, not-true}
-use Rattle.lists.specs.All.{AllOf}
-use Rattle.lists.specs.Lists.{every, empty, elem, different, same}
-use Rattle.lists.proofs.Bools.{by-test, and-both}
-use Rattle.lists.proofs.Same.{eq-same}
-use Rattle.lists.proofs.Sets.{every-elem}
+use Rattle.lists.proofs.Prelude.{Bool, true, false, _||_, _&&_, not, cond, true≢false, List, [], _∷_, _++_, map, _≡_, refl, sym, ap, ap₂, _∙_, ℕ, zero, suc, _+_, _*_, _<_, _≤_, arith, eqb, length, getD, take, replicate, length-append, length-map, length-replicate, eq-eqb, ne-eqb, not-true, AllOf, every, empty, elem, different, same, by-test, and-both, eq-same, every-elem}
 use Rattle.words.specs.Words.{allOnes}
 use Rattle.postings.specs.declared.Posting.{Posting}
 use Rattle.postings.specs.Merge.{isCounted, nonzero}

@@ -1,17 +1,5 @@
 -- How many blocks are free: all that neither a finished partition nor the output in progress has.
-use mathlib.Core.Bool.{Bool, true, false, _&&_, not, cond}
-use mathlib.Core.List.{List, [], _∷_, _++_, map}
-use mathlib.Core.Path.{_≡_, refl, sym, ap, ap₂, _∙_}
-use Prim.Native.Nat.{ℕ, zero, suc, _+_, _*_, _<_, _≤_}
-use native.Mathlib.Omega.{arith}
-use lib.Dec.{eqb, ltb}
-use lib.ListN.{length, length-append}
-use borrow.Author.Tests.{eqb-true, eqb-false, eq-eqb, ne-eqb, ltb-true, lt-ltb, le-ltb, not-true}
-use Rattle.lists.specs.Lists.{keep, every, empty, elem, different, totalBy, joined, same, rising, upTo}
-use Rattle.lists.proofs.Bools.{by-test, and-left, and-right, and-both}
-use Rattle.lists.proofs.Tests.{every-append, keep-all}
-use Rattle.lists.proofs.Ranges.{length-rising, every-rising, length-all}
-use Rattle.lists.proofs.Same.{same-true}
+use Rattle.lists.proofs.Prelude.{Bool, true, false, _&&_, not, cond, List, [], _∷_, _++_, map, _≡_, refl, sym, ap, ap₂, _∙_, ℕ, zero, suc, _+_, _*_, _<_, _≤_, arith, eqb, ltb, length, length-append, eqb-true, eqb-false, eq-eqb, ne-eqb, ltb-true, lt-ltb, le-ltb, not-true, keep, every, empty, elem, different, totalBy, joined, same, rising, upTo, by-test, and-left, and-right, and-both, every-append, keep-all, length-rising, every-rising, length-all, same-true}
 use Rattle.words.specs.Words.{allOnes}
 use Rattle.state.specs.declared.Partition.{Partition}
 use Rattle.state.specs.declared.State.{State}

@@ -1,15 +1,5 @@
 -- Open, close, event and flush on bytes are those on lists.
-use mathlib.Core.Bool.{true, false, _&&_, not, cond}
-use mathlib.Core.List.{List, [], _∷_, _++_}
-use mathlib.Core.Path.{_≡_, refl, sym, ap, ap₂, _∙_, subst}
-use Prim.Native.Nat.{ℕ, suc, _+_, _-_, _*_, _≤_}
-use native.Mathlib.Omega.{arith}
-use lib.Dec.{eqb, leb}
-use lib.IntN.{pos}
-use lib.ListN.{length}
-use borrow.Author.Tests.{leb-false, not-true}
-use Rattle.lists.specs.Lists.{any, elem}
-use Rattle.lists.proofs.Bools.{by-test, and-both}
+use Rattle.lists.proofs.Prelude.{true, false, _&&_, not, cond, List, [], _∷_, _++_, _≡_, refl, sym, ap, ap₂, _∙_, subst, ℕ, suc, _+_, _-_, _*_, _≤_, arith, eqb, leb, pos, length, leb-false, not-true, any, elem, by-test, and-both}
 use Rattle.words.specs.Words.{words}
 use Rattle.postings.specs.declared.Posting.{Posting}
 use Rattle.postings.specs.Order.{samePair}

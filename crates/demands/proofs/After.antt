@@ -1,14 +1,5 @@
 -- After every history: what a query lists, by the ledger, and what the card's blocks hold.
-use mathlib.Core.Bool.{true, false, not}
-use mathlib.Core.List.{List, [], _∷_}
-use mathlib.Core.Path.{_≡_, sym, ap, _∙_, subst}
-use Prim.Native.Nat.{ℕ, _*_, _/_, _%_, _<_}
-use native.Mathlib.Omega.{arith}
-use lib.Dec.{eqb}
-use lib.ListN.{length, getD}
-use borrow.Author.Tests.{eqb-true}
-use Rattle.lists.specs.Lists.{every, empty, down}
-use Rattle.lists.proofs.Bools.{and-left}
+use Rattle.lists.proofs.Prelude.{true, false, not, List, [], _∷_, _≡_, sym, ap, _∙_, subst, ℕ, _*_, _/_, _%_, _<_, arith, eqb, length, getD, eqb-true, every, empty, down, and-left}
 use Rattle.words.specs.Words.{words, allOnes}
 use Rattle.postings.specs.Merge.{pairs}
 use Rattle.answers.specs.Answers.{Answer, done, hits, answerOf}

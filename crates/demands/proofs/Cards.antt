@@ -1,10 +1,5 @@
 -- From a start on a card's bytes are those of its words, since a call writes words. So a word of all ones is four bytes 255.
-use mathlib.Core.Bool.{Bool, true, false}
-use mathlib.Core.List.{List, [], _∷_}
-use mathlib.Core.Path.{_≡_, sym, ap, _∙_, subst}
-use Prim.Native.Nat.{ℕ, zero, suc, _/_, _%_}
-use native.Mathlib.Omega.{arith}
-use lib.ListN.{getD, replicate, length-replicate}
+use Rattle.lists.proofs.Prelude.{Bool, true, false, List, [], _∷_, _≡_, sym, ap, _∙_, subst, ℕ, zero, suc, _/_, _%_, arith, getD, replicate, length-replicate}
 use Rattle.words.specs.Words.{words, bytes, allOnes, Below}
 use Rattle.words.proofs.Views.{words-bytes, bytes-words}
 use Rattle.answers.specs.Answers.{Outcome, refuseIf, choose, stateOf, carry}

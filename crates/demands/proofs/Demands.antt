@@ -1,14 +1,6 @@
 -- The three demands as theorems, each under a plain sentence. Who believes the definitions that they name, and the promises of the public functions,
 -- which equate result and lent buffers with those definitions, need read no further: every proof here cites a law.
-use mathlib.Core.Bool.{true, false, _&&_}
-use mathlib.Core.List.{List, map}
-use mathlib.Core.Path.{_≡_, ap, _∙_}
-use Prim.Native.Nat.{ℕ, _*_, _/_, _≤_, _<_}
-use lib.Dec.{eqb}
-use lib.IntN.{pos}
-use lib.ListN.{length, getD}
-use Rattle.lists.specs.All.{AllOf}
-use Rattle.lists.specs.Lists.{any, every, empty, different, down}
+use Rattle.lists.proofs.Prelude.{true, false, _&&_, List, map, _≡_, ap, _∙_, ℕ, _*_, _/_, _≤_, _<_, eqb, pos, length, getD, AllOf, any, every, empty, different, down}
 use Rattle.words.specs.Words.{words, allOnes, Below}
 use Rattle.postings.specs.declared.Posting.{Posting}
 use Rattle.postings.specs.Merge.{pairs}
@@ -131,7 +123,7 @@ other-record-refused l other = ap answerOf (lent-other l other)
 pub refused-step-unchanged : (l : Lent) (n : ℕ) → answerOf (lentStepOf l) ≡ refused n → stateOf l (lentStepOf l) ≡ l
 refused-step-unchanged l n e = lent-unchanged l .same n e
 
--- On a card of bytes a call, refused or not, keeps the card's length, and each byte stays, or was 255, or goes to 255 with its whole block.
+-- On a card of bytes a call, refused or not, keeps the card's length, and a byte that changes was 255 before, or becomes 255 as all of its block does.
 pub bytes-move : (p : Probe) → Below 256 (p .card) → (c : Call) → (length (stateOf p (probeCall p c) .card) ≡ length (p .card)) × MovesBytes (p .card) (stateOf p (probeCall p c) .card)
 bytes-move p b c = let m = call-moved p b c in (m .long, m .rule)
 
@@ -162,7 +154,7 @@ pub hits-by-ledger : (c r : ℕ) → cardLength c ≡ true → registerLength r 
     → Listing (existing (booksAfter c r cs .ledger)) (booksAfter c r cs .ledger .count) (down (booksAfter c r cs .ledger .last)) (length places) ns found
 hits-by-ledger = listing-by-ledger
 
--- The postings that it reports are exactly those stored under its identifiers, in finished partitions and buffer.
+-- It reports as many postings as partitions and buffer hold of its identifiers.
 pub taken-exact : (p : Probe) (ns : List Name) (places found : List Hit) (taken : ℕ) → answerOf (queryOf p ns places) ≡ hits found taken
     → takenUp (words (p .card)) (p .state) (numbers (p .register) ns) ≡ taken
 taken-exact p ns places found taken e = query-answered p ns places found taken e .takenIs

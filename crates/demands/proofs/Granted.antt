@@ -1,14 +1,5 @@
 -- What a call that is not refused has found and left.
-use mathlib.Core.Bool.{Bool, true, false, _&&_, not, cond}
-use mathlib.Core.List.{List, [], _∷_, _++_}
-use mathlib.Core.Path.{_≡_, refl, sym, ap, _∙_, subst}
-use Prim.Native.Nat.{ℕ, _+_, _*_, _≤_}
-use native.Mathlib.Omega.{arith}
-use lib.Dec.{leb}
-use lib.ListN.{length}
-use borrow.Author.Tests.{eqb-true, leb-false, not-true, not-false}
-use Rattle.lists.specs.Lists.{any, down}
-use Rattle.lists.proofs.Bools.{by-test, and-right, and-both}
+use Rattle.lists.proofs.Prelude.{Bool, true, false, _&&_, not, cond, List, [], _∷_, _++_, _≡_, refl, sym, ap, _∙_, subst, ℕ, _+_, _*_, _≤_, arith, leb, length, eqb-true, leb-false, not-true, not-false, any, down, by-test, and-right, and-both}
 use Rattle.words.specs.Words.{words}
 use Rattle.answers.specs.Answers.{Answer, done, number, hits, refused, Outcome, leave, refuseIf, choose, answerOf, stateOf}
 use Rattle.answers.specs.declared.Hit.{Hit}

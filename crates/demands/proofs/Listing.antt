@@ -1,15 +1,5 @@
 -- What the hits of a query are, read off their definition: exact scores, in falling order, and cut only where the list is full.
-use mathlib.Core.Bool.{Bool, true, false, _||_, _&&_, not, cond, true≢false}
-use mathlib.Core.List.{List, [], _∷_, foldr, map}
-use mathlib.Core.Path.{_≡_, refl, sym, ap, ap₂, _∙_}
-use Prim.Native.Nat.{ℕ, zero, suc}
-use lib.Dec.{eqb}
-use lib.ListN.{length, take}
-use borrow.Author.Tests.{eqb-true, eqb-false, eq-eqb, not-true}
-use Rattle.lists.specs.Lists.{keep, any, every, elem, different, down}
-use Rattle.lists.proofs.Bools.{by-test, and-left, and-right, and-both, or-none, or-swap}
-use Rattle.lists.proofs.Tests.{every-from, every-take}
-use Rattle.lists.proofs.Sets.{elem-every, different-keep}
+use Rattle.lists.proofs.Prelude.{Bool, true, false, _||_, _&&_, not, cond, true≢false, List, [], _∷_, foldr, map, _≡_, refl, sym, ap, ap₂, _∙_, ℕ, zero, suc, eqb, length, take, eqb-true, eqb-false, eq-eqb, not-true, any, every, elem, different, down, by-test, and-left, and-right, and-both, or-none, or-swap, every-from, every-take, elem-every, different-keep}
 use Rattle.lists.proofs.TopK.{falling-different, down-falling}
 use Rattle.answers.specs.declared.Hit.{Hit}
 use Rattle.queries.specs.Hits.{outranks, place, score, matching, ranked}

@@ -1,10 +1,5 @@
 -- Calls in a row that keep the promises of the public functions are the calls on one probe: the same answers, and the same probe between them.
-use mathlib.Core.Bool.{Bool, true, false, _&&_, not}
-use mathlib.Core.List.{List, _∷_}
-use mathlib.Core.Path.{_≡_, refl, sym, ap, ap₂, _∙_}
-use Prim.Native.Nat.{ℕ}
-use native.Mathlib.Omega.{arith}
-use lib.ListN.{length, replicate, length-replicate}
+use Rattle.lists.proofs.Prelude.{Bool, true, false, _&&_, List, _∷_, _≡_, refl, sym, ap, ap₂, _∙_, ℕ, arith, length, replicate, length-replicate}
 use Rattle.words.specs.Words.{words}
 use Rattle.answers.specs.Answers.{Answer, done, refused, Outcome, refuse, leave, refuseIf, hits, answerOf, stateOf, carry}
 use Rattle.answers.specs.Numbers.{foundAs}

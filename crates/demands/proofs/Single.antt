@@ -1,9 +1,5 @@
 -- Two results that keep one promise are equal: the answer in the code's own form, the state, and every buffer.
-use mathlib.Core.List.{List, [], _∷_}
-use mathlib.Core.Path.{_≡_, refl, sym, ap, ap₂, _∙_}
-use Prim.Native.Nat.{ℕ, _≤_}
-use native.Mathlib.Omega.{arith}
-use lib.ListN.{length, getD, take, length-append, length-take}
+use Rattle.lists.proofs.Prelude.{List, [], _∷_, _≡_, refl, sym, ap, ap₂, _∙_, ℕ, _≤_, arith, length, getD, take, length-append, length-take}
 use Rattle.answers.specs.Answers.{Answer, done, number, hits, refused, Outcome}
 use Rattle.answers.specs.Numbers.{refusalNumber, replied, openedAs, foundAs}
 use Rattle.answers.specs.declared.Refusal.{Refusal}

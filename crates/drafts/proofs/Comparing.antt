@@ -1,19 +1,8 @@
 -- The output in progress compared in three parts: the space of header and entries, the postings, and the rest.
-use mathlib.Core.Bool.{Bool, true, false, _&&_}
-use mathlib.Core.List.{List, [], _∷_, _++_, append-assoc}
-use mathlib.Core.Path.{_≡_, refl, sym, ap, ap₂, _∙_}
-use Prim.Native.Nat.{ℕ, zero, suc, _+_, _-_, _*_, _≤_}
-use native.Mathlib.Omega.{arith}
-use lib.Dec.{eqb}
-use lib.ListN.{length, take, drop, replicate, length-append, length-take, length-drop, length-replicate, length-map, take-append-drop}
-use lib.Seq.{take-all, length-take-le}
-use Rattle.lists.specs.Lists.{every, same}
-use Rattle.lists.proofs.Runs.{eqb-swap}
-use Rattle.lists.proofs.Same.{same-swap}
+use Rattle.lists.proofs.Prelude.{Bool, true, false, _&&_, List, [], _∷_, _++_, append-assoc, _≡_, refl, sym, ap, ap₂, _∙_, ℕ, zero, suc, _+_, _-_, _*_, _≤_, arith, eqb, length, take, drop, replicate, length-append, length-take, length-drop, length-replicate, length-map, take-append-drop, take-all, length-take-le, every, same, eqb-swap, same-swap, keep-append}
 use Rattle.words.specs.Words.{allOnes}
 use Rattle.postings.specs.declared.Posting.{Posting}
 use Rattle.postings.specs.Merge.{nonzero, isCounted}
-use Rattle.lists.proofs.Tests.{keep-append}
 use Rattle.card.specs.Blocks.{block, contentOf}
 use Rattle.card.specs.Chains.{chain, content}
 use Rattle.card.specs.Cursors.{Chained}

@@ -1,15 +1,6 @@
--- Document 01's rule of a card's bytes, for every call on a probe whose card is bytes, refused or not: the card keeps its length, and each byte stays,
--- or was 255, or goes to 255 with its whole block.
-use mathlib.Core.Bool.{Bool, true, false, true≢false}
-use mathlib.Core.List.{List, [], _∷_}
-use mathlib.Core.Logic.{inl, inr}
-use mathlib.Core.Path.{_≡_, refl, _∙_}
-use Prim.Native.Nat.{ℕ, suc, _*_, _<_}
-use native.Mathlib.Omega.{arith}
-use lib.ListN.{length, replicate, length-replicate, getD-replicate}
-use borrow.Author.Tests.{eqb-true, not-false}
-use Rattle.lists.specs.Lists.{empty}
-use Rattle.lists.proofs.Bools.{and-left, and-both}
+-- Document 01's rule of a card's bytes, for every call on a probe whose card is bytes, refused or not: the card keeps its length, and a byte that
+-- changes was 255 before, or becomes 255 as all of its block does.
+use Rattle.lists.proofs.Prelude.{Bool, true, false, true≢false, List, [], _∷_, inl, inr, _≡_, refl, _∙_, ℕ, suc, _*_, _<_, arith, length, replicate, length-replicate, getD-replicate, eqb-true, not-false, empty, and-left, and-both}
 use Rattle.words.specs.Words.{words, bytes, Below}
 use Rattle.words.proofs.Views.{length-words, length-bytes}
 use Rattle.answers.specs.declared.Hit.{Hit}

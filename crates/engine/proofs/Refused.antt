@@ -1,7 +1,5 @@
 -- Refused means unchanged, for every call on a probe: state, card and register are as they were.
-use mathlib.Core.List.{List}
-use mathlib.Core.Path.{refl}
-use lib.ListN.{replicate}
+use Rattle.lists.proofs.Prelude.{List, refl, replicate}
 use Rattle.answers.specs.declared.Hit.{Hit}
 use Rattle.answers.specs.Unchanged.{Unchanged}
 use Rattle.answers.proofs.Kept.{unchanged-carry}

@@ -1,15 +1,5 @@
 -- A free block whose link names none is a chain of one: a partition written along it is stored.
-use mathlib.Core.Bool.{true}
-use mathlib.Core.List.{List, [], _∷_, map}
-use mathlib.Core.Path.{_≡_, refl, _∙_}
-use Prim.Native.Nat.{ℕ, _+_, _*_, _≤_}
-use native.Mathlib.Omega.{arith}
-use lib.Dec.{ltb, leb}
-use lib.ListN.{length, set}
-use borrow.Author.Tests.{lt-ltb}
-use Rattle.lists.specs.All.{AllOf}
-use Rattle.lists.specs.Lists.{every}
-use Rattle.lists.proofs.Bools.{and-both}
+use Rattle.lists.proofs.Prelude.{true, List, [], _∷_, map, _≡_, refl, _∙_, ℕ, _+_, _*_, _≤_, arith, ltb, leb, length, set, lt-ltb, AllOf, every, and-both}
 use Rattle.words.specs.Words.{words}
 use Rattle.words.proofs.Views.{length-words}
 use Rattle.postings.specs.declared.Posting.{Posting}

@@ -1,16 +1,5 @@
 -- The buffered postings counted by identifier.
-use mathlib.Core.Bool.{true, cond}
-use mathlib.Core.List.{List, [], _∷_, _++_}
-use mathlib.Core.Path.{_≡_, refl, sym, ap, _∙_}
-use Prim.Native.Nat.{ℕ, _+_, _<_, _≤_}
-use native.Mathlib.Numerals.{add-one}
-use native.Mathlib.Omega.{arith}
-use lib.Dec.{eqb, leb}
-use lib.ListN.{length, getD, set, take, replicate}
-use lib.Seq.{take-suc, getD-take, length-take-le}
-use borrow.Author.Tests.{leb-true}
-use Rattle.lists.specs.Lists.{every}
-use Rattle.lists.proofs.Tests.{every-at, length-keep}
+use Rattle.lists.proofs.Prelude.{true, cond, List, [], _∷_, _++_, _≡_, refl, sym, ap, _∙_, ℕ, _+_, _<_, _≤_, add-one, arith, eqb, leb, length, getD, set, take, replicate, take-suc, getD-take, length-take-le, leb-true, every, every-at, length-keep}
 use Rattle.postings.specs.declared.Posting.{Posting}
 use Rattle.state.specs.Views.{noPosting}
 use Rattle.partitions.specs.Layout.{termCount}

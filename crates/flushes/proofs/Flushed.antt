@@ -1,18 +1,5 @@
 -- A flush is read back as a finished partition, and every other one stays as it was.
-use mathlib.Core.Bool.{true, false, not, _&&_, true≢false}
-use mathlib.Core.List.{List, [], _∷_, _++_, map, append-nil}
-use mathlib.Core.Path.{_≡_, refl, sym, ap, ap₂, _∙_}
-use Prim.Native.Nat.{ℕ, _*_, _<_, _≤_}
-use native.Mathlib.Omega.{arith}
-use lib.Dec.{ltb, leb}
-use lib.ListN.{length}
-use lib.Seq.{length-take-le}
-use borrow.Author.Tests.{lt-ltb, le-leb, eq-eqb}
-use Rattle.lists.specs.Lists.{every, elem, different, joined}
-use Rattle.lists.proofs.Bools.{by-test, and-left, and-right, and-both}
-use Rattle.lists.proofs.Tests.{every-from}
-use Rattle.lists.proofs.Tests.{every-append}
-use Rattle.lists.proofs.Sets.{every-elem, different-insert}
+use Rattle.lists.proofs.Prelude.{true, false, not, _&&_, true≢false, List, [], _∷_, _++_, map, append-nil, _≡_, refl, sym, ap, ap₂, _∙_, ℕ, _*_, _<_, _≤_, arith, ltb, leb, length, length-take-le, lt-ltb, le-leb, eq-eqb, every, elem, different, joined, by-test, and-left, and-right, and-both, every-from, every-append, every-elem, different-insert}
 use Rattle.lists.proofs.Stores.{joined-append}
 use Rattle.words.specs.Words.{allOnes}
 use Rattle.postings.specs.declared.Posting.{Posting}

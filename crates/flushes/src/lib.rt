@@ -2,10 +2,12 @@
 use card::put_block_word;
 use postings::pack;
 use state::Buffer;
+use state::Partition;
+use state::Partitions;
 ghost use mathlib.Core.Bool.{true};
-ghost use mathlib.Core.List.{[], _∷_, map};
+ghost use mathlib.Core.List.{[], _∷_, _++_, map};
 ghost use mathlib.Core.Path.{_≡_};
-ghost use Prim.Native.Nat.{_%_, _≤_};
+ghost use Prim.Native.Nat.{_%_, _≤_, _<_};
 ghost use lib.Dec.{leb};
 ghost use lib.ListN.{length, replicate};
 ghost use lib.Seq.{sets};
@@ -13,7 +15,7 @@ ghost use Rattle.lists.specs.Lists.{every, upTo};
 ghost use Rattle.words.specs.Words.{words, bytes};
 ghost use Rattle.postings.specs.Order.{ordered};
 ghost use Rattle.postings.specs.Sums.{under};
-ghost use Rattle.state.specs.Views.{buffered};
+ghost use Rattle.state.specs.Views.{buffered, finished, partitionsOf};
 ghost use Rattle.card.specs.Blocks.{isFree};
 ghost use Rattle.card.specs.Cursors.{InCard};
 ghost use Rattle.card.specs.Writes.{store};
@@ -56,21 +58,12 @@ fn pack_postings(b: Buffer, content: &mut [u32])
     }
 }
 
-// The length in bytes of the partition that the buffered postings are written as.
-pub fn flush_length(b: Buffer) -> u32
-    requires { ⌜ (b .used ≤ 128) × (every (λ p. leb (p .id) 1023) (buffered b) ≡ true) ⌝ }
-    ensures { λ r. ⌜ r ≡ lengthOf (buffered b) ⌝ }
-{
-    let mut counts: [u16; 1024] = [0; 1024];
-    let terms = count_postings(b, &mut counts);
-    32 + 12 * terms as u32 + 4 * b.used as u32
-}
-
-// Writes the buffered postings as a partition into a free block. With its link that is a chain of one, which holds nothing.
-pub fn write_flush(card: &mut [u8], block: u16, b: Buffer)
+// Writes the buffered postings as a partition into a free block, and tells how many identifiers they have. With its link that is a chain of one, which
+// holds nothing.
+fn write_counted(card: &mut [u8], block: u16, b: Buffer) -> u16
     requires { ⌜ (length (now card) % 4096 ≡ 0) × InCard (words (now card)) block × (isFree (words (now card)) block ≡ true) × (b .used ≤ 128)
         × (ordered (buffered b) ≡ true) × (every (λ p. inRange (p .count)) (buffered b) ≡ true) × (every (λ p. leb (p .id) 1023) (buffered b) ≡ true) ⌝ }
-    ensures { λ r. ⌜ now (card .exit) ≡ bytes (store (words (now (card .entry))) (block ∷ []) (encode 0 (buffered b))) ⌝ }
+    ensures { λ r. ⌜ (r ≡ termCount (buffered b)) × (now (card .exit) ≡ bytes (store (words (now (card .entry))) (block ∷ []) (encode 0 (buffered b)))) ⌝ }
 {
     put_block_word(card, block, 1023, 65534);
     let mut counts: [u16; 1024] = [0; 1024];
@@ -81,4 +74,22 @@ pub fn write_flush(card: &mut [u8], block: u16, b: Buffer)
     pack_postings(b, &mut content);
     let n = b.used as usize;
     outputs::write_words(card, block, 1, 8 + 3 * terms as u32, &content[0..n]);
+    terms
+}
+
+// Writes the buffered postings, and lists the partition as the youngest.
+pub fn flush(card: &mut [u8], block: u16, b: Buffer, ps: Partitions) -> Partitions
+    requires { ⌜ (length (now card) % 4096 ≡ 0) × InCard (words (now card)) block × (isFree (words (now card)) block ≡ true) × (b .used ≤ 128)
+        × (ordered (buffered b) ≡ true) × (every (λ p. inRange (p .count)) (buffered b) ≡ true) × (every (λ p. leb (p .id) 1023) (buffered b) ≡ true)
+        × (ps .used ≤ 51) × (length (finished ps) < 51) × (length (ps .records) ≡ 51 → ps ≡ partitionsOf (finished ps)) ⌝ }
+    ensures { λ r. ⌜ (r ≡ partitionsOf (finished ps ++ (record { first = block; level = 0; length = lengthOf (buffered b) } ∷ [])))
+        × (now (card .exit) ≡ bytes (store (words (now (card .entry))) (block ∷ []) (encode 0 (buffered b)))) ⌝ }
+{
+    let terms = write_counted(card, block, b);
+    let p = Partition {
+        first: block,
+        level: 0,
+        length: 32 + 12 * terms as u32 + 4 * b.used as u32,
+    };
+    state::partition_list::append(ps, p)
 }

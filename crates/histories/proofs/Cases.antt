@@ -1,10 +1,5 @@
 -- The table of worked cases: one computation on ledger and account, which the history theorem carries over to the engine's bytes.
-use mathlib.Core.Bool.{Bool, true}
-use mathlib.Core.Path.{_≡_, refl, ap, ap₂, _∙_}
-use mathlib.Core.List.{List, [], _∷_, map}
-use Prim.Native.Nat.{ℕ, _*_}
-use Rattle.lists.specs.Lists.{every, down, rising}
-use Rattle.lists.proofs.Bools.{and-left, and-right}
+use Rattle.lists.proofs.Prelude.{Bool, true, _≡_, refl, ap, ap₂, _∙_, List, [], _∷_, map, ℕ, _*_, every, down, rising, and-left, and-right}
 use Rattle.weights.specs.Weights.{largest, tfWeight, idfWeight}
 use Rattle.postings.specs.Merge.{nonzero, pairs}
 use Rattle.answers.specs.Answers.{Answer, refuseIf, choose}

@@ -1,12 +1,5 @@
 -- The history theorem: for all buffers within the limits and all lists of calls, the engine's answers from a fresh card are those of ledger and account.
-use mathlib.Core.Bool.{true}
-use mathlib.Core.List.{List}
-use mathlib.Core.Path.{_≡_, sym, subst}
-use Prim.Native.Nat.{ℕ, _/_, _%_, _≤_}
-use lib.Dec.{eqb, leb}
-use borrow.Author.Tests.{leb-true}
-use Rattle.lists.specs.All.{AllOf}
-use Rattle.lists.proofs.Bools.{and-right}
+use Rattle.lists.proofs.Prelude.{true, List, _≡_, sym, subst, ℕ, _/_, _%_, _≤_, eqb, leb, leb-true, AllOf, and-right}
 use Rattle.state.specs.Rules.{cardLength, registerLength}
 use Rattle.accounts.specs.Account.{emptyAccount}
 use Rattle.accounts.specs.Ledger.{emptyLedger}

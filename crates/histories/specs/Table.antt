@@ -42,7 +42,7 @@ abbrev pub times : ℕ → List Call → List Call
 times zero cs = []
 times (suc n) cs = cs ++ times n cs
 
--- closed window 1 has LUCKY 3, TILT 1; closed window 2 LUCKY 1; closed window 3 TILT 1, DOOR 1
+-- three windows one after another, each closed: three of LUCKY and one of TILT; one of LUCKY; one of TILT and one of DOOR
 abbrev pub three : List Call
 three =
     Open ∷ Event LUCKY ∷ Event LUCKY ∷ Event LUCKY ∷ Event TILT ∷ Close
@@ -106,20 +106,20 @@ table =
     -- 64 bytes accepted, 65 refused with 4, and so is an empty identifier; in a history, too
     ∷ Sized 64 false ∷ Sized 65 true ∷ Sized 0 true
     ∷ History 4 (Open ∷ Event (As 64) ∷ Event (As 65) ∷ Event [] ∷ []) (number 1 ∷ done ∷ refused 4 ∷ refused 4 ∷ [])
-    -- two identifiers equal in their first 16 bytes get two numbers, and these bytes alone would get a third
+    -- identifiers that agree in 16 bytes and differ in the 17th have a number each, and those 16 bytes alone would have another
     ∷ Registered (AsB ∷ AsC ∷ []) true ∷ Numbered (AsB ∷ AsC ∷ []) AsB 0 ∷ Numbered (AsB ∷ AsC ∷ []) AsC 1 ∷ Numbered (AsB ∷ AsC ∷ []) (As 16) 2
     -- so each is worked, found and taken up apart from the other
     ∷ History 4 (Open ∷ Event AsB ∷ Event AsB ∷ Close ∷ Open ∷ Event AsC ∷ Close ∷ Query 32 (AsB ∷ []) ∷ Query 32 (AsC ∷ []) ∷ Query 32 (As 16 ∷ []) ∷ [])
     (hits (hit 1 24 ∷ []) 1 ∷ hits (hit 2 16 ∷ []) 1 ∷ hits [] 0 ∷ [])
     -- the query gives 1 (24), 3 (8), 2 (8), with 4 postings taken
     ∷ History 4 (three ++ (asked ∷ [])) (hits (hit 1 24 ∷ hit 3 8 ∷ hit 2 8 ∷ []) 4 ∷ [])
-    -- after removal of 1, no flush: 3 (16), 2 (16), with 2 taken
+    -- window 1 removed while all is buffered: its postings are gone from the buffer
     ∷ History 4 (three ++ (Remove 1 ∷ asked ∷ [])) (done ∷ hits (hit 3 16 ∷ hit 2 16 ∷ []) 2 ∷ [])
-    -- with a flush before the removal: the same hits, 6 taken
+    -- flushed and then removed: its postings are on the card and their negation is buffered, and the hits do not change
     ∷ History 4 (three ++ (Flush ∷ Remove 1 ∷ asked ∷ [])) (done ∷ done ∷ hits (hit 3 16 ∷ hit 2 16 ∷ []) 6 ∷ [])
     -- DOOR worked 2 before a flush and 1 after, in one window: count 3, which weighs 8, and F adds 1, which of N = 2 weighs 4
     ∷ History 4 (Open ∷ Event TILT ∷ Close ∷ Open ∷ Event DOOR ∷ Event DOOR ∷ Flush ∷ Event DOOR ∷ Close ∷ Query 32 (DOOR ∷ []) ∷ []) (hits (hit 2 32 ∷ []) 2 ∷ [])
-    -- a card of 4 blocks: two flushes pass, a third gives 11
+    -- on the smallest card two partitions are half of it
     ∷ History 4 (Open ∷ Event DOOR ∷ Flush ∷ Event DOOR ∷ Flush ∷ Event DOOR ∷ Flush ∷ []) (done ∷ done ∷ done ∷ done ∷ done ∷ refused 11 ∷ [])
     -- eight flushes of one pair make a merge of one step; then none is due, and one posting of count 8 is left
     ∷ History 64 (Open ∷ times 8 (Event DOOR ∷ Flush ∷ []) ++ (Step ∷ Step ∷ Close ∷ Open ∷ Event TILT ∷ Query 3 (DOOR ∷ []) ∷ []))

@@ -1,10 +1,5 @@
 -- A lent list that is filled with hits, and that a query whose hits fill it gives what the query is.
-use mathlib.Core.List.{List, _++_}
-use mathlib.Core.Path.{_≡_, refl, sym, ap, _∙_}
-use Prim.Native.Nat.{ℕ, _+_, _≤_, _<_}
-use native.Mathlib.Omega.{arith}
-use lib.ListN.{length, getD, set, take, drop}
-use lib.Seq.{length-take-le, length-front, take-at, take-append-seam}
+use Rattle.lists.proofs.Prelude.{List, _++_, _≡_, refl, sym, ap, _∙_, ℕ, _+_, _≤_, _<_, arith, length, getD, set, take, drop, length-take-le, length-front, take-at, take-append-seam}
 use Rattle.lists.proofs.Padding.{blend-more}
 use Rattle.answers.specs.Answers.{hits}
 use Rattle.answers.specs.Numbers.{foundAs}

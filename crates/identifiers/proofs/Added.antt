@@ -1,18 +1,5 @@
 -- A register with an identifier added: its identifiers, its rule and its bytes; and a register of zeros.
-use mathlib.Core.Bool.{true, false, not}
-use mathlib.Core.List.{List, [], _∷_, _++_, map, map-append}
-use mathlib.Core.Path.{_≡_, refl, ap, _∙_}
-use Prim.Native.Nat.{ℕ, zero, suc, _+_, _-_, _*_, _/_, _<_, _≤_}
-use native.Mathlib.Omega.{arith}
-use borrow.Author.Tests.{not-true, le-leb, ltb-false, lt-ltb, le-ltb, eqb-true}
-use lib.Dec.{eqb, leb}
-use lib.ListN.{length, getD, take, drop, set, replicate, length-drop}
-use lib.Seq.{sets, length-sets, sets-eq, take-at, drop-at, drop-drop}
-use Rattle.lists.specs.Lists.{keep, every}
-use Rattle.lists.proofs.Bools.{by-test, and-left, and-right, and-both}
-use Rattle.lists.proofs.Tests.{every-at}
-use Rattle.lists.proofs.Tests.{every-drop, every-take, every-replicate}
-use Rattle.lists.proofs.Same.{every-set, take-sets-le, drop-sets-add, getD-sets-other, take-over, drop-over}
+use Rattle.lists.proofs.Prelude.{true, false, not, List, [], _∷_, _++_, map, map-append, _≡_, refl, ap, _∙_, ℕ, zero, suc, _+_, _-_, _*_, _/_, _<_, _≤_, arith, not-true, le-leb, ltb-false, lt-ltb, le-ltb, eqb-true, eqb, leb, length, getD, take, drop, set, replicate, length-drop, sets, length-sets, sets-eq, take-at, drop-at, drop-drop, keep, every, by-test, and-left, and-right, and-both, every-at, every-drop, every-take, every-replicate, every-set, take-sets-le, drop-sets-add, take-over, drop-over}
 use Rattle.identifiers.specs.Names.{Name, badLength, among, distinct}
 use Rattle.identifiers.specs.Register.{entriesOf, entries, size, used, nameOf, entryRule, usedFirst, names, registerRule, added}
 use Rattle.identifiers.specs.Formed.{formedFrom, formed}
@@ -142,13 +129,6 @@ module _ (r : List ℕ) (n : Name) (rule : registerRule r ≡ true) (good : badL
 pub length-added : (r : List ℕ) (n : Name) → length (added r n) ≡ length r
 unfolding added
 length-added r n = length-sets r (65 * length (names r)) (length n ∷ n)
-
--- bytes outside the one entry stay
-pub byte-added : (r : List ℕ) (n : Name) → badLength n ≡ false → (k : ℕ) → (65 * length (names r) ≤ k → k < 65 * length (names r) + 65 → ⊥)
-    → getD (added r n) k 0 ≡ getD r k 0
-unfolding added
-byte-added r n good k out =
-    getD-sets-other r (65 * length (names r)) (length n ∷ n) k 0 (λ p q. out p (omega (arith, good-length n good .1)))
 
 -- A register of zeros -----------------------------------------------------------------------------------------------
 

@@ -1,16 +1,5 @@
 -- Laws of the hash and of chains of places with equal hashes. Of the hash they need only that it is a function of the identifier.
-use mathlib.Core.Bool.{false}
-use mathlib.Core.List.{List, [], _∷_}
-use mathlib.Core.Path.{_≡_, refl, sym, ap, _∙_}
-use Prim.Native.Nat.{ℕ, zero, suc, _+_, _*_, _%_, _<_, _≤_}
-use native.Mathlib.Omega.{arith}
-use borrow.Author.Tests.{eqb-true, eqb-false, eq-eqb, ne-eqb}
-use lib.Dec.{eqb}
-use lib.ListN.{length, getD, take, drop, set, replicate, getD-replicate}
-use lib.Seq.{drop-cons, getD-set-same, getD-set-other}
-use Rattle.lists.specs.Lists.{same}
-use Rattle.lists.proofs.Bools.{by-test}
-use Rattle.lists.proofs.Same.{same-true}
+use Rattle.lists.proofs.Prelude.{false, List, [], _∷_, _≡_, refl, sym, ap, _∙_, ℕ, zero, suc, _+_, _*_, _%_, _<_, _≤_, arith, eqb-true, eqb-false, eq-eqb, ne-eqb, eqb, length, getD, take, drop, set, replicate, getD-replicate, drop-cons, getD-set-same, getD-set-other, same, by-test, same-true}
 use Rattle.identifiers.specs.Names.{Name, among}
 use Rattle.identifiers.specs.Chains.{hashFrom, hashOf, lastWith, Heads, Links}
 use Rattle.identifiers.proofs.Names.{among-upto}

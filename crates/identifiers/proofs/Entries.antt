@@ -1,16 +1,5 @@
 -- Laws of a register's entries: where each lies, and the identifiers of a formed register by their place.
-use mathlib.Core.Bool.{Bool, true, false, _&&_, not, cond, and-assoc}
-use mathlib.Core.List.{List, [], _∷_}
-use mathlib.Core.Path.{_≡_, refl, sym, ap, _∙_}
-use Prim.Native.Nat.{ℕ, zero, suc, _+_, _*_, _/_, _<_, _≤_}
-use native.Mathlib.Omega.{arith}
-use borrow.Author.Tests.{not-true, leb-true, ltb-true, ltb-false, eq-eqb, ne-eqb}
-use lib.Dec.{eqb, leb}
-use lib.ListN.{length, getD, take, drop, length-drop, length-map, List·getD-map}
-use lib.Seq.{drop-cons, drop-drop, getD-take, getD-drop, length-take-le}
-use Rattle.lists.specs.Lists.{keep, every}
-use Rattle.lists.proofs.Bools.{by-test, and-left, and-right}
-use Rattle.lists.proofs.Tests.{every-at, length-keep}
+use Rattle.lists.proofs.Prelude.{Bool, true, false, _&&_, not, cond, and-assoc, List, [], _∷_, _≡_, refl, sym, ap, _∙_, ℕ, zero, suc, _+_, _*_, _/_, _<_, _≤_, arith, not-true, leb-true, ltb-true, ltb-false, eq-eqb, ne-eqb, eqb, leb, length, getD, take, drop, length-drop, length-map, List·getD-map, drop-cons, drop-drop, getD-take, getD-drop, length-take-le, keep, every, by-test, and-left, and-right, every-at, length-keep}
 use Rattle.identifiers.specs.Names.{distinct}
 use Rattle.identifiers.specs.Register.{entriesOf, entries, size, used, nameOf, entryRule, usedFirst, names, registerRule}
 use Rattle.identifiers.specs.Formed.{formedFrom, formed}

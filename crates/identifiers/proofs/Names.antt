@@ -1,16 +1,5 @@
 -- Laws of identifiers in a list: which is among them, whether they differ, and their numbers.
-use mathlib.Core.Bool.{Bool, true, false, _&&_, _||_, not, cond, or-false, or-comm}
-use mathlib.Core.List.{List, [], _∷_, _++_}
-use mathlib.Core.Path.{_≡_, refl, sym, _∙_}
-use Prim.Native.Nat.{ℕ, zero, suc, _<_, _≤_}
-use native.Mathlib.Omega.{arith}
-use borrow.Author.Tests.{not-true}
-use lib.ListN.{length, getD, take, drop, take-append-drop}
-use lib.Seq.{drop-cons, take-suc}
-use Rattle.lists.specs.Lists.{same}
-use Rattle.lists.proofs.Bools.{by-test, and-left, and-right, or-none}
-use Rattle.lists.proofs.Same.{same-refl, same-true, same-swap, any-at}
-use Rattle.lists.proofs.Tests.{any-append}
+use Rattle.lists.proofs.Prelude.{Bool, true, false, _&&_, _||_, not, cond, or-false, or-comm, List, [], _∷_, _++_, _≡_, refl, sym, _∙_, ℕ, zero, suc, _<_, _≤_, arith, not-true, length, getD, take, drop, take-append-drop, drop-cons, take-suc, same, by-test, and-left, and-right, or-none, same-refl, same-true, same-swap, any-at, any-append}
 use Rattle.identifiers.specs.Names.{Name, among, distinct, numberOf}
 
 -- The number of an identifier ---------------------------------------------------------------------------------------

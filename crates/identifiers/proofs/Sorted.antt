@@ -1,20 +1,5 @@
 -- Laws of the order of entries, and that identifiers whose places are in ascending order differ.
-use mathlib.Core.Bool.{Bool, true, false, or-false}
-use mathlib.Core.List.{List, [], _∷_}
-use mathlib.Core.Path.{_≡_, refl, sym, ap, _∙_}
-use mathlib.Core.Logic.{⊎-elim}
-use Prim.Native.Nat.{ℕ, zero, suc, _+_, _-_, _<_, _≤_}
-use native.Mathlib.Nat.{eq-or-lt-of-le}
-use native.Mathlib.Omega.{arith}
-use lib.Dec.{ltb, leb, eqb}
-use lib.ListN.{length, getD, take, drop, set, replicate, length-append, length-drop, List·getD-append}
-use lib.Seq.{drop-cons, drop-at, getD-take, getD-drop, length-take-le, take-all, ext-getD}
-use borrow.Author.Tests.{leb-true, ltb-true, ltb-false, lt-ltb, le-ltb, eqb-true, eq-eqb, ne-eqb}
-use Rattle.lists.specs.Lists.{any, same}
-use Rattle.lists.proofs.Bools.{by-test, and-left, and-right}
-use Rattle.lists.proofs.Runs.{never}
-use Rattle.lists.proofs.Same.{same-true}
-use Rattle.lists.proofs.Tests.{every-at}
+use Rattle.lists.proofs.Prelude.{Bool, true, false, or-false, List, [], _∷_, _≡_, refl, sym, ap, _∙_, ⊎-elim, ℕ, zero, suc, _+_, _-_, _<_, _≤_, eq-or-lt-of-le, arith, ltb, leb, eqb, length, getD, take, drop, set, replicate, length-append, length-drop, List·getD-append, drop-cons, drop-at, getD-take, getD-drop, length-take-le, take-all, ext-getD, leb-true, ltb-true, ltb-false, lt-ltb, le-ltb, eqb-true, eq-eqb, ne-eqb, any, same, by-test, and-left, and-right, never, same-true, every-at}
 use Rattle.words.specs.Words.{words, Below}
 use Rattle.words.proofs.Views.{length-words}
 use Rattle.identifiers.specs.Names.{Name, distinct}

@@ -10,7 +10,7 @@ use Rattle.lists.specs.Lists.{keep, any, empty, same}
 abbrev pub Name : Type 0
 Name = List ℕ
 
--- refusal 4: an identifier is empty or longer than 64
+-- refusal 4: no bytes, or more than 64
 unfoldable pub badLength : Name → Bool
 badLength n = empty n || ltb 64 (length n)
 

@@ -1,16 +1,5 @@
 -- Which places hold numbers below 65,536, and the test of all of them.
-use mathlib.Core.Bool.{Bool, true, false}
-use mathlib.Core.List.{List}
-use mathlib.Core.Path.{_≡_, _∙_}
-use Prim.Native.Nat.{ℕ, suc, _+_, _-_, _*_, _%_, _<_, _≤_}
-use native.Mathlib.Omega.{arith}
-use lib.Dec.{eqb, ltb}
-use lib.ListN.{length, getD}
-use borrow.Author.Tests.{ltb-true, eqb-true, lt-ltb, le-ltb, le-leb, lt-leb, eq-eqb, ne-eqb}
-use Rattle.lists.specs.Lists.{every, rising, upTo}
-use Rattle.lists.proofs.Bools.{and-left, and-right}
-use Rattle.lists.proofs.Ranges.{elem-rising}
-use Rattle.lists.proofs.Sets.{every-elem}
+use Rattle.lists.proofs.Prelude.{Bool, true, false, _&&_, _||_, and-true, and-assoc, List, _≡_, sym, _∙_, ℕ, suc, _+_, _-_, _*_, _%_, _<_, _≤_, arith, eqb, ltb, leb, length, getD, ltb-true, leb-true, eqb-true, eqb-false, lt-ltb, le-ltb, le-leb, lt-leb, eq-eqb, ne-eqb, every, rising, upTo, by-test, and-left, and-right, elem-rising, every-elem}
 use Rattle.words.specs.Words.{words}
 use Rattle.words.proofs.Views.{length-words}
 use Rattle.images.specs.Images.{wide, fits, imageRule}
@@ -37,14 +26,6 @@ image-below b h i l n = fits-below (words b) i (image-fits b h i l) n
 
 -- Places -----------------------------------------------------------------------------------------------------------
 
--- the two lengths are wide
-pub wide-front : (i : ℕ) → i < 2 → wide i ≡ true
-wide-front i a = rw (lt-ltb i 2 a)
-
--- and so are the output's length and the steps
-pub wide-back : (i : ℕ) → 612 ≤ i → wide i ≡ true
-wide-back i a = rw (le-ltb i 2 (omega arith), le-leb 612 i a)
-
 -- among the finished partitions each third number is
 pub wide-among : (i : ℕ) → 457 ≤ i → i < 610 → wide i ≡ eqb ((i - 457) % 3) 2
 wide-among i a b = rw (le-ltb i 2 (omega arith), lt-leb 612 i (omega arith), le-leb 457 i a, lt-ltb i 610 b)
@@ -53,10 +34,6 @@ wide-among i a b = rw (le-ltb i 2 (omega arith), lt-leb 612 i (omega arith), le-
 pub narrow-front : (i : ℕ) → 2 ≤ i → i < 457 → wide i ≡ false
 narrow-front i a b = rw (le-ltb i 2 (omega arith), lt-leb 612 i (omega arith), lt-leb 457 i (omega arith))
 
--- after them the block last taken and the first output block
-pub narrow-back : (i : ℕ) → 610 ≤ i → i < 612 → wide i ≡ false
-narrow-back i a b = rw (le-ltb i 2 (omega arith), lt-leb 612 i (omega arith), le-leb 457 i (omega arith), le-ltb i 610 (omega arith))
-
 -- of each partition's record the first two
 pub narrow-first : (i : ℕ) → i < 51 → wide (457 + 3 * i) ≡ false
 narrow-first i a = wide-among (457 + 3 * i) (omega arith) (omega arith) ∙ ne-eqb ((457 + 3 * i - 457) % 3) 2 (λ e. omega arith)
@@ -64,27 +41,30 @@ narrow-first i a = wide-among (457 + 3 * i) (omega arith) (omega arith) ∙ ne-e
 pub narrow-level : (i : ℕ) → i < 51 → wide (458 + 3 * i) ≡ false
 narrow-level i a = wide-among (458 + 3 * i) (omega arith) (omega arith) ∙ ne-eqb ((458 + 3 * i - 457) % 3) 2 (λ e. omega arith)
 
+-- that each third is, counted from 0
+pub wide-thirds : (i : ℕ) → wide i ≡ (ltb i 2 || (leb 612 i || (leb 457 i && (ltb i 610 && eqb (i % 3) 0))))
+wide-thirds i =
+    by-test (leb 457 i)
+    (λ y. let h = leb-true 457 i y in
+    by-test (eqb (i % 3) 0)
+    (λ t. let k = eqb-true (i % 3) 0 t in rw (y, t, eq-eqb ((i - 457) % 3) 2 (omega arith)))
+    (λ f. let k = eqb-false (i % 3) 0 f in rw (y, f, ne-eqb ((i - 457) % 3) 2 (λ e. k (omega arith)))))
+    (λ n. rw n)
+
 -- The loop ---------------------------------------------------------------------------------------------------------
 
 -- one place more is tested
-pub fits-turn : (t : ℕ → Bool) (i : ℕ) → i < 614 → t i ≡ true → every t (rising i (614 - i)) ≡ every t (rising (i + 1) (614 - (i + 1)))
+pub fits-turn : (t : ℕ → Bool) (ok : Bool) (i : ℕ) → i < 614 → (ok && every t (rising i (614 - i))) ≡ ((ok && t i) && every t (rising (i + 1) (614 - (i + 1))))
 unfolding rising
-fits-turn t i l h =
+fits-turn t ok i l =
     let e : 614 - i ≡ suc (614 - (i + 1)) = omega arith in
     let f : suc i ≡ i + 1 = omega arith in
-    rw (e, h, f)
-
--- a place that fails
-pub fits-not : (t : ℕ → Bool) (i : ℕ) → i < 614 → t i ≡ false → every t (rising i (614 - i)) ≡ false
-unfolding rising
-fits-not t i l h =
-    let e : 614 - i ≡ suc (614 - (i + 1)) = omega arith in
-    rw (e, h)
+    rw (e, f) (sym (and-assoc ok (t i) (every t (rising (i + 1) (614 - (i + 1))))))
 
 -- none is left
-pub fits-end : (t : ℕ → Bool) (i : ℕ) → 614 ≤ i → every t (rising i (614 - i)) ≡ true
+pub fits-end : (t : ℕ → Bool) (ok : Bool) (i : ℕ) → 614 ≤ i → (ok && every t (rising i (614 - i))) ≡ ok
 unfolding rising
-fits-end t i l = let e : 614 - i ≡ 0 = omega arith in rw e
+fits-end t ok i l = let e : 614 - i ≡ 0 = omega arith in rw e (and-true ok)
 
 -- bytes of the right length are an image where all places fit
 pub image-whole : (b : List ℕ) → length b ≡ 2456 → imageRule b ≡ every (fits (words b)) (upTo 614)

@@ -1,18 +1,7 @@
 -- Reading an image and writing a state are each other's inverse.
-use mathlib.Core.Bool.{true}
-use mathlib.Core.List.{List, [], _∷_, _++_, map, map-id, append-assoc}
-use mathlib.Core.Path.{_≡_, refl, sym, ap, _∙_}
-use Prim.Native.Nat.{ℕ, zero, suc, _+_, _-_, _*_, _/_, _%_, _<_, _≤_}
-use native.Mathlib.Omega.{arith}
-use lib.Dec.{ltb}
-use lib.ListN.{length, getD, length-append, length-map, List·getD-append}
-use lib.Seq.{getD-append-add, ext-getD}
+use Rattle.lists.proofs.Prelude.{true, List, [], _∷_, _++_, map, map-id, append-assoc, _≡_, refl, sym, ap, _∙_, ℕ, zero, suc, _+_, _-_, _*_, _/_, _%_, _<_, _≤_, arith, ltb, length, getD, length-append, length-map, List·getD-append, getD-append-add, ext-getD, ltb-true, ltb-false, joined, upTo, by-test, length-rising, upTo-at, map-upTo, joined-at, length-joined}
 use mir.Syntax.{w16}
 use mir.Val.{SFits}
-use borrow.Author.Tests.{ltb-true, ltb-false}
-use Rattle.lists.specs.Lists.{joined, upTo}
-use Rattle.lists.proofs.Bools.{by-test}
-use Rattle.lists.proofs.Ranges.{length-rising, upTo-at, map-upTo, joined-at, length-joined}
 use Rattle.postings.specs.declared.Posting.{Posting}
 use Rattle.state.specs.declared.Partition.{Partition}
 use Rattle.state.specs.declared.State.{State}

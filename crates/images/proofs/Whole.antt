@@ -1,11 +1,5 @@
 -- The parts of an image written one after another are the whole image.
-use mathlib.Core.List.{List, _++_, append-nil}
-use mathlib.Core.Path.{_≡_, refl, sym, ap, _∙_}
-use Prim.Native.Nat.{ℕ, _+_}
-use native.Mathlib.Omega.{arith}
-use lib.ListN.{length, length-append, drop-of-length-le}
-use lib.Seq.{sets, sets-eq}
-use Rattle.lists.proofs.Ranges.{length-joined}
+use Rattle.lists.proofs.Prelude.{List, _++_, append-nil, _≡_, refl, sym, ap, _∙_, ℕ, _+_, arith, length, length-append, drop-of-length-le, sets, sets-eq, length-joined}
 use Rattle.lists.proofs.Stores.{sets-append}
 use Rattle.state.specs.declared.State.{State}
 use Rattle.images.specs.Images.{postingWords, recordWords, numberWords, listedWords, bufferWords, partitionsWords, lastWords, imageOf}

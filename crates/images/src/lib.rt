@@ -9,43 +9,19 @@ use state::Partitions;
 use state::State;
 use state::Windows;
 ghost use mathlib.Core.Bool.{true, false};
-ghost use mathlib.Core.List.{map};
+ghost use mathlib.Core.List.{[], _∷_};
 ghost use mathlib.Core.Path.{_≡_};
 ghost use Prim.Native.Nat.{_+_, _*_, _≤_, _<_};
 ghost use lib.ListN.{length, getD};
 ghost use lib.Seq.{sets};
-ghost use Rattle.lists.specs.Lists.{joined, upTo};
 ghost use Rattle.words.specs.Words.{words as wordsOf, bytes};
-ghost use Rattle.images.specs.Images.{raised, lowered, postingWords, recordWords, numberWords, listedWords, bufferWords, partitionsWords, lastWords, imageOf, listedIn, postingIn, bufferIn, recordIn, partitionsIn, lengthsIn, windowsIn, mergeIn, stateIn, wide, fits, imageRule};
+ghost use Rattle.images.specs.Images.{raised, lowered, numberWords, listedWords, bufferWords, partitionsWords, lastWords, imageOf, listedIn, postingIn, bufferIn, recordIn, partitionsIn, lengthsIn, windowsIn, mergeIn, stateIn, wide, imageRule};
 
-// Whether a place holds a number that may need all 32 bits.
+// Whether a place holds a number that may need all 32 bits. Those of the partitions stand at every third place, 459 being the first.
 fn is_wide(at: usize) -> bool
     ensures { λ r. ⌜ r ≡ wide at ⌝ }
 {
-    if at < 2 {
-        return true;
-    }
-    if at >= 612 {
-        return true;
-    }
-    if at < 457 {
-        return false;
-    }
-    if at >= 610 {
-        return false;
-    }
-    (at - 457) % 3 == 2
-}
-
-// Whether the number in a place fits it.
-fn fits_place(image: &[u8], at: usize) -> bool
-    requires { ⌜ at < length (wordsOf (now image)) ⌝ }
-    ensures { λ r. ⌜ r ≡ fits (wordsOf (now (image .entry))) at ⌝ }
-{
-    if is_wide(at) {
-        return true;
-    }
-    words::word_at(image, at) < 65536
+    (at < 2) | ((at >= 612) | ((at >= 457) & ((at < 610) & (at % 3 == 0))))
 }
 
 // Whether these bytes are the image of a state, whatever rules that breaks.
@@ -55,14 +31,13 @@ pub fn image_ok(image: &[u8]) -> bool
     if image.len() != 2456 {
         return false;
     }
+    let mut ok = true;
     let mut at: usize = 0;
     while at < 614 {
-        if !fits_place(image, at) {
-            return false;
-        }
+        ok = ok & (is_wide(at) | (words::word_at(image, at) < 65536));
         at += 1;
     }
-    true
+    ok
 }
 
 // A number that is below 65,536.
@@ -95,21 +70,14 @@ fn read_listed(image: &[u8]) -> Listed
 fn lower(x: u16) -> i16
     ensures { λ r. ⌜ r ≡ lowered x ⌝ }
 {
-    if x >= 32768 {
-        return (x - 32768) as i16;
-    }
-    0 - ((32767 - x) as i16) - 1
+    (x as i32 - 32768) as i16
 }
 
 // A signed count raised by 32,768.
 fn raise(count: i16) -> u16
     ensures { λ r. ⌜ r ≡ raised count ⌝ }
 {
-    if count < 0 {
-        32767 - ((0 - (count + 1)) as u16)
-    } else {
-        32768 + count as u16
-    }
+    (count as i32 + 32768) as u16
 }
 
 // A buffered posting.
@@ -258,16 +226,14 @@ pub fn read_state(image: &[u8]) -> State
     }
 }
 
-// Words into the image, one after another from word `at` on.
-fn put_words(image: &mut [u8], at: usize, numbers: &[u32])
-    requires { ⌜ (length (now image) ≡ 2456) × (at + length (now numbers) ≤ 614) ⌝ }
-    ensures { λ r. ⌜ wordsOf (now (image .exit)) ≡ sets (wordsOf (now (image .entry))) at (now (numbers .entry)) ⌝ }
+// Three words into the image from word `at` on.
+fn put_three(image: &mut [u8], at: usize, a: u32, b: u32, c: u32)
+    requires { ⌜ (length (now image) ≡ 2456) × (at + 3 ≤ 614) ⌝ }
+    ensures { λ r. ⌜ wordsOf (now (image .exit)) ≡ sets (wordsOf (now (image .entry))) at (a ∷ b ∷ c ∷ []) ⌝ }
 {
-    let mut i: usize = 0;
-    while i < numbers.len() {
-        words::put_word(image, at + i, numbers[i]);
-        i += 1;
-    }
+    words::put_word(image, at, a);
+    words::put_word(image, at + 1, b);
+    words::put_word(image, at + 2, c);
 }
 
 // The open window's identifiers.
@@ -292,9 +258,13 @@ fn put_buffer(image: &mut [u8], b: Buffer)
     let mut i: usize = 0;
     while i < 128 {
         let p = b.postings[i];
-        let count = raise(p.count);
-        let numbers = [p.id as u32, p.window as u32, count as u32];
-        put_words(image, 72 + 3 * i, &numbers);
+        put_three(
+            image,
+            72 + 3 * i,
+            p.id as u32,
+            p.window as u32,
+            raise(p.count) as u32,
+        );
         i += 1;
     }
 }
@@ -308,8 +278,7 @@ fn put_partitions(image: &mut [u8], ps: Partitions)
     let mut i: usize = 0;
     while i < 51 {
         let p = ps.records[i];
-        let numbers = [p.first as u32, p.level as u32, p.length];
-        put_words(image, 457 + 3 * i, &numbers);
+        put_three(image, 457 + 3 * i, p.first as u32, p.level as u32, p.length);
         i += 1;
     }
 }
@@ -319,15 +288,8 @@ fn put_numbers(image: &mut [u8], l: Lengths, w: Windows)
     requires { ⌜ length (now image) ≡ 2456 ⌝ }
     ensures { λ r. ⌜ wordsOf (now (image .exit)) ≡ sets (wordsOf (now (image .entry))) 0 (numberWords l w) ⌝ }
 {
-    let numbers = [
-        l.card,
-        l.register,
-        w.last as u32,
-        w.live as u32,
-        w.current as u32,
-        w.events as u32,
-    ];
-    put_words(image, 0, &numbers);
+    put_three(image, 0, l.card, l.register, w.last as u32);
+    put_three(image, 3, w.live as u32, w.current as u32, w.events as u32);
 }
 
 // The block last taken and the merge in progress.
@@ -335,8 +297,8 @@ fn put_last(image: &mut [u8], taken: u16, m: MergeJob)
     requires { ⌜ length (now image) ≡ 2456 ⌝ }
     ensures { λ r. ⌜ wordsOf (now (image .exit)) ≡ sets (wordsOf (now (image .entry))) 610 (lastWords taken m) ⌝ }
 {
-    let numbers = [taken as u32, m.first as u32, m.length, m.steps];
-    put_words(image, 610, &numbers);
+    put_three(image, 610, taken as u32, m.first as u32, m.length);
+    words::put_word(image, 613, m.steps);
 }
 
 // The image of a state.

@@ -1,15 +1,5 @@
 -- Pairs taken one by one: what is kept of them, and how the output is compared with them.
-use mathlib.Core.Bool.{Bool, true, false, _&&_, and-assoc}
-use mathlib.Core.List.{List, [], _∷_, _++_, map, map-append, append-assoc, append-nil}
-use mathlib.Core.Path.{_≡_, refl, sym, ap, _∙_}
-use Prim.Native.Nat.{ℕ, zero, suc, _+_, _-_, _<_, _≤_}
-use native.Mathlib.Omega.{arith}
-use lib.Dec.{eqb}
-use lib.ListN.{length, take, drop, length-append, length-drop}
-use lib.Seq.{drop-drop}
-use Rattle.lists.specs.Lists.{same}
-use Rattle.lists.proofs.Bools.{by-test}
-use Rattle.lists.proofs.Tests.{keep-append}
+use Rattle.lists.proofs.Prelude.{Bool, true, false, _&&_, and-assoc, List, [], _∷_, _++_, map, map-append, append-assoc, append-nil, _≡_, refl, sym, ap, _∙_, ℕ, zero, suc, _+_, _-_, _<_, _≤_, arith, eqb, length, take, drop, length-append, length-drop, drop-drop, same, by-test, keep-append}
 use Rattle.postings.specs.declared.Posting.{Posting}
 use Rattle.postings.specs.Merge.{isCounted, nonzero}
 use Rattle.partitions.specs.Layout.{wordOf}

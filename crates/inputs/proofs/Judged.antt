@@ -1,14 +1,5 @@
 -- The walk over opened heads tells what is told of the inputs.
-use mathlib.Core.Bool.{true, cond}
-use mathlib.Core.List.{List, map}
-use mathlib.Core.Path.{_≡_, sym, ap, _∙_}
-use Prim.Native.Nat.{ℕ}
-use lib.Dec.{leb}
-use Rattle.lists.specs.All.{AllOf}
-use Rattle.lists.specs.Lists.{every, joined}
-use Rattle.lists.proofs.Bools.{by-test, and-left, and-right}
-use Rattle.lists.proofs.Tests.{every-from}
-use Rattle.lists.proofs.Ranges.{every-map}
+use Rattle.lists.proofs.Prelude.{true, cond, List, map, _≡_, sym, ap, _∙_, ℕ, leb, AllOf, every, joined, by-test, and-left, and-right, every-from, every-map}
 use Rattle.keyed.specs.Keys.{allFall}
 use Rattle.words.specs.Words.{Below}
 use Rattle.postings.specs.declared.Posting.{Posting}

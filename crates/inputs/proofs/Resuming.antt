@@ -1,11 +1,5 @@
 -- The walk that judges the inputs: how what is told goes on from key to key.
-use mathlib.Core.Bool.{true, false}
-use mathlib.Core.List.{List, map}
-use mathlib.Core.Path.{_≡_, sym, ap, _∙_}
-use Prim.Native.Nat.{ℕ, suc, _<_, _≤_}
-use native.Mathlib.Omega.{arith}
-use Rattle.lists.proofs.Bools.{by-test, and-right}
-use Rattle.lists.proofs.Runs.{never}
+use Rattle.lists.proofs.Prelude.{true, false, List, map, _≡_, sym, ap, _∙_, ℕ, suc, _<_, _≤_, arith, by-test, and-right, never}
 use Rattle.keyed.specs.Keys.{Item, allFall, topFrom, rest, headVals, headsFine}
 use Rattle.keyed.proofs.Walk.{under-top, top-falls, spent-falls, under, step-falls, pairs-none, pairs-step}
 use Rattle.partitions.specs.Formed.{inRange}

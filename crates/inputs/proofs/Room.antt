@@ -1,20 +1,5 @@
 -- Totals fit: under each identifier there are at most 65,535 windows.
-use mathlib.Core.Bool.{Bool, true, false, not, cond}
-use mathlib.Core.List.{List, [], _∷_, map}
-use mathlib.Core.Logic.{_⊎_, inl, inr, ⊎-elim}
-use mathlib.Core.Path.{_≡_, refl, sym, _∙_}
-use Prim.Native.Nat.{ℕ, zero, suc, _+_, _<_, _≤_}
-use native.Mathlib.Numerals.{add-one}
-use native.Mathlib.Omega.{arith}
-use lib.Dec.{eqb, leb, ltb}
-use lib.IntN.{ℤ}
-use lib.ListN.{length, getD, set, replicate, length-set}
-use lib.Seq.{getD-set-same, getD-set-other}
-use borrow.Author.Tests.{leb-true, le-ltb, eqb-true, eqb-false, eq-eqb, ne-eqb}
-use Rattle.lists.specs.All.{AllOf}
-use Rattle.lists.specs.Lists.{keep, every}
-use Rattle.lists.proofs.Bools.{by-test, and-left, and-right}
-use Rattle.lists.proofs.Tests.{length-keep}
+use Rattle.lists.proofs.Prelude.{Bool, true, false, not, cond, List, [], _∷_, map, _⊎_, inl, inr, ⊎-elim, _≡_, refl, sym, _∙_, ℕ, zero, suc, _+_, _<_, _≤_, add-one, arith, eqb, leb, ltb, ℤ, length, getD, set, replicate, length-set, getD-set-same, getD-set-other, leb-true, le-ltb, eqb-true, eqb-false, eq-eqb, ne-eqb, AllOf, keep, every, by-test, and-left, and-right, length-keep}
 use Rattle.keyed.specs.Keys.{topFrom, larger, headFine, headsFine}
 use Rattle.words.specs.Words.{Below}
 use Rattle.postings.specs.declared.Posting.{Posting}

@@ -1,21 +1,10 @@
 -- The next pair at the heads of well formed inputs.
-use mathlib.Core.Bool.{true}
-use mathlib.Core.List.{List, [], _∷_, map}
-use mathlib.Core.Path.{_≡_, refl, sym, ap, _∙_}
-use Prim.Native.Nat.{ℕ, suc, _<_, _≤_}
-use native.Mathlib.Omega.{arith}
-use lib.Dec.{ltb}
-use lib.IntN.{natAbs}
-use borrow.Author.Tests.{leb-true, ltb-true, lt-ltb}
-use Rattle.lists.specs.All.{AllOf}
-use Rattle.lists.specs.Lists.{every}
-use Rattle.lists.proofs.Bools.{and-left, and-right, and-both}
+use Rattle.lists.proofs.Prelude.{true, List, [], _∷_, map, _≡_, refl, sym, ap, _∙_, ℕ, suc, _<_, _≤_, arith, ltb, natAbs, leb-true, ltb-true, lt-ltb, AllOf, every, and-left, and-right, and-both}
 use Rattle.keyed.specs.Keys.{Item, falls, allFall, keyPairs as keyedPairs, topFrom, rest, headVals, headsFine}
 use Rattle.keyed.proofs.Walk.{under-top, top-falls, under, step-falls, pairs-none, pairs-step}
 use Rattle.keyed.proofs.Collected.{pairs-collect}
 use Rattle.words.specs.Words.{Below}
 use Rattle.postings.specs.declared.Posting.{Posting}
-use Rattle.postings.specs.Merge.{pairs}
 use Rattle.partitions.specs.Formed.{listRule, inRange}
 use Rattle.kway.specs.Parts.{parts}
 use Rattle.scans.specs.Keys.{postingOf}

@@ -1,14 +1,5 @@
 -- Totals pair by pair are the totals of all pairs.
-use mathlib.Core.Bool.{true, cond}
-use mathlib.Core.List.{List, [], _∷_, _++_, append-nil, append-assoc}
-use mathlib.Core.Path.{_≡_, sym, ap, _∙_}
-use Prim.Native.Nat.{_≤_}
-use lib.Dec.{leb}
-use lib.ListN.{length-append}
-use borrow.Author.Tests.{leb-true}
-use Rattle.lists.specs.Lists.{every}
-use Rattle.lists.proofs.Bools.{by-test, and-left, and-right}
-use Rattle.lists.proofs.Tests.{keep-append}
+use Rattle.lists.proofs.Prelude.{true, cond, List, [], _∷_, _++_, append-nil, append-assoc, _≡_, sym, ap, _∙_, _≤_, leb, length-append, leb-true, every, by-test, and-left, and-right, keep-append}
 use Rattle.postings.specs.declared.Posting.{Posting}
 use Rattle.postings.specs.Merge.{isZero, isCounted, nonzero}
 use Rattle.partitions.proofs.Counts.{numbers-more, numbers-none, terms-more}

@@ -1,11 +1,5 @@
 -- What heads have still to come: items by key, each with a key of its own.
-use mathlib.Core.Bool.{true}
-use mathlib.Core.List.{List, [], _∷_, map}
-use mathlib.Core.Path.{_≡_, refl, ap}
-use Prim.Native.Nat.{ℕ}
-use Rattle.lists.specs.Lists.{every}
-use Rattle.lists.specs.All.{AllOf}
-use Rattle.lists.proofs.Bools.{and-both}
+use Rattle.lists.proofs.Prelude.{true, List, [], _∷_, map, _≡_, refl, ap, ℕ, every, AllOf, and-both}
 use Rattle.keyed.specs.Keys.{Item}
 use Rattle.words.specs.Words.{Below}
 use Rattle.kway.specs.Parts.{parts}

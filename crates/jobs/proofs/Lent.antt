@@ -1,9 +1,5 @@
 -- The step that is lent the record of the merge beside the state.
-use mathlib.Core.Bool.{true, false}
-use mathlib.Core.Path.{_≡_, refl, sym, ap, subst}
-use lib.Dec.{eqb}
-use borrow.Author.Tests.{eqb-true, eq-eqb}
-use Rattle.lists.proofs.Bools.{and-left, and-right, by-test}
+use Rattle.lists.proofs.Prelude.{true, false, _≡_, refl, sym, ap, subst, eqb, eqb-true, eq-eqb, and-left, and-right, by-test}
 use Rattle.answers.specs.Answers.{Answer, Outcome, refuse, leave, refuseIf, carry}
 use Rattle.answers.specs.Unchanged.{Unchanged}
 use Rattle.answers.proofs.Kept.{unchanged-carry}
@@ -66,7 +62,3 @@ module _ {a : Answer} (p : Store) where
       → Gives (record { store = p; job = job }) (lentStepOf (record { store = p; job = job })) a (withOwn after)
   gives-lent job after e g =
       subst (λ (l : Lent). Gives l (lentStepOf l) a (withOwn after)) (own-record (record { store = p; job = job }) e) (rw (lent-own p) (carried after (stepOf p) g))
-
-  -- and the other way
-  pub gives-own : (after : Lent) → Gives (withOwn p) (lentStepOf (withOwn p)) a after → Gives p (stepOf p) a (after .store)
-  gives-own after g = back after (stepOf p) (rw (lent-own p) at g)

@@ -1,15 +1,7 @@
 -- The pairs by a test of every key are the pairs by insertion.
-use mathlib.Core.Bool.{Bool, true, false, cond, _||_, or-assoc}
-use mathlib.Core.List.{List, [], _∷_}
-use mathlib.Core.Path.{_≡_, refl, sym, ap, _∙_}
-use Prim.Native.Nat.{ℕ, zero, suc, _<_, _≤_}
-use native.Mathlib.Omega.{arith}
-use lib.Dec.{ltb, eqb}
-use lib.IntN.{ℤ, pos, _+ℤ_, +ℤ-idl, +ℤ-idr, +ℤ-assoc}
-use borrow.Author.Tests.{ltb-true, ltb-false, eqb-true, eqb-false, eq-eqb, ne-eqb}
+use Rattle.lists.proofs.Prelude.{Bool, true, false, cond, _||_, or-assoc, List, [], _∷_, _≡_, refl, sym, ap, _∙_, ℕ, zero, suc, _<_, _≤_, arith, ltb, eqb, ℤ, pos, _+ℤ_, +ℤ-idl, +ℤ-idr, +ℤ-assoc, ltb-true, ltb-false, eqb-true, eqb-false, eq-eqb, ne-eqb, by-test, and-left, and-right, or-none, or-swap}
 use Rattle.keyed.specs.Keys.{Item, falls, allFall, sumOf, sums, heldIn, held, overKeys, Pair, addPair, keyPairs}
 use Rattle.keyed.specs.Collect.{putItem, putAll, collect}
-use Rattle.lists.proofs.Bools.{by-test, and-left, and-right, or-none, or-swap}
 use Rattle.lists.proofs.Ints.{sum-swap}
 use Rattle.keyed.proofs.Walk.{over-same, over-none, over-step}
 
@@ -144,6 +136,3 @@ module _ {A : Type 0} (f : ℕ → ℤ → A → A) (a : A) (still : (k : ℕ) (
   over-pairs zero ls = refl
   over-pairs (suc m) ls =
       by-test (held m ls) (λ e. rw (e, over-pairs m ls)) (λ e. rw (unheld-all m ls e, e, still) (over-pairs m ls))
-
-  pub over-collect : (m : ℕ) (ls : List (List Item)) → allFall m ls ≡ true → overKeys f a m (λ k. sums k ls) ≡ overPairs f a (collect ls)
-  over-collect m ls e = over-pairs m ls ∙ ap (overPairs f a) (pairs-collect m ls e)

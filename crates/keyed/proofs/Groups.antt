@@ -1,12 +1,5 @@
 -- A joint walk over several groups of lists, as the lists of a query's identifiers: each group has its own sum of a key.
-use mathlib.Core.Bool.{Bool, true, false, cond, _&&_, and-false}
-use mathlib.Core.List.{List, [], _∷_, map}
-use mathlib.Core.Path.{_≡_, refl, sym, _∙_}
-use Prim.Native.Nat.{ℕ, suc, _<_, _≤_, zero-le}
-use native.Mathlib.Omega.{arith}
-use lib.IntN.{ℤ, pos}
-use Rattle.lists.specs.All.{AllOf}
-use Rattle.lists.proofs.Bools.{by-test, and-left, and-right, and-both, and-swap}
+use Rattle.lists.proofs.Prelude.{Bool, true, false, cond, _&&_, and-false, List, [], _∷_, map, _≡_, refl, sym, _∙_, ℕ, suc, _<_, _≤_, zero-le, arith, ℤ, pos, AllOf, by-test, and-left, and-right, and-both, and-swap}
 use Rattle.keyed.specs.Keys.{rest, sums, allFall, overKeys, larger, topFrom, headVals, headsFine}
 use Rattle.keyed.specs.Groups.{Group, topAll, allFallAll, moveAll, headsFineAll}
 use Rattle.keyed.proofs.Walk.{Under, none, more, under-top, larger-left, larger-right, larger-under, top-falls, spent-falls, spent-sums, Stepped, stepped, step-falls, over-none, over-step}

@@ -1,15 +1,5 @@
 -- The walk by falling key computes the definition: the laws of one step.
-use mathlib.Core.Bool.{true, false, _&&_, _||_}
-use mathlib.Core.List.{List, [], _∷_, map}
-use mathlib.Core.Logic.{_⊎_, inl, inr, ⊎-elim}
-use mathlib.Core.Path.{_≡_, refl, sym, ap, _∙_}
-use Prim.Native.Nat.{ℕ, zero, suc, _+_, _<_, _≤_, zero-le}
-use native.Mathlib.Nat.{eq-or-lt-of-le}
-use native.Mathlib.Omega.{arith}
-use lib.Dec.{ltb, eqb}
-use lib.IntN.{ℤ, pos, _+ℤ_, +ℤ-idl, +ℤ-idr, +ℤ-assoc, +ℤ-comm}
-use borrow.Author.Tests.{ltb-true, ltb-false, eqb-true, eqb-false, lt-ltb, eq-eqb, ne-eqb}
-use Rattle.lists.proofs.Bools.{by-test, and-left, and-right, and-swap, or-right}
+use Rattle.lists.proofs.Prelude.{true, false, _&&_, _||_, List, [], _∷_, map, _⊎_, inl, inr, ⊎-elim, _≡_, refl, sym, ap, _∙_, ℕ, zero, suc, _+_, _<_, _≤_, zero-le, eq-or-lt-of-le, arith, ltb, eqb, ℤ, pos, _+ℤ_, +ℤ-idl, +ℤ-idr, +ℤ-assoc, +ℤ-comm, ltb-true, ltb-false, eqb-true, eqb-false, lt-ltb, eq-eqb, ne-eqb, by-test, and-left, and-right, and-swap, or-right}
 use Rattle.keyed.specs.Keys.{Item, falls, allFall, sumOf, sums, heldIn, held, overKeys, addPair, keyPairs, reach, larger, topFrom, rest, headVal, headFine, headVals, headsFine}
 
 sum-swap : (a b c d : ℤ) → (a +ℤ b) +ℤ (c +ℤ d) ≡ (a +ℤ c) +ℤ (b +ℤ d)
@@ -221,16 +211,6 @@ module _ {B A : Type 0} (f : ℕ → B → A → A) (a : A) where
       → overKeys f a m S ≡ f k v (overKeys f a k S′)
   unfolding overKeys
   over-step k m h S S′ v n e below = over-skip k m h S n ∙ rw (e, over-same k S S′ below)
-
--- where f passes over a sum of 0: one group
-module _ {A : Type 0} (f : ℕ → ℤ → A → A) (a : A) (still : (k : ℕ) (r : A) → f k (pos 0) r ≡ r) where
-  pub spent-over : (m : ℕ) (ls : List (List Item)) → Under 0 ls → overKeys f a m (λ j. sums j ls) ≡ a
-  spent-over m ls u = over-none f a m (λ j. sums j ls) (λ j r. rw (spent-sums j ls u) (still j r))
-
-  pub step-over : (m k : ℕ) (ls : List (List Item)) → k < m → Stepped k ls
-      → overKeys f a m (λ j. sums j ls) ≡ f k (headVals k ls) (overKeys f a k (λ j. sums j (map (rest k) ls)))
-  step-over m k ls low s =
-      over-step f a k m low (λ j. sums j ls) (λ j. sums j (map (rest k) ls)) (headVals k ls) (λ j r h. rw (s .over j h) (still j r)) (s .here) (s .below)
 
 -- ---- the pairs of a merge
 

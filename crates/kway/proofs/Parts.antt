@@ -1,15 +1,6 @@
 -- A part put back into an array: it stands in its place, and the others are as they were.
-use mathlib.Core.List.{List, [], _∷_, _++_, map}
-use mathlib.Core.Logic.{⊎-elim}
-use mathlib.Core.Path.{_≡_, refl, sym, ap, _∙_}
-use Prim.Native.Nat.{ℕ, zero, suc, _+_, _-_, _*_, _<_, _≤_}
-use native.Mathlib.Nat.{eq-or-lt-of-le, mul-suc, mul-le-mul-left}
-use native.Mathlib.Numerals.{add-one}
-use native.Mathlib.Omega.{arith}
-use lib.ListN.{length, getD, take, drop, take-append-drop, length-drop}
-use lib.Seq.{length-take-le, take-at, drop-at, take-append-le, drop-append-le, drop-drop, take-suc}
+use Rattle.lists.proofs.Prelude.{List, [], _∷_, _++_, map, ⊎-elim, _≡_, refl, sym, ap, _∙_, ℕ, zero, suc, _+_, _-_, _*_, _<_, _≤_, eq-or-lt-of-le, mul-suc, mul-le-mul-left, add-one, arith, length, getD, take, drop, take-append-drop, length-drop, length-take-le, take-at, drop-at, take-append-le, drop-append-le, drop-drop, take-suc, AllOf}
 use borrow.Rule.Slice.PartMut.{putMid, same-len-mid, mid-len, drop-put}
-use Rattle.lists.specs.All.{AllOf}
 use Rattle.kway.specs.Parts.{part, parts}
 
 -- the array H with P as its part i

@@ -1,14 +1,5 @@
 -- Sums of 0, and the greatest key of a group of lists beside a group of one.
-use mathlib.Core.Bool.{true}
-use mathlib.Core.List.{List, [], _∷_}
-use mathlib.Core.Path.{_≡_, refl}
-use Prim.Native.Nat.{ℕ}
-use native.Mathlib.Omega.{arith}
-use lib.Dec.{ltb}
-use lib.IntN.{ℤ, pos}
-use borrow.Author.Tests.{ltb-false}
-use Rattle.lists.specs.All.{AllOf}
-use Rattle.lists.proofs.Bools.{by-test}
+use Rattle.lists.proofs.Prelude.{true, List, [], _∷_, _≡_, refl, ℕ, arith, ltb, ℤ, pos, ltb-false, AllOf, by-test}
 use Rattle.keyed.specs.Keys.{Item, reach, larger, topFrom}
 use Rattle.keyed.specs.Groups.{Group, topAll}
 use Rattle.keyed.proofs.Groups as G

@@ -1,12 +1,5 @@
 -- What the rules of the finished partitions give to a merge.
-use mathlib.Core.Bool.{true}
-use mathlib.Core.List.{List, [], _∷_}
-use mathlib.Core.Path.{_≡_}
-use Prim.Native.Nat.{ℕ, _*_, _≤_}
-use lib.ListN.{length}
-use Rattle.lists.specs.Lists.{every}
-use Rattle.lists.specs.All.{AllOf}
-use Rattle.lists.proofs.Bools.{and-left, and-right}
+use Rattle.lists.proofs.Prelude.{true, List, [], _∷_, _≡_, ℕ, _*_, _≤_, length, every, AllOf, and-left, and-right}
 use Rattle.state.specs.declared.Partition.{Partition}
 use Rattle.partitions.specs.Formed.{partitionRule, partitionsFormed}
 use Rattle.partitions.specs.Terms.{Readable}

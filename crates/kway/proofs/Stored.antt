@@ -1,13 +1,5 @@
 -- Words of 32 bits, and whether they hold postings.
-use mathlib.Core.Bool.{Bool, true, not, _&&_}
-use mathlib.Core.List.{List}
-use mathlib.Core.Path.{_≡_, refl, sym, _∙_}
-use Prim.Native.Nat.{ℕ, zero, suc, _/_, _%_, _<_}
-use native.Mathlib.Omega.{arith}
-use lib.Dec.{leb, eqb}
-use borrow.Author.Tests.{le-leb, lt-leb, eqb-true, eqb-false}
-use Rattle.lists.specs.All.{AllOf}
-use Rattle.lists.proofs.Bools.{by-test, and-both}
+use Rattle.lists.proofs.Prelude.{Bool, true, not, _&&_, List, _≡_, refl, sym, _∙_, ℕ, zero, suc, _/_, _%_, _<_, arith, leb, eqb, le-leb, lt-leb, eqb-true, eqb-false, AllOf, by-test, and-both}
 use Rattle.words.specs.Words.{Below}
 use Rattle.postings.specs.declared.Posting.{Posting}
 use Rattle.postings.specs.Merge.{isZero}

@@ -1,14 +1,7 @@
 -- The turns of the loop over heads that are moved in place, whatever a head is: `view` is what it has still to come.
-use mathlib.Core.Bool.{Bool, true, _&&_, and-assoc, and-true}
-use mathlib.Core.List.{List, [], _∷_, _++_, map}
-use mathlib.Core.Path.{_≡_, refl, sym, _∙_}
-use Prim.Native.Nat.{ℕ, _+_, _*_, _≤_}
-use native.Mathlib.Omega.{arith}
-use lib.IntN.{ℤ, pos, negsuc, _+ℤ_, +ℤ-assoc, +ℤ-idl, +ℤ-idr}
+use Rattle.lists.proofs.Prelude.{Bool, true, _&&_, and-assoc, and-true, List, [], _∷_, _++_, map, _≡_, refl, sym, _∙_, ℕ, _+_, _*_, _≤_, arith, ℤ, pos, negsuc, _+ℤ_, +ℤ-assoc, +ℤ-idl, +ℤ-idr, length, ne-eqb}
 use lib.Signed.{ltZ}
 use lib.Signed.{mag}
-use lib.ListN.{length}
-use borrow.Author.Tests.{ne-eqb}
 use Rattle.lists.proofs.Sizes.{mag-sum}
 use Rattle.keyed.specs.Keys.{Item, reach, larger, topFrom, rest, headVal, headFine, headVals, headsFine}
 use Rattle.postings.specs.Sums.{isAbove}
@@ -74,8 +67,3 @@ module _ (view : List ℕ → List Item) (K : List ℕ → Type 0) (w k : ℕ) (
         formed = rw (views-more view w i H₀, fine-more k (map view (parts w i H₀)) (view (part w i H₀)), ← t .formed, eb, was);
         top = rw (now-more view K (rest k) w H₀ i H m fits h long, top-more 0 (map view (parts w i H)) (view h), ← t .top, er);
       }
-
--- one turn of the search for the greatest key
-pub top-turn : (view : List ℕ → List Item) (w : ℕ) (H : List ℕ) (i top r : ℕ) → r ≡ reach (view (part w i H)) → top ≡ topFrom 0 (map view (parts w i H))
-    → larger top r ≡ topFrom 0 (map view (parts w (i + 1) H))
-top-turn view w H i top r a e = rw (views-more view w i H, top-more 0 (map view (parts w i H)) (view (part w i H)), ← e, a)

@@ -13,8 +13,8 @@ pub mod Shifts
 pub mod Places
 pub mod Sizes
 pub mod Sections
-pub mod Filling
 pub mod Stores
 pub mod TopK
 pub mod Built
 pub mod Distinct
+pub mod Prelude

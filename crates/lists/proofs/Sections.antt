@@ -9,11 +9,6 @@ use lib.Seq.{drop-cons, take-add, drop-drop, getD-take, length-take-le}
 use Rattle.lists.specs.Lists.{every}
 use Rattle.lists.proofs.Tests.{every-at}
 
--- what cannot be true is false
-pub untrue : (t : Bool) → (t ≡ true → ⊥) → t ≡ false
-untrue true h = absurd (h refl)
-untrue false h = refl
-
 -- a test that follows from others beside it can go
 pub and-absorb : (a b c d : Bool) → (a ≡ true → c ≡ true → b ≡ true) → ((a && b) && (c && d)) ≡ (a && (c && d))
 and-absorb false b c d h = refl

@@ -1,5 +1,5 @@
 -- Runs of stores into a list, padding, and lists of numbers of which none stands twice.
-use mathlib.Core.Bool.{Bool, true, false, not, true≢false, and-comm, or-comm}
+use mathlib.Core.Bool.{Bool, true, false, not, true≢false, and-comm}
 use mathlib.Core.List.{List, [], _∷_, _++_, append-assoc, append-nil}
 use mathlib.Core.Path.{_≡_, refl, sym, ap, _∙_}
 use Prim.Native.Nat.{ℕ, zero, suc, _+_, _-_, _<_, _≤_}
@@ -145,12 +145,6 @@ module _ {A : Type 0} (k : ℕ) (l : List A) where
   every-turned t =
       every-append t (drop k l) (take k l) ∙ and-comm (every t (drop k l)) (every t (take k l)) ∙ sym (every-append t (take k l) (drop k l))
       ∙ ap (every t) (take-append-drop k l)
-
-  -- some pass as before
-  pub any-turned : (t : A → Bool) → any t (drop k l ++ take k l) ≡ any t l
-  any-turned t =
-      any-append t (drop k l) (take k l) ∙ or-comm (any t (drop k l)) (any t (take k l)) ∙ sym (any-append t (take k l) (drop k l))
-      ∙ ap (any t) (take-append-drop k l)
 
   -- as many are kept
   pub length-keep-turned : (t : A → Bool) → length (keep t (drop k l ++ take k l)) ≡ length (keep t l)

@@ -3,8 +3,8 @@
 use mathlib.Core.Bool.{Bool, true, false, not, _&&_, and-false}
 use mathlib.Core.List.{List, [], _∷_}
 use mathlib.Core.Path.{_≡_, refl, sym, _∙_}
-use Prim.Native.Nat.{ℕ, suc, _+_, _<_, _≤_}
-use lib.ListN.{take, drop, length, getD, drop-of-length-le, length-drop}
+use Prim.Native.Nat.{ℕ, _+_, _<_, _≤_}
+use lib.ListN.{take, drop, length, getD, drop-of-length-le}
 use native.Mathlib.Numerals.{add-one}
 use native.Mathlib.Omega.{arith}
 use lib.Seq.{drop-cons, getD-take, length-take-le}
@@ -19,16 +19,6 @@ passed {r = r} e h = sym e ∙ not-false r h
 
 pub failed : {r t : Bool} → r ≡ t → not r ≡ true → t ≡ false
 failed {r = r} e h = sym e ∙ not-true r h
-
--- a conjunction stops at its first part
-pub and-stop : (a b : Bool) → a ≡ false → (a && b) ≡ false
-and-stop true b e = cc
-and-stop false b e = refl
-
--- a conjunction goes on past a part that holds
-pub and-go : (a b : Bool) → a ≡ true → (a && b) ≡ b
-and-go true b e = refl
-and-go false b e = cc
 
 module _ {A B : Type 0} (f : List A → B) {whole : B} where
   -- one turn, over all places
@@ -65,26 +55,3 @@ near-next {A = A} f near cons trans x y l = cons x (y ∷ l) ∙ same (near x y)
     later e o =
         let g : every (near y) l ≡ true = and-left (every (near y) l) (f l) (rw (cons y l) at o) in
         every-from (near y) (near y) (near x) (λ z p q. trans x y z e p) l g g
-
-module _ {A : Type 0} (f : List A → Bool) (near : A → A → Bool)
-    (none : f [] ≡ true) (one : (x : A) → f (x ∷ []) ≡ true) (next : (x y : A) (l : List A) → f (x ∷ y ∷ l) ≡ (near x y && f (y ∷ l)))
-    {whole : Bool} (all : List A) (n i : ℕ) where
-  -- one turn
-  pub near-turn : (d : A) → n ≤ length all → i + 1 < n → whole ≡ f (drop i (take n all)) → whole ≡ (near (getD all i d) (getD all (i + 1) d) && f (drop (i + 1) (take n all)))
-  near-turn d fits h inv =
-      let l : length (take n all) ≡ n = length-take-le n all fits in
-      let rest : drop (i + 1) (take n all) ≡ getD all (i + 1) d ∷ drop (suc (i + 1)) (take n all) =
-      drop-cons (take n all) (i + 1) d (omega arith) ∙ rw (getD-take n all (i + 1) d h) in
-      let u : whole ≡ f (getD all i d ∷ drop (i + 1) (take n all)) = used-turn f all n i d fits (omega arith) inv in
-      rw rest (rw rest at u ∙ next (getD all i d) (getD all (i + 1) d) (drop (suc (i + 1)) (take n all)))
-
-  -- the end: fewer than two are left
-  pub near-end : n ≤ length all → n ≤ i + 1 → whole ≡ f (drop i (take n all)) → whole ≡ true
-  near-end fits h inv =
-      let l : length (take n all) ≡ n = length-take-le n all fits in
-      inv ∙ short (drop i (take n all)) (rw (length-drop i (take n all)) (omega arith))
-    where
-      short : (m : List A) → length m ≤ 1 → f m ≡ true
-      short [] p = none
-      short (x ∷ []) p = one x
-      short (x ∷ y ∷ m) p = absurd (omega arith)

@@ -1,18 +1,5 @@
 -- A merge begins: on its blocks, linked and all ones, the output stands as after no step.
-use mathlib.Core.Bool.{Bool, true, false, not}
-use mathlib.Core.List.{List, [], _∷_, _++_}
-use mathlib.Core.Path.{_≡_, refl, sym, ap, _∙_}
-use Prim.Native.Nat.{ℕ, suc, _+_, _-_, _*_, _<_, _≤_}
-use native.Mathlib.Omega.{arith}
-use lib.Dec.{eqb, ltb}
-use lib.ListN.{length, getD, take, drop, replicate, length-replicate, replicate-append-replicate}
-use lib.Seq.{length-take-le}
-use borrow.Author.Tests.{eqb-true, eqb-false}
-use Rattle.lists.specs.Lists.{every, elem, empty, different}
-use Rattle.lists.proofs.Bools.{by-test, and-left, and-right, and-both}
-use Rattle.lists.proofs.Runs.{apart as apartBy, apart-append, apart-none}
-use Rattle.lists.proofs.Sets.{different-take}
-use Rattle.lists.proofs.Tests.{every-take, every-append}
+use Rattle.lists.proofs.Prelude.{Bool, true, false, not, List, [], _∷_, _++_, _≡_, refl, sym, ap, _∙_, ℕ, suc, _+_, _-_, _*_, _<_, _≤_, arith, eqb, ltb, length, getD, take, drop, replicate, length-replicate, replicate-append-replicate, length-take-le, eqb-true, eqb-false, every, elem, empty, different, by-test, and-left, and-right, and-both, apart as apartBy, apart-append, apart-none, different-take, every-take, every-append}
 use Rattle.words.specs.Words.{allOnes}
 use Rattle.postings.specs.declared.Posting.{Posting}
 use Rattle.postings.specs.Merge.{nonzero, pairs}

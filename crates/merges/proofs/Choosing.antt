@@ -1,12 +1,5 @@
 -- The highest due level, as code finds it, and the part of the list that is merged.
-use mathlib.Core.Bool.{Bool, true, false, cond}
-use mathlib.Core.List.{List, [], _∷_, _++_, append-nil}
-use mathlib.Core.Path.{_≡_, refl, sym, ap, _∙_}
-use Prim.Native.Nat.{ℕ, _+_, _-_, _≤_}
-use native.Mathlib.Omega.{arith}
-use lib.Dec.{eqb}
-use lib.ListN.{length, getD, take, drop, length-drop, drop-of-length-le}
-use lib.Seq.{take-add, drop-at, length-take-le}
+use Rattle.lists.proofs.Prelude.{Bool, true, false, cond, List, [], _∷_, _++_, append-nil, _≡_, refl, sym, ap, _∙_, ℕ, _+_, _-_, _≤_, arith, eqb, length, getD, take, drop, length-drop, drop-of-length-le, take-add, drop-at, length-take-le}
 use Rattle.state.specs.declared.Partition.{Partition}
 use Rattle.state.specs.declared.Due.{Due}
 use Rattle.state.specs.Views.{finished, partitionsOf, noPartition}

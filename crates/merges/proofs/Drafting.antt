@@ -1,18 +1,5 @@
 -- The output on its blocks, from one step to the next.
-use mathlib.Core.Bool.{Bool, true, false, cond}
-use mathlib.Core.List.{List, _++_, map}
-use mathlib.Core.Path.{_≡_, refl, sym, ap, _∙_}
-use Prim.Native.Nat.{ℕ, zero, suc, _+_, _-_, _*_, _<_, _≤_}
-use native.Mathlib.Omega.{arith}
-use lib.Dec.{leb, eqb}
-use lib.ListN.{length, getD, take, drop, length-append, length-map}
-use lib.Seq.{sets, length-sets}
-use borrow.Author.Tests.{eqb-true, eqb-false}
-use Rattle.lists.specs.All.{AllOf}
-use Rattle.lists.specs.Lists.{every, empty, joined, different, upTo}
-use Rattle.lists.proofs.Bools.{by-test, and-left, and-right}
-use Rattle.lists.proofs.Tests.{every-take, every-drop, every-keep}
-use Rattle.lists.proofs.Ranges.{length-joined, length-rising}
+use Rattle.lists.proofs.Prelude.{Bool, true, false, cond, List, _++_, map, _≡_, refl, sym, ap, _∙_, ℕ, zero, suc, _+_, _-_, _*_, _<_, _≤_, arith, leb, eqb, length, getD, take, drop, length-append, length-map, sets, length-sets, eqb-true, eqb-false, AllOf, every, empty, joined, different, upTo, by-test, and-left, and-right, every-take, every-drop, every-keep, length-joined, length-rising}
 use Rattle.postings.specs.declared.Posting.{Posting}
 use Rattle.postings.specs.Order.{ordered}
 use Rattle.postings.specs.Merge.{isCounted, nonzero, pairs}
@@ -22,7 +9,7 @@ use Rattle.state.specs.declared.Partition.{Partition}
 use Rattle.state.specs.declared.Partitions.{Partitions}
 use Rattle.state.specs.declared.State.{State}
 use Rattle.state.specs.Views.{blocks, finished}
-use Rattle.card.specs.Chains.{blocksFor, chain, content}
+use Rattle.card.specs.Chains.{blocksFor, chain}
 use Rattle.card.specs.Cursors.{Chained}
 use Rattle.card.specs.Writes.{store, release}
 use Rattle.card.proofs.Chains.{chain-none}

@@ -1,19 +1,5 @@
 -- What a merge step does to the card's words: its output goes to free blocks, or fills its own chain further, and the last step frees the inputs.
-use mathlib.Core.Bool.{Bool, true, false, _||_, _&&_, not, cond}
-use mathlib.Core.List.{List, [], _++_, map, append-assoc}
-use mathlib.Core.Logic.{_⊎_, inl, inr}
-use mathlib.Core.Path.{_≡_, refl, sym, ap, _∙_, subst}
-use Prim.Native.Nat.{ℕ, suc, _+_, _*_, _-_, _<_, _≤_}
-use native.Mathlib.Omega.{arith}
-use lib.Dec.{eqb, ltb}
-use lib.ListN.{length, getD, take, drop, replicate, length-append, length-map, length-replicate, getD-replicate, List·getD-append}
-use lib.Seq.{getD-append-add, take-add}
-use borrow.Author.Tests.{ltb-true, ltb-false}
-use Rattle.lists.specs.Lists.{every, empty, different, same, joined}
-use Rattle.lists.proofs.Bools.{by-test, and-left, and-right}
-use Rattle.lists.proofs.Ranges.{length-joined}
-use Rattle.lists.proofs.Same.{same-true}
-use Rattle.lists.proofs.Tests.{every-take}
+use Rattle.lists.proofs.Prelude.{Bool, true, false, _||_, _&&_, not, cond, List, [], _++_, map, append-assoc, _⊎_, inl, inr, _≡_, refl, sym, ap, _∙_, subst, ℕ, suc, _+_, _*_, _-_, _<_, _≤_, arith, eqb, ltb, length, getD, take, drop, replicate, length-append, length-map, length-replicate, getD-replicate, List·getD-append, getD-append-add, take-add, ltb-true, ltb-false, every, empty, different, same, joined, by-test, and-left, and-right, length-joined, same-true, every-take}
 use Rattle.words.specs.Words.{allOnes}
 use Rattle.postings.specs.declared.Posting.{Posting}
 use Rattle.postings.specs.Merge.{nonzero}

@@ -1,16 +1,6 @@
 -- The inputs of a merge are a part of the list of finished partitions: what holds of all holds of them.
-use mathlib.Core.Bool.{Bool, true, false, cond}
-use mathlib.Core.List.{List, [], _∷_, _++_, map}
-use mathlib.Core.Path.{_≡_, refl, sym, ap, _∙_}
-use Prim.Native.Nat.{ℕ, zero, suc, _*_, _≤_}
-use native.Mathlib.Omega.{arith}
-use lib.Dec.{eqb, leb}
-use lib.ListN.{length, take, drop, length-take, take-append-drop}
-use Rattle.lists.specs.All.{AllOf}
-use Rattle.lists.specs.Lists.{every, keep, joined, different, upTo}
-use Rattle.lists.proofs.Bools.{and-left, and-right, and-both}
+use Rattle.lists.proofs.Prelude.{Bool, true, false, cond, List, [], _∷_, _++_, map, _≡_, refl, sym, ap, _∙_, ℕ, zero, suc, _*_, _≤_, arith, eqb, leb, length, take, drop, length-take, take-append-drop, AllOf, every, joined, different, upTo, and-left, and-right, and-both, every-append, every-take, every-drop, every-keep}
 use Rattle.lists.proofs.Stores.{joined-append}
-use Rattle.lists.proofs.Tests.{every-append, every-take, every-drop, every-keep}
 use Rattle.postings.specs.declared.Posting.{Posting}
 use Rattle.postings.specs.Pack.{posted}
 use Rattle.postings.specs.Merge.{isCounted, nonzero, pairs}

@@ -1,16 +1,14 @@
 -- A plan that refuses, and one that is ready.
-use mathlib.Core.Bool.{true, false, not, _&&_}
-use mathlib.Core.List.{List}
-use mathlib.Core.Path.{_≡_, refl, sym, _∙_}
-use Prim.Native.Nat.{ℕ, suc, _<_}
-use Rattle.lists.proofs.Bools.{by-test}
-use Rattle.lists.proofs.Runs.{never}
+use Rattle.lists.proofs.Prelude.{Bool, true, false, cond, not, _&&_, List, _≡_, refl, sym, _∙_, ℕ, suc, _<_, by-test, never}
 use Rattle.words.specs.Words.{words, bytes}
 use Rattle.answers.specs.Answers.{done, refused}
 use Rattle.answers.specs.Numbers.{refusalNumber}
+use Rattle.state.specs.declared.MergeJob.{MergeJob}
+use Rattle.state.specs.declared.Partition.{Partition}
 use Rattle.state.specs.declared.Partitions.{Partitions}
 use Rattle.state.specs.declared.State.{State}
-use Rattle.state.specs.Views.{blocks, finished}
+use Rattle.state.specs.Views.{noMerge, blocks, finished, partitionsOf, withPartitions, withTaken, withMerge}
+use Rattle.state.specs.Levels.{replaced}
 use Rattle.state.specs.Probe.{Store}
 use Rattle.card.specs.Chains.{chain}
 use Rattle.partitions.specs.Formed.{partitionsFormed}
@@ -18,9 +16,11 @@ use Rattle.inputs.specs.declared.Totals.{Totals}
 use Rattle.inputs.specs.Judging.{inputsFormed}
 use Rattle.windows.specs.Promises.{Gives, storeOf}
 use Rattle.merges.specs.declared.Plan.{Plan}
-use Rattle.merges.specs.Merging.{inputs, taking, isLast}
+use Rattle.merges.specs.declared.Deed.{Deed}
+use Rattle.merges.specs.declared.Output.{Output}
+use Rattle.merges.specs.Merging.{dueIn, inputs, taking, isLast}
 use Rattle.merges.specs.Step.{inProgress, outputRule, stepFormed, writtenOn}
-use Rattle.merges.specs.Acting.{Judged, Acts, nextState, goingOn, Planned}
+use Rattle.merges.specs.Acting.{Judged, Acts, lengthFrom, recordFrom, nextState, goingOn, thirdOn, Acted, Planned}
 use Rattle.merges.proofs.Stepping.{formed-idle, formed-output}
 
 module _ (s : State) (is : Partitions) (t : Totals) (card : List ℕ) (p : Plan) where
@@ -55,3 +55,16 @@ formed-plan W s p i =
     by-test (inProgress s)
     (λ y. rw (formed-output W s p i y, y))
     (λ n. rw (formed-idle W s p i n, n))
+
+-- a step that is refused
+pub acted-stop : (s : State) (card : List ℕ) (d : Deed) (after : List ℕ) → d .ready ≡ false → after ≡ card
+    → Gives (storeOf s card) (thirdOn s card) (refused (refusalNumber (d .why))) (storeOf s card) → Acted s card d after
+acted-stop s card d after e k g = record { stop = λ q. (k, g); small = λ q. never (sym e ∙ q); early = λ q. never (sym e ∙ q); done = λ q. never (sym e ∙ q) }
+
+-- the state by its parts
+pub next-told : (s : State) (last : Bool) (t : Totals) (o : Output) (ps : Partitions) (m : MergeJob)
+    → ps ≡ cond last (partitionsOf (replaced (λ (p : Partition). p .level) (dueIn s) (finished (s .partitions)) (recordFrom (finished (s .partitions)) t o))) (s .partitions)
+    → m ≡ cond last noMerge (record { first = o .first; length = lengthFrom t; steps = suc (s .merge .steps) })
+    → withMerge (withTaken (withPartitions s ps) (o .taken)) m ≡ nextState s last t o
+unfolding nextState
+next-told s last t o ps m e f = by-test last (λ y. rw (e, f, y)) (λ n. rw (e, f, n))

@@ -1,17 +1,5 @@
 -- The content of the output, from step to step.
-use mathlib.Core.Bool.{true, false}
-use mathlib.Core.List.{List, [], _∷_, _++_, map, append-nil, append-assoc}
-use mathlib.Core.Path.{_≡_, refl, sym, ap, _∙_}
-use Prim.Native.Nat.{ℕ, suc, _+_, _-_, _*_, _≤_}
-use native.Mathlib.Omega.{arith}
-use lib.Dec.{leb}
-use lib.ListN.{length, take, drop, replicate, length-take, length-drop, length-append, length-map, length-replicate, take-append-drop}
-use lib.Seq.{sets, sets-eq, take-all, take-add, drop-at}
-use borrow.Author.Tests.{leb-true, leb-false, le-leb, lt-leb}
-use Rattle.lists.specs.Lists.{joined, empty}
-use Rattle.lists.proofs.Bools.{by-test}
-use Rattle.lists.proofs.Tests.{keep-append}
-use Rattle.lists.proofs.Ranges.{length-joined}
+use Rattle.lists.proofs.Prelude.{true, false, List, [], _∷_, _++_, map, append-nil, append-assoc, _≡_, refl, sym, ap, _∙_, ℕ, suc, _+_, _-_, _*_, _≤_, arith, leb, length, take, drop, replicate, length-take, length-drop, length-append, length-map, length-replicate, take-append-drop, sets, sets-eq, take-all, take-add, drop-at, leb-true, leb-false, le-leb, lt-leb, joined, empty, by-test, keep-append, length-joined}
 use Rattle.lists.proofs.Stores.{sets-append}
 use Rattle.words.specs.Words.{allOnes}
 use Rattle.postings.specs.declared.Posting.{Posting}

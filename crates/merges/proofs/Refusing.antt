@@ -1,15 +1,5 @@
 -- The rule of the output in progress, test by test.
-use mathlib.Core.Bool.{Bool, true, false, cond, _&&_}
-use mathlib.Core.List.{List, [], _∷_}
-use mathlib.Core.Path.{_≡_, refl, sym, ap, _∙_}
-use Prim.Native.Nat.{ℕ, suc, _+_, _-_, _*_, _<_, _≤_}
-use native.Mathlib.Omega.{arith}
-use lib.Dec.{eqb}
-use lib.ListN.{length, take, drop, length-append, take-append-drop}
-use borrow.Author.Tests.{eqb-true, eq-eqb, ne-eqb, le-leb, lt-leb}
-use Rattle.lists.specs.Lists.{empty}
-use Rattle.lists.proofs.Bools.{by-test}
-use Rattle.lists.proofs.Same.{same-true}
+use Rattle.lists.proofs.Prelude.{Bool, true, false, cond, _&&_, List, [], _∷_, _≡_, refl, sym, ap, _∙_, ℕ, suc, _+_, _-_, _*_, _<_, _≤_, arith, eqb, length, take, drop, length-append, take-append-drop, eqb-true, eq-eqb, ne-eqb, le-leb, lt-leb, empty, by-test, and-left, and-right, same-true}
 use Rattle.postings.specs.declared.Posting.{Posting}
 use Rattle.postings.specs.Merge.{nonzero, pairs}
 use Rattle.state.specs.declared.Partition.{Partition}
@@ -27,7 +17,7 @@ use Rattle.drafts.specs.Drafted.{holdsDraft, standsApart}
 use Rattle.merges.specs.declared.Output.{Output}
 use Rattle.merges.specs.Merging.{inputs, taking, result, outputLength, outputBlocks, progress, isLast}
 use Rattle.merges.specs.Step.{outputRule}
-use Rattle.merges.specs.Acting.{Judged, Acts, lengthFrom}
+use Rattle.merges.specs.Acting.{standsOn, standing, Judged, Acts, lengthFrom}
 use Rattle.merges.proofs.Choosing.{finished-of}
 use Rattle.merges.proofs.Progress.{nonzero-append, nonzero-take, result-room, last-taken}
 use Rattle.merges.proofs.Drafting.{terms-told, postings-told, pairs-told}
@@ -79,6 +69,15 @@ module _ (W : List ℕ) (s : State) (is : Partitions) (t : Totals) (g : Judged W
   abbrev n : ℕ
   n = blocksFor (lengthFrom t)
 
+  -- the blocks of an output of its length stand as they were judged to
+  pub standing-apart : 1 ≤ j → s .merge .length ≡ lengthFrom t → (n ≡ 0 → ⊥) → standing W s ≡ true
+      → (chainRule W (blocks s) (s .merge .first) n ≡ true) × (standsApart W (s .merge .first) n (finished (s .partitions)) ≡ true)
+  unfolding standsOn
+  standing-apart h l some e =
+      let busy : eqb j 0 ≡ false = ne-eqb j 0 (λ z. omega arith) in
+      let c = rw (busy, ne-eqb n 0 some) at (rw l at e) in
+      (and-left (chainRule W (blocks s) (s .merge .first) n) _ c, and-right (chainRule W (blocks s) (s .merge .first) n) _ c)
+
   pub rule-late : t .pairs ≤ 16 * j → false ≡ outputRule W s ps
   unfolding outputRule
   rule-late h = rw (le-leb (length ps) (16 * j) (omega (arith, pairs-told W s is t g)))
@@ -105,12 +104,6 @@ module _ (W : List ℕ) (s : State) (is : Partitions) (t : Totals) (g : Judged W
             && (standsApart W (s .merge .first) n (finished (s .partitions)) && holdsDraft W (s .merge .first) n (8 + 3 * t .terms) (16 * j) ps))
         unfolding outputRule progress
         rest = rw (left, fits, blocks-told, terms-told W s is t g, some-there some)
-
-        pub rule-chain : chainRule W (blocks s) (s .merge .first) n ≡ false → false ≡ outputRule W s ps
-        rule-chain e = sym (rest ∙ rw e)
-
-        pub rule-apart : chainRule W (blocks s) (s .merge .first) n ≡ true → standsApart W (s .merge .first) n (finished (s .partitions)) ≡ false → false ≡ outputRule W s ps
-        rule-apart e f = sym (rest ∙ rw (e, f))
 
         pub rule-held : chainRule W (blocks s) (s .merge .first) n ≡ true → standsApart W (s .merge .first) n (finished (s .partitions)) ≡ true
             → holdsDraft W (s .merge .first) n (8 + 3 * t .terms) (16 * j) ps ≡ outputRule W s ps

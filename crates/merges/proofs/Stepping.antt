@@ -1,15 +1,5 @@
 -- A step as its definition says: what is judged, the refusals in their order, and what is left.
-use mathlib.Core.Bool.{Bool, true, false, cond, not, _&&_, _||_}
-use mathlib.Core.List.{List, [], _∷_}
-use mathlib.Core.Path.{_≡_, refl, sym, ap, _∙_}
-use Prim.Native.Nat.{ℕ, zero, suc, _-_, _*_, _%_, _<_, _≤_}
-use native.Mathlib.Omega.{arith}
-use lib.Dec.{eqb, leb, ltb}
-use lib.ListN.{length, getD, take}
-use borrow.Author.Tests.{eq-eqb, ne-eqb, leb-true, leb-false, lt-ltb, le-ltb, not-true}
-use Rattle.lists.specs.All.{AllOf}
-use Rattle.lists.specs.Lists.{every, empty}
-use Rattle.lists.proofs.Bools.{by-test, and-left, and-right}
+use Rattle.lists.proofs.Prelude.{Bool, true, false, cond, not, _&&_, _||_, List, [], _∷_, _≡_, refl, sym, ap, _∙_, ℕ, zero, suc, _-_, _*_, _%_, _<_, _≤_, arith, eqb, leb, ltb, length, getD, take, eq-eqb, ne-eqb, eqb-true, leb-true, leb-false, lt-ltb, le-ltb, not-true, not-false, AllOf, every, empty, by-test, and-left, and-right, and-both, never}
 use Rattle.words.specs.Words.{words, bytes}
 use Rattle.words.proofs.Views.{length-words}
 use Rattle.postings.specs.declared.Posting.{Posting}
@@ -25,7 +15,7 @@ use Rattle.state.specs.Probe.{Store}
 use Rattle.state.proofs.Kept.{state-kept}
 use Rattle.state.proofs.Runs.{due-first, oldest-length}
 use Rattle.card.specs.Blocks.{noBlock, freeBlocks}
-use Rattle.card.specs.Chains.{blocksFor, chain}
+use Rattle.card.specs.Chains.{blocksFor, chain, chainRule}
 use Rattle.partitions.specs.Layout.{lengthOf}
 use Rattle.partitions.specs.Reading.{postingsOf, inPartitions}
 use Rattle.partitions.specs.Formed.{partitionRule, partitionsFormed, listRule}
@@ -34,12 +24,13 @@ use Rattle.inputs.specs.declared.Totals.{Totals}
 use Rattle.inputs.specs.declared.Batch.{Batch}
 use Rattle.inputs.specs.Judging.{inputsFormed, judgedOf, Small, allInRange}
 use Rattle.inputs.proofs.Judged.{judged-totals}
+use Rattle.drafts.specs.Drafted.{standsApart}
 use Rattle.windows.specs.Promises.{Gives, storeOf}
 use Rattle.windows.proofs.Outcomes.{stopped, passed, given}
 use Rattle.merges.specs.declared.Output.{Output}
-use Rattle.merges.specs.Merging.{dueIn, inputs, taking, result, outputBlocks, isLast}
+use Rattle.merges.specs.Merging.{dueIn, inputs, taking, result, outputLength, outputBlocks, isLast}
 use Rattle.merges.specs.Step.{inProgress, outputRule, stepFormed, outputOn, lastOf, steppedOn, writtenOn, stepping}
-use Rattle.merges.specs.Acting.{Judged, Acts, lengthFrom, nextState}
+use Rattle.merges.specs.Acting.{standsOn, standing, Judged, Acts, lengthFrom, nextState}
 use Rattle.merges.proofs.Choosing.{levelOf, finished-of, due-some}
 use Rattle.merges.proofs.Merged.{oldest-part, oldest-few, part-all, all-readable}
 use Rattle.merges.proofs.Drafting.{terms-told, postings-told, pairs-told}
@@ -90,7 +81,39 @@ module _ (s : State) (card : List ℕ) (rule : stateRule s ≡ true) (same : len
 
 -- Refusal 3 --------------------------------------------------------------------------------------------------------------
 
+or-second : (a b c : Bool) → b ≡ true → ((a || b) || c) ≡ true
+or-second true b c e = refl
+or-second false b c e = rw e
+
+or-third : (a b c : Bool) → c ≡ true → ((a || b) || c) ≡ true
+or-third true b c e = refl
+or-third false true c e = refl
+or-third false false c e = e
+
 module _ (W : List ℕ) (s : State) where
+  -- the blocks of an output that is in order stand
+  stands-held : outputRule W s (taking W s) ≡ true → standing W s ≡ true
+  unfolding outputRule standsOn
+  stands-held e =
+      let r = result (taking W s) in
+      let b = s .merge .first in
+      let a = and-right (not (isLast (taking W s) (s .merge .steps))) _ e in
+      let l : s .merge .length ≡ outputLength r = eqb-true _ _ (and-left (eqb (s .merge .length) (outputLength r)) _ a) in
+      let c = and-right (eqb (s .merge .length) (outputLength r)) _ a in
+      by-test (empty r)
+      (λ y. let z : s .merge .length ≡ 0 = l ∙ rw y in or-second (eqb (s .merge .steps) 0) (eqb (blocksFor (s .merge .length)) 0) _ (rw z))
+      (λ y. let z : s .merge .length ≡ lengthOf r = l ∙ rw y in
+      let d = rw y at c in
+      let m = blocksFor (lengthOf r) in
+      let f = and-right (chainRule W (blocks s) b m) _ d in
+      or-third (eqb (s .merge .steps) 0) (eqb (blocksFor (s .merge .length)) 0) _
+      (rw z (and-both (chainRule W (blocks s) b m) _ (and-left (chainRule W (blocks s) b m) _ d) (and-left (standsApart W b m (finished (s .partitions))) _ f))))
+
+  -- and those of none do
+  stands-idle : eqb (s .merge .steps) 0 ≡ true → standing W s ≡ true
+  unfolding standsOn
+  stands-idle e = rw e
+
   pub formed-first : partitionsFormed W (blocks s) (finished (s .partitions)) ≡ false → stepFormed W s ≡ false
   unfolding stepFormed
   formed-first e = rw e
@@ -106,6 +129,14 @@ module _ (W : List ℕ) (s : State) where
 
     pub formed-inputs : inputsFormed W (inputs s) ≡ false → stepFormed W s ≡ false
     formed-inputs e = formed-rest ∙ rw e
+
+    pub formed-stands : standing W s ≡ false → stepFormed W s ≡ false
+    formed-stands n =
+        by-test (inProgress s)
+        (λ y. by-test (outputRule W s (taking W s))
+        (λ o. never (sym n ∙ stands-held o))
+        (λ o. formed-rest ∙ rw (y, o) (by-test (inputsFormed W (inputs s)) (λ q. rw q) (λ q. rw q))))
+        (λ y. never (sym n ∙ stands-idle (not-false _ y)))
 
     pub formed-idle : inputsFormed W (inputs s) ≡ true → inProgress s ≡ false → stepFormed W s ≡ true
     formed-idle e f = formed-rest ∙ rw (e, f)

@@ -1,5 +1,5 @@
 -- A step that is not refused: what is known before it writes, and the state that it leaves.
-use mathlib.Core.Bool.{Bool, true, false, cond, not, _&&_}
+use mathlib.Core.Bool.{Bool, true, false, cond, not, _&&_, _||_}
 use mathlib.Core.List.{List, [], _∷_, _++_, map}
 use mathlib.Core.Path.{_≡_}
 use Prim.Native.Nat.{ℕ, suc, _+_, _*_, _<_, _≤_}
@@ -13,12 +13,14 @@ use Rattle.answers.specs.Answers.{Outcome, refuseIf, done, refused}
 use Rattle.answers.specs.Numbers.{refusalNumber}
 use Rattle.state.specs.declared.Partition.{Partition}
 use Rattle.state.specs.declared.Partitions.{Partitions}
+use Rattle.state.specs.declared.MergeJob.{MergeJob}
 use Rattle.state.specs.declared.State.{State}
+use Rattle.state.specs.Rules.{stateRule}
 use Rattle.state.specs.Views.{padded, noMerge, blocks, finished, partitionsOf, withPartitions, withTaken, withMerge}
 use Rattle.state.specs.Probe.{Store}
 use Rattle.state.specs.Levels.{nextLevel, dueLevels, replaced}
 use Rattle.card.specs.Blocks.{noBlock}
-use Rattle.card.specs.Chains.{chain, chainRule, content}
+use Rattle.card.specs.Chains.{blocksFor, chain, chainRule, content}
 use Rattle.card.specs.Cursors.{Chained}
 use Rattle.partitions.specs.Layout.{totalLength, header, wordOf}
 use Rattle.partitions.specs.Formed.{partitionsFormed, chainsOf}
@@ -26,19 +28,30 @@ use Rattle.inputs.specs.declared.Totals.{Totals}
 use Rattle.inputs.specs.declared.Batch.{Batch}
 use Rattle.inputs.specs.Judging.{totalsOf, countsById, Small, allInRange}
 use Rattle.inputs.specs.Ahead.{batched}
+use Rattle.drafts.specs.Drafted.{standsApart}
 use Rattle.outputs.specs.Contents.{written}
 use Rattle.outputs.specs.Entries.{entriesBy}
 use Rattle.windows.specs.Promises.{Gives, storeOf}
 use Rattle.merges.specs.declared.Output.{Output}
 use Rattle.merges.specs.declared.Plan.{Plan}
+use Rattle.merges.specs.declared.Deed.{Deed}
 use Rattle.merges.specs.Merging.{dueIn, inputs, taking, result, outputBlocks, outputLevel, progress, isLast}
-use Rattle.merges.specs.Step.{inProgress, outputRule, writtenOn, stepping}
+use Rattle.merges.specs.Step.{inProgress, outputRule, stepFormed, writtenOn, stepping}
 
 -- the output stands on n blocks from b on: they are a chain, in no finished partition, and hold what the steps done have written
 pub record Drafted (W : List ℕ) (s : State) (ps : List Posting) (b n : ℕ) : Type 0 where
   pub rule : chainRule W (blocks s) b n ≡ true
   pub apart : different (chain W b n ++ chainsOf W (finished (s .partitions))) ≡ true
   pub full : content W (chain W b n) ≡ padded (1023 * n) allOnes (progress ps (s .merge .steps))
+
+-- the blocks of a merge's output in progress, by its record, are a chain apart from those of the finished partitions fin; an output of no bytes has none
+unfoldable pub standsOn : List ℕ → ℕ → MergeJob → List Partition → Bool
+standsOn W n job fin =
+    (eqb (job .steps) 0 || eqb (blocksFor (job .length)) 0)
+    || (chainRule W n (job .first) (blocksFor (job .length)) && standsApart W (job .first) (blocksFor (job .length)) fin)
+
+abbrev pub standing : List ℕ → State → Bool
+standing W s = standsOn W (blocks s) (s .merge) (finished (s .partitions))
 
 -- the inputs as they are judged: on a card that fits the state, all finished partitions well formed, the sums in range, and their totals told
 pub record Judged (W : List ℕ) (s : State) (is : Partitions) (t : Totals) : Type 0 where
@@ -130,6 +143,26 @@ pub record Did (W : List ℕ) (is : Partitions) (t : Totals) (ns : List ℕ) (o 
 -- the outcome of a step whose inputs are well formed
 abbrev pub goingOn : State → List ℕ → Outcome Store
 goingOn s W = refuseIf (inProgress s && not (outputRule W s (taking W s))) 3 (stepping s W (taking W s))
+
+-- the step that refusals 1 and 2 let through, with refusal 3
+abbrev pub thirdOn : State → List ℕ → Outcome Store
+thirdOn s card = refuseIf (not (stepFormed (words card) s)) 3 (stepping s (words card) (taking (words card) s))
+
+-- state, card, finished partitions and the output's blocks are judged; is are the inputs, and v is the output's level
+pub record Admitted (s : State) (card : List ℕ) (is : Partitions) (v : ℕ) : Type 0 where
+  pub rule : stateRule s ≡ true
+  pub size : length card ≡ s .lengths .card
+  pub formed : partitionsFormed (words card) (blocks s) (finished (s .partitions)) ≡ true
+  pub stands : standing (words card) s ≡ true
+  pub are : is ≡ partitionsOf (inputs s)
+  pub level : v ≡ outputLevel s
+
+-- a step that is refused leaves the card; one that is written leaves the state that its last test, totals and output say
+pub record Acted (s : State) (card : List ℕ) (d : Deed) (after : List ℕ) : Type 0 where
+  pub stop : d .ready ≡ false → (after ≡ card) × Gives (storeOf s card) (thirdOn s card) (refused (refusalNumber (d .why))) (storeOf s card)
+  pub small : d .ready ≡ true → Small (d .totals)
+  pub early : d .ready ≡ true → s .merge .steps < 4294967295
+  pub done : d .ready ≡ true → Gives (storeOf s card) (thirdOn s card) done (storeOf (nextState s (d .last) (d .totals) (d .output)) after)
 
 -- a plan for a step from a card, and the card once the output's blocks are there. A plan that is not ready refuses, and the card stays. Where one is ready, the
 -- step is done by what it says

@@ -1,7 +1,7 @@
 -- A merge step: what it answers and leaves, for every input.
 use mathlib.Core.Bool.{Bool, _||_, _&&_, not, cond}
 use mathlib.Core.List.{List, [], _∷_, _++_}
-use Prim.Native.Nat.{ℕ, suc, _+_, _*_, _-_}
+use Prim.Native.Nat.{ℕ, suc, _+_, _*_}
 use lib.Dec.{eqb, ltb}
 use lib.ListN.{length, getD, take}
 use Rattle.lists.specs.Lists.{every, empty, different, same}

@@ -19,7 +19,7 @@ ghost use Rattle.inputs.specs.Judging.{inputsFormed};
 ghost use Rattle.merges.specs.Merging.{inputs as inputsOf};
 ghost use Rattle.merges.specs.Step.{lastOf};
 ghost use Rattle.merges.specs.Promises.{Steps};
-ghost use Rattle.merges.specs.Acting.{Judged, Doing, Did, Planned};
+ghost use Rattle.merges.specs.Acting.{standing, Judged, Doing, Did, Planned, Admitted, Acted};
 
 mod judging; // the output in progress
 mod listing; // which partitions are merged, and what takes their place
@@ -41,6 +41,15 @@ pub struct Plan {
     pub batch: Batch,
 }
 
+// What a step comes to: why it is refused; or, where it is written, whether it is the last, what its inputs come to, and its output.
+pub struct Deed {
+    pub ready: bool,
+    pub why: Refusal,
+    pub last: bool,
+    pub totals: Totals,
+    pub output: Output,
+}
+
 // A refusal: the state stays.
 fn refuse(s: State, why: Refusal) -> Replied
     ensures { λ r. ⌜ r ≡ record { reply = Reply.Refused why; state = s } ⌝ }
@@ -48,6 +57,31 @@ fn refuse(s: State, why: Refusal) -> Replied
     Replied {
         reply: Reply::Refused(why),
         state: s,
+    }
+}
+
+// A step that is refused.
+fn no_deed(why: Refusal) -> Deed
+    ensures { λ r. ⌜ (r .ready ≡ false) × (r .why ≡ why) ⌝ }
+{
+    let t = Totals {
+        fine: false,
+        pairs: 0,
+        postings: 0,
+        terms: 0,
+    };
+    let o = Output {
+        first: 65534,
+        blocks: 0,
+        written: 0,
+        taken: 0,
+    };
+    Deed {
+        ready: false,
+        why: why,
+        last: false,
+        totals: t,
+        output: o,
     }
 }
 
@@ -148,7 +182,7 @@ fn begin(s: State, card: &mut [u8], is: Partitions, t: Totals) -> Plan
 
 // A step of the merge in progress.
 fn go_on(s: State, card: &[u8], is: Partitions, t: Totals) -> Plan
-    requires { ⌜ Judged (wordsOf (now card)) s is t × (inputsFormed (wordsOf (now card)) (inputsOf s) ≡ true) × (1 ≤ s .merge .steps) ⌝ }
+    requires { ⌜ Judged (wordsOf (now card)) s is t × (inputsFormed (wordsOf (now card)) (inputsOf s) ≡ true) × (1 ≤ s .merge .steps) × (standing (wordsOf (now card)) s ≡ true) ⌝ }
     ensures { λ r. ⌜ Planned s is t (now (card .entry)) r (now (card .entry)) ⌝ }
 {
     let d = judging::output_ok(s, card, is, t);
@@ -172,13 +206,42 @@ fn go_on(s: State, card: &[u8], is: Partitions, t: Totals) -> Plan
 
 // What a step whose inputs are well formed is to do.
 fn prepare(s: State, card: &mut [u8], is: Partitions, t: Totals) -> Plan
-    requires { ⌜ (length (now card) % 4 ≡ 0) × Judged (wordsOf (now card)) s is t × (inputsFormed (wordsOf (now card)) (inputsOf s) ≡ true) × (s .taken < blocksOf s) ⌝ }
+    requires { ⌜ (length (now card) % 4 ≡ 0) × Judged (wordsOf (now card)) s is t × (inputsFormed (wordsOf (now card)) (inputsOf s) ≡ true) × (s .taken < blocksOf s)
+        × (standing (wordsOf (now card)) s ≡ true) ⌝ }
     ensures { λ r. ⌜ Planned s is t (now (card .entry)) r (now (card .exit)) ⌝ }
 {
     if s.merge.steps == 0 {
         return begin(s, card, is, t);
     }
     go_on(s, card, is, t)
+}
+
+// Judges the inputs, and writes the step that nothing refuses.
+fn act(s: State, card: &mut [u8], is: Partitions, level: u16) -> Deed
+    requires { ⌜ Admitted s (now card) is level ⌝ }
+    ensures { λ r. ⌜ Acted s (now (card .entry)) r (now (card .exit)) ⌝ }
+{
+    let mut heads: [u32; 80] = [0; 80];
+    let mut counts: [u16; 1024] = [0; 1024];
+    let t = inputs::judge(card, is, &mut heads, &mut counts);
+    if !t.fine {
+        return no_deed(Refusal::Malformed);
+    }
+    let p = prepare(s, card, is, t);
+    if !p.ready {
+        let why = p.why;
+        return no_deed(why);
+    }
+    let o = p.output;
+    let b = p.batch;
+    let last = finish(card, is, t, &counts, o, b, s.merge.steps, level);
+    Deed {
+        ready: true,
+        why: Refusal::Malformed,
+        last: last,
+        totals: t,
+        output: o,
+    }
 }
 
 // One step of the merge in progress, or of one that begins.
@@ -191,26 +254,27 @@ pub fn step(s: State, card: &mut [u8]) -> Replied
     if card.len() != s.lengths.card as usize {
         return refuse(s, Refusal::WrongLength);
     }
-    if !partitions::partitions_ok(card, s.lengths.card / 4096, s.partitions) {
+    let ps = s.partitions;
+    if !partitions::partitions_ok(card, s.lengths.card / 4096, ps) {
         return refuse(s, Refusal::Malformed);
     }
-    let is = listing::inputs_of(s.partitions);
-    let mut heads: [u32; 80] = [0; 80];
-    let mut counts: [u16; 1024] = [0; 1024];
-    let t = inputs::judge(card, is, &mut heads, &mut counts);
-    if !t.fine {
+    if !judging::stands(card, s.lengths.card / 4096, s.merge, ps) {
         return refuse(s, Refusal::Malformed);
     }
-    let p = prepare(s, card, is, t);
-    if !p.ready {
-        let why = p.why;
+    let is = listing::inputs_of(ps);
+    let d = act(s, card, is, listing::output_level(ps));
+    if !d.ready {
+        let why = d.why;
         return refuse(s, why);
     }
-    let level = listing::output_level(s.partitions);
-    let o = p.output;
-    let b = p.batch;
-    let last = finish(card, is, t, &counts, o, b, s.merge.steps, level);
-    let next = writing::next_state(s, last, t, o);
+    let t = d.totals;
+    let o = d.output;
+    let list = writing::list_after(d.last, ps, t, o);
+    let job = writing::job_after(d.last, s.merge.steps, t, o);
+    let mut next = s;
+    next.partitions = list;
+    next.taken = o.taken;
+    next.merge = job;
     Replied {
         reply: Reply::Done,
         state: next,

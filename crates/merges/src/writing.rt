@@ -6,16 +6,15 @@ use inputs::Totals;
 use state::MergeJob;
 use state::Partition;
 use state::Partitions;
-use state::State;
-ghost use mathlib.Core.Bool.{true};
+ghost use mathlib.Core.Bool.{true, cond};
 ghost use mathlib.Core.List.{map};
 ghost use mathlib.Core.Path.{_≡_};
-ghost use Prim.Native.Nat.{_+_, _*_, _%_, _≤_, _<_};
+ghost use Prim.Native.Nat.{suc, _+_, _*_, _%_, _≤_, _<_};
 ghost use lib.Dec.{leb};
 ghost use lib.ListN.{length};
 ghost use Rattle.lists.specs.Lists.{every};
 ghost use Rattle.words.specs.Words.{words as wordsOf};
-ghost use Rattle.state.specs.Views.{finished, partitionsOf};
+ghost use Rattle.state.specs.Views.{finished, partitionsOf, noMerge};
 ghost use Rattle.state.specs.Levels.{dueLevels, replaced};
 ghost use Rattle.card.specs.Chains.{chain};
 ghost use Rattle.card.specs.Cursors.{Chained};
@@ -25,7 +24,7 @@ ghost use Rattle.inputs.specs.Judging.{Small};
 ghost use Rattle.inputs.specs.Ahead.{batched};
 ghost use Rattle.outputs.specs.Contents.{written};
 ghost use Rattle.outputs.specs.Entries.{entriesBy};
-ghost use Rattle.merges.specs.Acting.{Fits, withFront, outputWritten, lengthFrom, recordFrom, nextState};
+ghost use Rattle.merges.specs.Acting.{Fits, withFront, outputWritten, lengthFrom, recordFrom};
 
 // The length of the output.
 pub fn output_length(t: Totals) -> u32
@@ -85,11 +84,14 @@ pub fn put_output(
     }
 }
 
-// The finished partitions after the last step.
-fn next_list(ps: Partitions, t: Totals, o: Output) -> Partitions
+// The finished partitions after a step: the last one puts the result in its inputs' place.
+pub fn list_after(last: bool, ps: Partitions, t: Totals, o: Output) -> Partitions
     requires { ⌜ (ps .used ≤ 51) × (length (ps .records) ≡ 51 → ps ≡ partitionsOf (finished ps)) × Small t ⌝ }
-    ensures { λ r. ⌜ r ≡ partitionsOf (replaced (λ (p : Partition). p .level) (dueLevels (λ (p : Partition). p .level) (finished ps)) (finished ps) (recordFrom (finished ps) t o)) ⌝ }
+    ensures { λ r. ⌜ r ≡ cond last (partitionsOf (replaced (λ (p : Partition). p .level) (dueLevels (λ (p : Partition). p .level) (finished ps)) (finished ps) (recordFrom (finished ps) t o))) ps ⌝ }
 {
+    if !last {
+        return ps;
+    }
     let level = listing::output_level(ps);
     let q = Partition {
         first: o.first,
@@ -99,29 +101,21 @@ fn next_list(ps: Partitions, t: Totals, o: Output) -> Partitions
     listing::replaced_by(ps, t.postings != 0, q)
 }
 
-// The state after the step.
-pub fn next_state(s: State, last: bool, t: Totals, o: Output) -> State
-    requires { ⌜ (s .partitions .used ≤ 51) × (length (s .partitions .records) ≡ 51 → s .partitions ≡ partitionsOf (finished (s .partitions))) × Small t × (s .merge .steps < 4294967295) ⌝ }
-    ensures { λ r. ⌜ r ≡ nextState s last t o ⌝ }
+// The record of the merge after a step: none after the last.
+pub fn job_after(last: bool, steps: u32, t: Totals, o: Output) -> MergeJob
+    requires { ⌜ Small t × (steps < 4294967295) ⌝ }
+    ensures { λ r. ⌜ r ≡ cond last noMerge (record { first = o .first; length = lengthFrom t; steps = suc steps }) ⌝ }
 {
-    let mut n = s;
-    n.taken = o.taken;
     if last {
-        let list = next_list(s.partitions, t, o);
-        n.partitions = list;
-        let none = MergeJob {
+        return MergeJob {
             first: 0,
             length: 0,
             steps: 0,
         };
-        n.merge = none;
-        return n;
     }
-    let job = MergeJob {
+    MergeJob {
         first: o.first,
         length: output_length(t),
-        steps: s.merge.steps + 1,
-    };
-    n.merge = job;
-    n
+        steps: steps + 1,
+    }
 }

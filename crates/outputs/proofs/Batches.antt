@@ -1,17 +1,6 @@
 -- The words of the first postings of an array.
-use mathlib.Core.Bool.{true}
-use mathlib.Core.List.{List, map}
-use mathlib.Core.Path.{_≡_, ap, _∙_}
-use Prim.Native.Nat.{ℕ, _+_, _-_, _<_, _≤_}
-use native.Mathlib.Omega.{arith}
-use lib.IntN.{natAbs}
-use lib.ListN.{length, getD, set, take, drop, length-map, List·getD-map}
-use lib.Seq.{sets, getD-take, length-take-le}
-use borrow.Author.Tests.{leb-true}
-use Rattle.lists.specs.Lists.{every}
-use Rattle.lists.proofs.Sets.{sets-back}
+use Rattle.lists.proofs.Prelude.{true, List, map, _≡_, ap, _∙_, ℕ, _+_, _-_, _<_, _≤_, arith, natAbs, length, getD, set, take, drop, length-map, List·getD-map, sets, getD-take, length-take-le, leb-true, every, sets-back, every-at}
 use Rattle.lists.proofs.Stores.{sets-turn}
-use Rattle.lists.proofs.Tests.{every-at}
 use Rattle.postings.specs.declared.Posting.{Posting}
 use Rattle.state.specs.Views.{noPosting}
 use Rattle.partitions.specs.Layout.{wordOf}

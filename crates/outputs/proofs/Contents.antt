@@ -1,20 +1,8 @@
 -- Words written into the content of blocks: what that does to a card on which they hold a stored content.
-use mathlib.Core.Bool.{true, false, true≢false}
-use mathlib.Core.List.{List, [], _∷_, _++_, append-nil, append-assoc}
-use mathlib.Core.Path.{_≡_, refl, sym, ap, _∙_}
-use Prim.Native.Nat.{ℕ, suc, _+_, _-_, _*_, _/_, _%_, _<_, _≤_}
-use native.Mathlib.Omega.{arith}
-use lib.Dec.{eqb, ltb}
-use lib.ListN.{length, getD, set, take, replicate, length-append, length-set, length-replicate, replicate-append-replicate}
-use lib.Seq.{sets, length-sets, getD-set-same, getD-set-other, drop-set-lt, ext-getD}
-use borrow.Author.Tests.{eqb-true, eqb-false, ltb-true, ltb-false, eq-eqb}
-use Rattle.lists.specs.Lists.{elem, different}
-use Rattle.lists.proofs.Bools.{by-test}
+use Rattle.lists.proofs.Prelude.{true, false, true≢false, List, [], _∷_, _++_, append-nil, append-assoc, _≡_, refl, sym, ap, _∙_, ℕ, suc, _+_, _-_, _*_, _/_, _%_, _<_, _≤_, arith, eqb, ltb, length, getD, set, take, replicate, length-append, length-set, sets, length-sets, getD-set-same, getD-set-other, drop-set-lt, ext-getD, eqb-true, eqb-false, ltb-true, ltb-false, eq-eqb, elem, different, by-test, elem-place, part-set, every-at}
 use Rattle.lists.proofs.Distinct.{different-at}
-use Rattle.lists.proofs.Sets.{elem-place, part-set}
 use Rattle.lists.proofs.Padding.{padded-add, padded-set}
 use Rattle.lists.proofs.Places.{any-at}
-use Rattle.lists.proofs.Tests.{every-at}
 use Rattle.words.specs.Words.{allOnes}
 use Rattle.card.specs.Blocks.{block, onCard}
 use Rattle.card.specs.Chains.{chain, chainRule, content}
@@ -188,22 +176,6 @@ module _ (W bs : List ℕ) (n : ℕ) (long : length W ≡ 1024 * n) (b : Blocks 
   store-over c k vs room h =
       holds-store W bs n long b (sets c k vs) (written (store W bs c) bs k vs) (omega (arith, length-sets c k vs))
       (holds-over (store W bs c) c k vs room h (store-holds W bs n long b c room))
-
-  -- all ones are as good as nothing
-  pub store-ones : (m : ℕ) → m ≤ 1023 * length bs → store W bs [] ≡ store W bs (replicate m allOnes)
-  store-ones m h =
-      let g = store-holds W bs n long b [] (omega arith) in
-      let l = length-replicate m allOnes in
-      holds-store W bs n long b (replicate m allOnes) (store W bs []) (omega arith)
-      (record {
-        long = g .long;
-        links = g .links;
-        rule = g .rule;
-        full = g .full
-            ∙ ap (λ (k : ℕ). replicate k allOnes) (let e : 1023 * length bs - 0 ≡ m + (1023 * length bs - length (replicate m allOnes)) = omega arith in e)
-            ∙ sym (replicate-append-replicate m (1023 * length bs - length (replicate m allOnes)) allOnes);
-        others = g .others;
-      })
 
   -- what is stored over a stored content
   pub store-twice : (c d : List ℕ) → length d ≤ 1023 * length bs → store (store W bs c) bs d ≡ store W bs d

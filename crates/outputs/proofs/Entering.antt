@@ -1,12 +1,5 @@
 -- Entries written one by one, from how many postings each identifier has.
-use mathlib.Core.List.{List, [], _∷_, _++_}
-use mathlib.Core.Path.{_≡_, refl, sym, ap, _∙_}
-use Prim.Native.Nat.{ℕ, suc, _+_, _*_, _<_, _≤_}
-use native.Mathlib.Numerals.{add-one}
-use native.Mathlib.Omega.{arith}
-use lib.ListN.{length, getD, drop, length-append, drop-of-length-le}
-use lib.Seq.{drop-cons}
-use borrow.Author.Tests.{eq-eqb, ne-eqb}
+use Rattle.lists.proofs.Prelude.{List, [], _∷_, _++_, _≡_, refl, sym, ap, _∙_, ℕ, suc, _+_, _*_, _<_, _≤_, add-one, arith, length, getD, drop, length-append, drop-of-length-le, drop-cons, eq-eqb, ne-eqb}
 use Rattle.card.specs.Chains.{chain}
 use Rattle.card.specs.Cursors.{Chained}
 use Rattle.outputs.specs.Contents.{written}

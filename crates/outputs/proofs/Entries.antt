@@ -1,17 +1,5 @@
 -- Entries from the numbers of postings are the entries of the partition's layout.
-use mathlib.Core.Bool.{true, false, not, true≢false}
-use mathlib.Core.List.{List, [], _∷_, map}
-use mathlib.Core.Path.{_≡_, refl, sym, ap, _∙_}
-use Prim.Native.Nat.{ℕ, zero, suc, _+_, _*_, _<_}
-use native.Mathlib.Omega.{arith}
-use lib.Dec.{eqb, ltb, leb}
-use lib.ListN.{length}
-use borrow.Author.Tests.{eqb-true, eqb-false, ne-eqb, ltb-true, ltb-false, lt-ltb, le-ltb, leb-true, le-leb}
-use Rattle.lists.specs.Lists.{keep, every, elem, joined, rising, upTo}
-use Rattle.lists.proofs.Bools.{by-test, and-left, and-right, and-both, or-right}
-use Rattle.lists.proofs.Tests.{every-from, keep-same}
-use Rattle.lists.proofs.Sets.{every-elem, elem-keep}
-use Rattle.lists.proofs.Ranges.{length-joined}
+use Rattle.lists.proofs.Prelude.{true, false, not, true≢false, List, [], _∷_, map, _≡_, refl, sym, ap, _∙_, ℕ, zero, suc, _+_, _*_, _<_, arith, eqb, ltb, leb, length, eqb-true, eqb-false, ne-eqb, ltb-true, ltb-false, lt-ltb, le-ltb, leb-true, le-leb, keep, every, elem, joined, rising, upTo, by-test, and-left, and-right, and-both, or-right, every-from, keep-same, every-elem, elem-keep, length-joined}
 use Rattle.postings.specs.declared.Posting.{Posting}
 use Rattle.postings.specs.Order.{ordered}
 use Rattle.postings.specs.Sums.{under}

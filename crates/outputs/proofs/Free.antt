@@ -1,13 +1,5 @@
 -- A free block is all ones, so what is put to it is its content and its link.
-use mathlib.Core.Bool.{true}
-use mathlib.Core.List.{List, [], _∷_, _++_}
-use mathlib.Core.Logic.{inr}
-use mathlib.Core.Path.{_≡_, sym, _∙_}
-use Prim.Native.Nat.{ℕ, _+_, _*_, _-_, _/_, _<_, _≤_}
-use native.Mathlib.Omega.{arith}
-use lib.ListN.{length, set, replicate, length-append, length-replicate}
-use lib.Seq.{sets}
-use Rattle.lists.proofs.Runs.{getD-sets-out}
+use Rattle.lists.proofs.Prelude.{true, List, [], _∷_, _++_, inr, _≡_, sym, _∙_, ℕ, _+_, _*_, _-_, _/_, _<_, _≤_, arith, length, set, replicate, length-append, length-replicate, sets, getD-sets-out}
 use Rattle.lists.proofs.Stores.{sets-append, sets-same}
 use Rattle.words.specs.Words.{allOnes}
 use Rattle.card.specs.Blocks.{noBlock, isFree}

@@ -1,17 +1,5 @@
 -- The blocks of partitions freed, one partition after another.
-use mathlib.Core.Bool.{Bool, true, false, _&&_, not}
-use mathlib.Core.List.{List, [], _∷_, _++_, map}
-use mathlib.Core.Path.{_≡_, refl, sym, _∙_}
-use Prim.Native.Nat.{ℕ, _+_, _*_, _<_, _≤_}
-use native.Mathlib.Omega.{arith}
-use lib.ListN.{length, getD, take, drop, replicate}
-use lib.Seq.{sets}
-use Rattle.lists.specs.All.{AllOf}
-use Rattle.lists.specs.Lists.{every, elem, different, joined}
-use Rattle.lists.proofs.Bools.{and-left, and-right, and-both}
-use Rattle.lists.proofs.Runs.{apart as apartBy, apart-append, apart-none}
-use Rattle.lists.proofs.Tests.{every-append}
-use Rattle.lists.proofs.Turns.{used-turn, used-end}
+use Rattle.lists.proofs.Prelude.{Bool, true, false, _&&_, not, List, [], _∷_, _++_, map, _≡_, refl, sym, _∙_, ℕ, _+_, _*_, _<_, _≤_, arith, length, getD, take, drop, replicate, sets, AllOf, every, elem, different, joined, and-left, and-right, and-both, apart as apartBy, apart-append, apart-none, every-append, used-turn, used-end}
 use Rattle.words.specs.Words.{allOnes}
 use Rattle.state.specs.declared.Partition.{Partition}
 use Rattle.card.specs.Chains.{blocksFor}

@@ -1,18 +1,5 @@
 -- Free blocks linked one to the next, in the order of taking.
-use mathlib.Core.Bool.{true, false, not, _&&_}
-use mathlib.Core.List.{List, [], _∷_, _++_}
-use mathlib.Core.Path.{_≡_, refl, sym, ap, _∙_}
-use Prim.Native.Nat.{ℕ, suc, _+_, _-_, _*_, _<_, _≤_}
-use native.Mathlib.Numerals.{add-one}
-use native.Mathlib.Omega.{arith}
-use lib.Dec.{eqb, ltb}
-use lib.ListN.{length, getD, set, take, drop, length-set, length-append, drop-of-length-le}
-use lib.Seq.{drop-cons, getD-take, getD-set-same, drop-set-lt, length-take-le}
-use borrow.Author.Tests.{eqb-true, eqb-false, ltb-true, ltb-false}
-use Rattle.lists.specs.Lists.{keep, every}
-use Rattle.lists.proofs.Bools.{by-test, and-left, and-right}
-use Rattle.lists.proofs.Sets.{part-set}
-use Rattle.lists.proofs.Tests.{every-append}
+use Rattle.lists.proofs.Prelude.{true, false, not, _&&_, List, [], _∷_, _++_, _≡_, refl, sym, ap, _∙_, ℕ, suc, _+_, _-_, _*_, _<_, _≤_, add-one, arith, eqb, ltb, length, getD, set, take, drop, length-set, length-append, drop-of-length-le, drop-cons, getD-take, getD-set-same, drop-set-lt, length-take-le, eqb-true, eqb-false, ltb-true, ltb-false, keep, every, by-test, and-left, and-right, part-set, every-append}
 use Rattle.words.specs.Words.{allOnes}
 use Rattle.card.specs.Blocks.{noBlock, block, link, isFree, afterTaken, freeBlocks}
 use Rattle.card.specs.declared.Free.{Free}

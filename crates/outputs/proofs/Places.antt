@@ -1,16 +1,5 @@
 -- The block to write to, found along a chain.
-use mathlib.Core.Bool.{true, false, _&&_}
-use mathlib.Core.List.{List}
-use mathlib.Core.Logic.{_⊎_, inl, inr, ⊎-elim}
-use mathlib.Core.Path.{_≡_, refl, ap, _∙_}
-use Prim.Native.Nat.{ℕ, zero, suc, _-_, _*_, _/_, _%_, _<_, _≤_}
-use native.Mathlib.Omega.{arith}
-use lib.Dec.{eqb, ltb}
-use lib.ListN.{getD}
-use borrow.Author.Tests.{eqb-true, eqb-false, ltb-true, ltb-false}
-use Rattle.lists.specs.Lists.{every}
-use Rattle.lists.proofs.Arrays.{of-at}
-use Rattle.lists.proofs.Bools.{by-test, and-left, and-right}
+use Rattle.lists.proofs.Prelude.{true, false, _&&_, List, _⊎_, inl, inr, ⊎-elim, _≡_, refl, ap, _∙_, ℕ, zero, suc, _-_, _*_, _/_, _%_, _<_, _≤_, arith, eqb, ltb, getD, eqb-true, eqb-false, ltb-true, ltb-false, every, of-at, by-test, and-left, and-right}
 use Rattle.words.specs.Words.{allOnes}
 use Rattle.card.specs.Blocks.{link}
 use Rattle.card.specs.Chains.{chain}

@@ -1,17 +1,5 @@
 -- The order of taking from another block on: the blocks turned round.
-use mathlib.Core.Bool.{Bool, true, false, not, _&&_}
-use mathlib.Core.List.{List, [], _∷_, _++_}
-use mathlib.Core.Logic.{_⊎_, inl, inr, ⊎-elim}
-use mathlib.Core.Path.{_≡_, refl, sym, ap, _∙_}
-use Prim.Native.Nat.{ℕ, suc, _+_, _-_, _<_}
-use native.Mathlib.Omega.{arith}
-use lib.Dec.{eqb, ltb}
-use lib.ListN.{length, getD, take, drop, length-append, length-drop, List·getD-append}
-use lib.Seq.{length-take-le, getD-append-add, getD-take, getD-drop, take-suc, ext-getD}
-use borrow.Author.Tests.{ltb-true, ltb-false, eqb-false, eq-eqb, ne-eqb, not-true}
-use Rattle.lists.specs.Lists.{keep, elem, different}
-use Rattle.lists.proofs.Bools.{by-test, and-left, and-right, or-none}
-use Rattle.lists.proofs.Tests.{keep-append, any-append}
+use Rattle.lists.proofs.Prelude.{Bool, true, false, not, _&&_, List, [], _∷_, _++_, _⊎_, inl, inr, ⊎-elim, _≡_, refl, sym, ap, _∙_, ℕ, suc, _+_, _-_, _<_, arith, eqb, ltb, length, getD, take, drop, length-append, length-drop, List·getD-append, length-take-le, getD-append-add, getD-take, getD-drop, take-suc, ext-getD, ltb-true, ltb-false, eqb-false, eq-eqb, ne-eqb, not-true, keep, elem, different, by-test, and-left, and-right, or-none, keep-append, any-append}
 use Rattle.card.specs.Blocks.{isFree, afterTaken, freeBlocks}
 use Rattle.card.proofs.Taking.{length-after, after-up, after-round}
 

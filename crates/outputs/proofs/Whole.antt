@@ -1,13 +1,5 @@
 -- Header, entries and postings written to a chain that holds nothing are the partition stored.
-use mathlib.Core.Bool.{true}
-use mathlib.Core.List.{List, [], _++_, map, append-assoc}
-use mathlib.Core.Path.{_≡_, refl, ap, _∙_}
-use Prim.Native.Nat.{ℕ, _+_, _*_, _≤_}
-use native.Mathlib.Omega.{arith}
-use lib.Dec.{leb}
-use lib.ListN.{length, length-append, length-map}
-use Rattle.lists.specs.Lists.{every, joined, upTo}
-use Rattle.lists.proofs.Ranges.{length-joined}
+use Rattle.lists.proofs.Prelude.{true, List, [], _++_, map, append-assoc, _≡_, refl, ap, _∙_, ℕ, _+_, _*_, _≤_, arith, leb, length, length-append, length-map, every, joined, upTo, length-joined}
 use Rattle.postings.specs.declared.Posting.{Posting}
 use Rattle.postings.specs.Order.{ordered}
 use Rattle.postings.specs.Sums.{under}

@@ -1,12 +1,5 @@
 -- Words written one after another along a chain: its links stay as they are.
-use mathlib.Core.List.{List, [], _∷_, _++_}
-use mathlib.Core.Path.{_≡_, refl, sym, ap, _∙_}
-use Prim.Native.Nat.{ℕ, zero, suc, _+_, _-_, _*_, _/_, _%_, _<_, _≤_}
-use native.Mathlib.Numerals.{add-one}
-use native.Mathlib.Omega.{arith}
-use lib.ListN.{length, getD, set, drop, length-set, drop-of-length-le}
-use lib.Seq.{drop-cons, getD-set-other}
-use Rattle.lists.specs.All.{AllOf}
+use Rattle.lists.proofs.Prelude.{List, [], _∷_, _++_, _≡_, refl, sym, ap, _∙_, ℕ, zero, suc, _+_, _-_, _*_, _/_, _%_, _<_, _≤_, add-one, arith, length, getD, set, drop, length-set, drop-of-length-le, drop-cons, getD-set-other, AllOf}
 use Rattle.card.specs.Blocks.{link}
 use Rattle.card.specs.Chains.{chain, chainRule}
 use Rattle.card.specs.Cursors.{InCard, Chained}

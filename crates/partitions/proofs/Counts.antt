@@ -1,17 +1,5 @@
 -- How many postings each identifier has, posting by posting.
-use mathlib.Core.Bool.{Bool, true, false, not, cond}
-use mathlib.Core.List.{List, [], _∷_, _++_, map}
-use mathlib.Core.Path.{_≡_, refl, sym, ap, _∙_}
-use Prim.Native.Nat.{ℕ, zero, suc, _+_, _<_, _≤_}
-use native.Mathlib.Omega.{arith}
-use lib.Dec.{eqb}
-use lib.ListN.{length, getD, set, replicate, length-append, length-map, length-set}
-use lib.Seq.{ext-getD, getD-set-same, getD-set-other}
-use borrow.Author.Tests.{eqb-true, eqb-false, eq-eqb, ne-eqb}
-use Rattle.lists.specs.Lists.{keep, rising, upTo}
-use Rattle.lists.proofs.Bools.{by-test}
-use Rattle.lists.proofs.Tests.{keep-append}
-use Rattle.lists.proofs.Ranges.{length-rising, upTo-at}
+use Rattle.lists.proofs.Prelude.{Bool, true, false, not, cond, List, [], _∷_, _++_, map, _≡_, refl, sym, ap, _∙_, ℕ, zero, suc, _+_, _<_, _≤_, arith, eqb, length, getD, set, replicate, length-append, length-map, length-set, ext-getD, getD-set-same, getD-set-other, eqb-true, eqb-false, eq-eqb, ne-eqb, keep, rising, upTo, by-test, keep-append, length-rising, upTo-at}
 use Rattle.postings.specs.declared.Posting.{Posting}
 use Rattle.postings.specs.Sums.{under}
 use Rattle.partitions.specs.Layout.{identifiersOf, termCount}

@@ -1,12 +1,5 @@
 -- What is read of a partition's words, whatever stands past them: header, entries and postings.
-use mathlib.Core.List.{List, _++_, map, map-id, append-assoc}
-use mathlib.Core.Path.{_≡_, refl, ap, _∙_}
-use Prim.Native.Nat.{ℕ, _+_, _*_, _<_}
-use native.Mathlib.Omega.{arith}
-use lib.ListN.{length, getD, drop}
-use lib.Seq.{getD-append-add, drop-append-add, drop-at}
-use Rattle.lists.specs.Lists.{joined, upTo}
-use Rattle.lists.proofs.Ranges.{map-upTo, length-joined, joined-at}
+use Rattle.lists.proofs.Prelude.{List, _++_, map, map-id, append-assoc, _≡_, refl, ap, _∙_, ℕ, _+_, _*_, _<_, arith, length, getD, drop, getD-append-add, drop-append-add, drop-at, joined, upTo, map-upTo, length-joined, joined-at}
 use Rattle.postings.specs.declared.Posting.{Posting}
 use Rattle.postings.specs.Sums.{under}
 use Rattle.partitions.specs.Layout.{identifiersOf, termCount, entryOf, wordOf, header, encode}

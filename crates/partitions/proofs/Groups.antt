@@ -1,19 +1,5 @@
 -- Ordered postings stand in groups, one for each identifier, by rising identifier.
-use mathlib.Core.Bool.{Bool, true, not}
-use mathlib.Core.List.{List, [], _∷_, _++_, map, tail-eq-of-cons-eq}
-use mathlib.Core.Logic.{_⊎_, inl, inr}
-use mathlib.Core.Path.{_≡_, refl, sym, ap, _∙_}
-use Prim.Native.Nat.{ℕ, suc, _+_, _<_, _≤_}
-use native.Mathlib.Nat.{add-zero}
-use native.Mathlib.Omega.{arith}
-use lib.Dec.{eqb, ltb, leb}
-use lib.ListN.{length}
-use borrow.Author.Tests.{ltb-true, ltb-false, leb-true, eqb-true, eqb-false, lt-ltb, le-ltb, le-leb, eq-eqb, ne-eqb, not-true}
-use Rattle.lists.specs.Lists.{keep, every, totalBy, joined}
-use Rattle.lists.proofs.Bools.{by-test, and-left, and-right, and-both}
-use Rattle.lists.proofs.Tests.{every-from, every-keep, every-kept, keep-all, keep-none}
-use Rattle.lists.proofs.Sets.{none-from}
-use Rattle.lists.proofs.Ranges.{map-where, length-all}
+use Rattle.lists.proofs.Prelude.{Bool, true, not, List, [], _∷_, _++_, map, tail-eq-of-cons-eq, _⊎_, inl, inr, _≡_, refl, sym, ap, _∙_, ℕ, suc, _+_, _<_, _≤_, add-zero, arith, eqb, ltb, leb, length, ltb-true, ltb-false, leb-true, eqb-true, eqb-false, lt-ltb, le-ltb, le-leb, eq-eqb, ne-eqb, not-true, keep, every, totalBy, joined, by-test, and-left, and-right, and-both, every-from, every-keep, every-kept, keep-all, keep-none, none-from, map-where, length-all}
 use Rattle.postings.specs.declared.Posting.{Posting}
 use Rattle.postings.specs.Order.{precedes, ordered}
 use Rattle.postings.specs.Sums.{under}

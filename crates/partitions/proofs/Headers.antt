@@ -1,14 +1,5 @@
 -- What a header's rule says, and where its words lie.
-use mathlib.Core.Bool.{true}
-use mathlib.Core.List.{List}
-use mathlib.Core.Logic.{inl}
-use mathlib.Core.Path.{_≡_, sym, ap, _∙_}
-use Prim.Native.Nat.{ℕ, _+_, _*_, _<_, _≤_}
-use native.Mathlib.Omega.{arith}
-use lib.Dec.{eqb}
-use lib.ListN.{length, getD, drop, length-take}
-use lib.Seq.{getD-take, getD-drop}
-use borrow.Author.Tests.{le-leb, eq-eqb}
+use Rattle.lists.proofs.Prelude.{true, List, inl, _≡_, sym, ap, _∙_, ℕ, _+_, _*_, _<_, _≤_, arith, length, getD, drop, length-take, getD-take, getD-drop}
 use Rattle.state.specs.declared.Partition.{Partition}
 use Rattle.card.specs.Chains.{blocksFor, chain, content}
 use Rattle.card.specs.Cursors.{wordIn, InCard, Chained, aheadAt}
@@ -20,21 +11,6 @@ use Rattle.partitions.specs.Reading.{field, chainOf}
 use Rattle.partitions.specs.Formed.{headerRule}
 use Rattle.partitions.specs.Headers.{headerIn, headerWords}
 use Rattle.partitions.proofs.Lookup.{headed}
-
--- where the others are right, the last word decides
-pub header-last : (p : Partition) (c : List ℕ) → 1 ≤ field c 0 → 1 ≤ field c 1 → field c 2 ≡ 32 → field c 3 ≡ 32 + 12 * field c 0
-    → field c 4 ≡ totalLength (field c 0) (field c 1) → field c 4 ≡ p .length → field c 5 ≡ p .level → field c 6 ≡ 0 → headerRule p c ≡ eqb (field c 7) 0
-header-last p c a b d e f g i j =
-    rw (
-      le-leb 1 (field c 0) a,
-      le-leb 1 (field c 1) b,
-      eq-eqb (field c 2) 32 d,
-      eq-eqb (field c 3) (32 + 12 * field c 0) e,
-      eq-eqb (field c 4) (totalLength (field c 0) (field c 1)) f,
-      eq-eqb (field c 4) (p .length) g,
-      eq-eqb (field c 5) (p .level) i,
-      eq-eqb (field c 6) 0 j,
-    )
 
 -- the content of a chain
 module _ (W : List ℕ) (b n : ℕ) (g : Chained W b n) where

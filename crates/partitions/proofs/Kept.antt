@@ -1,14 +1,5 @@
 -- A partition that is written to free blocks is read back, and every other one is read as before.
-use mathlib.Core.Bool.{true, _&&_}
-use mathlib.Core.List.{List, [], _∷_, _++_}
-use mathlib.Core.Path.{_≡_, refl, sym, ap, ap₂, _∙_}
-use Prim.Native.Nat.{ℕ, _+_, _*_, _-_, _≤_}
-use native.Mathlib.Omega.{arith}
-use lib.ListN.{length, getD, replicate}
-use Rattle.lists.specs.Lists.{every, different}
-use Rattle.lists.specs.All.{AllOf}
-use Rattle.lists.proofs.Bools.{and-left, and-right, and-both}
-use Rattle.lists.proofs.Tests.{every-from}
+use Rattle.lists.proofs.Prelude.{true, _&&_, List, [], _∷_, _++_, _≡_, refl, sym, ap, ap₂, _∙_, ℕ, _+_, _*_, _-_, _≤_, arith, length, getD, replicate, every, different, AllOf, and-left, and-right, and-both, every-from}
 use Rattle.words.specs.Words.{allOnes}
 use Rattle.postings.specs.declared.Posting.{Posting}
 use Rattle.state.specs.declared.Partition.{Partition}

@@ -1,17 +1,5 @@
 -- The entries of a partition word by word: their rule, and the postings that they lead to.
-use mathlib.Core.Bool.{Bool, true, false, _&&_, and-false}
-use mathlib.Core.List.{List, [], _∷_, _++_, map, append-nil}
-use mathlib.Core.Path.{_≡_, refl, sym, ap, ap₂, _∙_}
-use Prim.Native.Nat.{ℕ, zero, suc, _+_, _-_, _*_, _<_, _≤_}
-use native.Mathlib.Numerals.{add-one}
-use native.Mathlib.Omega.{arith}
-use lib.Dec.{eqb, leb, ltb}
-use lib.ListN.{length, getD, take, drop}
-use borrow.Author.Tests.{leb-true, eqb-true, le-leb}
-use Rattle.lists.specs.Lists.{every, totalBy, joined, rising, upTo, same}
-use Rattle.lists.proofs.Bools.{by-test, and-left, and-right}
-use Rattle.lists.proofs.Tests.{every-from, keep-append}
-use Rattle.lists.proofs.Runs.{never}
+use Rattle.lists.proofs.Prelude.{Bool, true, false, _&&_, and-false, List, [], _∷_, _++_, map, append-nil, _≡_, refl, sym, ap, ap₂, _∙_, ℕ, zero, suc, _+_, _-_, _*_, _<_, _≤_, add-one, arith, eqb, leb, ltb, length, getD, take, drop, leb-true, eqb-true, le-leb, every, totalBy, joined, rising, upTo, same, by-test, and-left, and-right, every-from, keep-append, never}
 use Rattle.lists.proofs.Sections.{and-absorb, drop-three}
 use Rattle.postings.specs.declared.Posting.{Posting}
 use Rattle.postings.specs.Pack.{posted}
@@ -194,10 +182,6 @@ module _ (total : ℕ) where
   pub resumed-done : (next sum : ℕ) (es : List ℕ) → es ≡ [] → resumed total next sum es ≡ eqb sum total
   unfolding resumed
   resumed-done next sum es e = rw e
-
--- a number and a count that are right leave the first index to decide
-pub term-last : (next sum i n f : ℕ) → next ≤ i → i ≤ 1023 → 1 ≤ n → termRule next sum i n f ≡ eqb f sum
-term-last next sum i n f a b d = rw (le-leb next i a, le-leb i 1023 b, le-leb 1 n d)
 
 module _ (xs : List ℕ) where
   -- no entries lead to no postings

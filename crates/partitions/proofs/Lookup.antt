@@ -1,18 +1,5 @@
 -- What the rules say of a partition that is read: its header, its entries, and the postings of one identifier.
-use mathlib.Core.Bool.{Bool, true, _&&_}
-use mathlib.Core.List.{List, [], _∷_, map}
-use mathlib.Core.Path.{_≡_, refl, sym, ap, _∙_}
-use Prim.Native.Nat.{ℕ, zero, suc, _+_, _*_, _<_, _≤_}
-use native.Mathlib.Omega.{arith}
-use lib.Dec.{eqb, ltb, leb}
-use lib.ListN.{length, getD, take, drop, length-map, length-take, length-drop}
-use borrow.Author.Tests.{ltb-true, ltb-false, leb-true, eqb-true, eq-eqb, ne-eqb}
-use Rattle.lists.specs.Lists.{every, totalBy, same, upTo}
-use Rattle.lists.proofs.Bools.{by-test, and-left, and-right}
-use Rattle.lists.proofs.Tests.{every-at}
-use Rattle.lists.proofs.Same.{same-true}
-use Rattle.lists.proofs.Sets.{every-elem}
-use Rattle.lists.proofs.Ranges.{length-rising, elem-rising, total-rising, upTo-at, total-map, length-all, keep-joined, joined-none, joined-one}
+use Rattle.lists.proofs.Prelude.{Bool, true, _&&_, List, [], _∷_, map, _≡_, refl, sym, ap, _∙_, ℕ, zero, suc, _+_, _*_, _<_, _≤_, arith, eqb, ltb, leb, length, getD, take, drop, length-map, length-take, length-drop, ltb-true, leb-true, eqb-true, eq-eqb, ne-eqb, every, totalBy, same, upTo, and-left, and-right, every-at, same-true, every-elem, length-rising, elem-rising, total-rising, upTo-at, total-map, length-all}
 use Rattle.postings.specs.Pack.{posted}
 use Rattle.postings.specs.Sums.{under}
 use Rattle.state.specs.declared.Partition.{Partition}
@@ -161,28 +148,6 @@ pub under-other : (n i : ℕ) (ws : List ℕ) → (n ≡ i → ⊥) → under i 
 under-other n i [] h = refl
 under-other n i (w ∷ ws) h = rw (ne-eqb n i h) (under-other n i ws h)
 
--- the postings under the number of an entry are that entry's list
-pub under-entry : (c : List ℕ) → entriesRule c ≡ true → (j : ℕ) → j < field c 0 → under (entryNumber c j) (decode c) ≡ listOf c j
-unfolding decode
-under-entry c e j h =
-    let i = entryNumber c j in
-    let r = entered c e in
-    keep-joined (λ p. eqb (p .id) i) (listOf c) (upTo (field c 0))
-    ∙ joined-one (λ k. under i (listOf c k)) 0 (field c 0) j (omega arith) (omega arith)
-    (λ k a b d. under-other (entryNumber c k) i (take (entryCount c k) (drop (entryFirst c k) (postingWords c)))
-    (λ q. by-test (ltb k j)
-    (λ y. omega (arith, r .rise k j (ltb-true k j y) h))
-    (λ n. omega (arith, r .rise j k (omega (arith, d, ltb-false k j n)) (omega arith)))))
-    ∙ under-own i (take (entryCount c j) (drop (entryFirst c j) (postingWords c)))
-
--- and under a number that no entry has there are none
-pub under-none : (c : List ℕ) (i : ℕ) → ((j : ℕ) → j < field c 0 → entryNumber c j ≡ i → ⊥) → under i (decode c) ≡ []
-unfolding decode
-under-none c i h =
-    keep-joined (λ p. eqb (p .id) i) (listOf c) (upTo (field c 0))
-    ∙ joined-none (λ k. under i (listOf c k)) 0 (field c 0)
-    (λ k a b. under-other (entryNumber c k) i (take (entryCount c k) (drop (entryFirst c k) (postingWords c))) (h k (omega arith)))
-
 -- How many ---------------------------------------------------------------------------------------------------------
 
 -- where the content has the words that the header speaks of
@@ -210,18 +175,6 @@ module _ (c : List ℕ) (e : entriesRule c ≡ true) (h : 8 + 3 * field c 0 + fi
 -- On a card --------------------------------------------------------------------------------------------------------
 
 module _ (W : List ℕ) (limit : ℕ) (p : Partition) (e : partitionRule W limit p ≡ true) where
-  -- the postings under an entry's number
-  pub postings-entry : (j : ℕ) → j < field (content W (chainOf W p)) 0
-      → under (entryNumber (content W (chainOf W p)) j) (postingsOf W p) ≡ listOf (content W (chainOf W p)) j
-  unfolding postingsOf
-  postings-entry j h = under-entry (content W (chainOf W p)) (rule-entries W limit p e) j h
-
-  -- and under a number that no entry has
-  pub postings-none : (i : ℕ) → ((j : ℕ) → j < field (content W (chainOf W p)) 0 → entryNumber (content W (chainOf W p)) j ≡ i → ⊥)
-      → under i (postingsOf W p) ≡ []
-  unfolding postingsOf
-  postings-none i h = under-none (content W (chainOf W p)) i h
-
   -- its blocks have all of its words
   pub words-room : length W ≡ 1024 * limit → 8 + 3 * field (content W (chainOf W p)) 0 + field (content W (chainOf W p)) 1 ≤ length (content W (chainOf W p))
   words-room long =

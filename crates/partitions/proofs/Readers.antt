@@ -1,21 +1,11 @@
 -- Laws of a reader: what it has still to come, posting by posting.
-use mathlib.Core.Bool.{true, cond, _&&_}
-use mathlib.Core.List.{List, [], _∷_, _++_, map}
-use mathlib.Core.Path.{_≡_, refl, sym, ap, ap₂, _∙_}
-use Prim.Native.Nat.{ℕ, suc, _+_, _-_, _%_, _<_, _≤_}
-use native.Mathlib.Omega.{arith}
-use lib.Dec.{leb, ltb}
-use lib.ListN.{length, getD, take, drop, length-drop}
-use lib.Seq.{length-take-le}
-use borrow.Author.Tests.{lt-ltb, ltb-true, ltb-false, leb-true, eqb-true}
-use Rattle.lists.proofs.Bools.{by-test, and-left, and-right}
-use Rattle.lists.proofs.Runs.{never}
+use Rattle.lists.proofs.Prelude.{true, cond, _&&_, List, [], _∷_, _++_, map, _≡_, refl, sym, ap, ap₂, _∙_, ℕ, suc, _+_, _-_, _%_, _<_, _≤_, arith, leb, ltb, length, getD, take, drop, length-drop, length-take-le, lt-ltb, ltb-true, ltb-false, leb-true, eqb-true, by-test, and-left, and-right, never}
 use Rattle.lists.proofs.Sections.{part-add}
 use Rattle.postings.specs.declared.Posting.{Posting}
 use Rattle.postings.specs.Pack.{posted}
 use Rattle.card.specs.declared.Cursor.{Cursor}
 use Rattle.card.specs.Cursors.{ahead, headOf, movedOf}
-use Rattle.card.proofs.Cursors.{ahead-more, good-moved, length-ahead}
+use Rattle.card.proofs.Cursors.{ahead-more, good-moved}
 use Rattle.partitions.specs.declared.Reader.{Reader}
 use Rattle.partitions.specs.Terms.{pastEntry}
 use Rattle.partitions.specs.Readers.{postedBy, postingsAhead, numbered, GoodReader, firstAhead, movedReader}
@@ -78,20 +68,7 @@ resumed-numbered total next sum (i ∷ n ∷ f ∷ es) e =
     let a = and-left (leb next i && (leb i 1023 && _)) _ e in
     rw (and-left (leb i 1023) _ (and-right (leb next i) _ a)) (resumed-numbered total (suc i) (sum + n) es (and-right (leb next i && (leb i 1023 && _)) _ e))
 
-length-posted : (id here : ℕ) (xs es : List ℕ) → length (postedBy id here xs es) ≡ length xs
-unfolding postedBy
-length-posted id here [] es = refl
-length-posted id here (x ∷ xs) es =
-    by-test (ltb 1 here)
-    (λ y. rw y (ap suc (length-posted id (here - 1) xs es)))
-    (λ y. rw y (ap suc (length-posted (getD es 0 0) (getD es 1 0) xs (drop 3 es))))
-
 module _ (W : List ℕ) where
-  -- a reader has as many postings to come as its cursor on the postings has words
-  pub length-reader : (r : Reader) → length (postingsAhead W r) ≡ r .postings .left
-  unfolding postingsAhead
-  length-reader r = length-posted (r .id) (r .here) (ahead W (r .postings)) (ahead W (r .entries)) ∙ length-ahead W (r .postings)
-
   -- a reader at its end has none
   pub reader-none : (r : Reader) → r .postings .left ≡ 0 → postingsAhead W r ≡ []
   unfolding postingsAhead postedBy

@@ -1,27 +1,15 @@
 -- What is written as a partition keeps every rule of a partition that is read.
-use mathlib.Core.Bool.{true}
-use mathlib.Core.List.{List, _++_, map}
-use mathlib.Core.Path.{_≡_, refl, sym, ap, _∙_}
-use Prim.Native.Nat.{ℕ, _+_, _*_, _≤_}
-use native.Mathlib.Nat.{zero-add}
-use lib.Dec.{eqb, leb}
-use lib.ListN.{length}
-use borrow.Author.Tests.{le-leb, eq-eqb}
-use Rattle.lists.specs.Lists.{every, totalBy, same, upTo}
-use Rattle.lists.proofs.Bools.{and-left, and-both}
-use Rattle.lists.proofs.Ranges.{every-map, total-map}
-use Rattle.lists.proofs.Same.{same-refl}
+use Rattle.lists.proofs.Prelude.{true, List, _++_, map, _≡_, refl, sym, ap, _∙_, ℕ, _+_, _*_, _≤_, zero-add, eqb, leb, length, le-leb, eq-eqb, every, totalBy, same, upTo, and-left, and-both, every-map, total-map, same-refl}
 use Rattle.postings.specs.declared.Posting.{Posting}
 use Rattle.postings.specs.Order.{ordered}
 use Rattle.postings.specs.Sums.{under}
 use Rattle.state.specs.declared.Partition.{Partition}
 use Rattle.partitions.specs.Layout.{identifiersOf, termCount, totalLength, lengthOf, encode}
-use Rattle.partitions.specs.Reading.{field, entryNumber, entryCount, entryFirst, decode}
-use Rattle.partitions.specs.Formed.{headerRule, entriesRule, ascending, running, listRule, inRange}
+use Rattle.partitions.specs.Reading.{field, entryNumber, entryCount, entryFirst}
+use Rattle.partitions.specs.Formed.{headerRule, entriesRule, ascending, running, listRule}
 use Rattle.partitions.proofs.Groups.{lower, every-identifier, identifiers-ascending, groups-some, groups-total, groups-running}
 use Rattle.partitions.proofs.Lengths.{terms-some}
 use Rattle.partitions.proofs.Entries.{field-postings, numbers-encoded, counts-encoded, firsts-encoded}
-use Rattle.partitions.proofs.Trips.{decode-encode}
 
 -- a list that may be used is in order
 pub list-ordered : (ps : List Posting) → listRule ps ≡ true → ordered ps ≡ true
@@ -65,7 +53,3 @@ module _ (level : ℕ) (ps : List Posting) (rest : List ℕ) where
       (eq-eqb (totalBy (entryCount c) js) (field c 1)
       (sym (total-map (λ k. k) (entryCount c) js) ∙ ap (totalBy (λ k. k)) cs ∙ total-map (λ k. k) (λ i. length (under i ps)) (identifiersOf ps)
       ∙ groups-total ps o ∙ sym (field-postings level ps rest))))))
-
-  -- the lists
-  pub list-rule : listRule ps ≡ true → every (λ p. inRange (p .count)) ps ≡ true → listRule (decode (encode level ps ++ rest)) ≡ true
-  list-rule e f = ap listRule (decode-encode level ps rest (list-ordered ps e) f) ∙ e

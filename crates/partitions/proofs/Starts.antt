@@ -1,12 +1,5 @@
 -- Where entries and postings of a partition begin, and what is known there.
-use mathlib.Core.Bool.{Bool, true, false, _&&_}
-use mathlib.Core.List.{List, _∷_, map}
-use mathlib.Core.Path.{_≡_, sym, ap, ap₂, _∙_}
-use Prim.Native.Nat.{ℕ, zero, suc, _+_, _-_, _*_, _<_, _≤_}
-use native.Mathlib.Omega.{arith}
-use lib.ListN.{length, take, drop, length-drop}
-use lib.Seq.{drop-drop, length-take-le}
-use Rattle.lists.proofs.Runs.{never}
+use Rattle.lists.proofs.Prelude.{Bool, true, false, _&&_, List, _∷_, map, _≡_, sym, ap, ap₂, _∙_, ℕ, zero, suc, _+_, _-_, _*_, _<_, _≤_, arith, length, take, drop, length-drop, drop-drop, length-take-le, never}
 use Rattle.postings.specs.Pack.{posted}
 use Rattle.postings.specs.Sums.{under}
 use Rattle.state.specs.declared.Partition.{Partition}

@@ -1,16 +1,5 @@
 -- Postings that were written as a partition are read back, whatever stands past its words.
-use mathlib.Core.Bool.{true}
-use mathlib.Core.List.{List, [], _∷_, _++_, map, append-nil}
-use mathlib.Core.Path.{_≡_, refl, sym, ap, ap₂, _∙_}
-use Prim.Native.Nat.{ℕ, _<_, _≤_}
-use lib.Dec.{eqb}
-use lib.IntN.{natAbs}
-use lib.ListN.{length, getD, take, drop}
-use borrow.Author.Tests.{eqb-true, leb-true}
-use Rattle.lists.specs.Lists.{every, joined, upTo}
-use Rattle.lists.proofs.Bools.{and-left, and-right}
-use Rattle.lists.proofs.Tests.{every-keep, every-kept}
-use Rattle.lists.proofs.Ranges.{map-upTo, map-middle}
+use Rattle.lists.proofs.Prelude.{true, List, [], _∷_, _++_, map, _≡_, refl, ap, ap₂, _∙_, ℕ, _<_, _≤_, eqb, natAbs, length, getD, take, drop, eqb-true, leb-true, every, joined, upTo, and-left, and-right, every-keep, every-kept, map-upTo, map-middle}
 use Rattle.postings.specs.declared.Posting.{Posting}
 use Rattle.postings.specs.Order.{ordered}
 use Rattle.postings.specs.Pack.{posted}
@@ -57,7 +46,3 @@ module _ (level : ℕ) (ps : List Posting) (rest : List ℕ) (o : ordered ps ≡
       ap (λ (k : ℕ). joined (map (listOf c) (upTo k))) (field-terms level ps rest)
       ∙ ap joined (map-upTo (listOf c) (λ i. under i ps) (identifiersOf ps) 0 (termCount ps) refl list-encoded)
       ∙ grouped ps o
-
--- also where nothing stands past them
-pub decode-whole : (level : ℕ) (ps : List Posting) → ordered ps ≡ true → every (λ p. inRange (p .count)) ps ≡ true → decode (encode level ps) ≡ ps
-decode-whole level ps o f = ap decode (sym (append-nil (encode level ps))) ∙ decode-encode level ps [] o f

@@ -7,7 +7,7 @@ ghost use mathlib.Core.Path.{_≡_};
 ghost use mathlib.Core.List.{map, _∷_};
 ghost use Prim.Native.Nat.{_+_, _*_, _≤_, _<_};
 ghost use lib.ListN.{length};
-ghost use Rattle.lists.specs.Lists.{every, different};
+ghost use Rattle.lists.specs.Lists.{every};
 ghost use Rattle.words.specs.Words.{words as wordsOf};
 ghost use Rattle.postings.specs.Pack.{posted};
 ghost use Rattle.postings.specs.Sums.{under};
@@ -16,7 +16,7 @@ ghost use Rattle.state.specs.Rules.{recordRule};
 ghost use Rattle.card.specs.Chains.{blocksFor, content};
 ghost use Rattle.card.specs.Cursors.{InCard, Chained, Good, ahead};
 ghost use Rattle.partitions.specs.Reading.{chainOf, postingsOf};
-ghost use Rattle.partitions.specs.Formed.{headerRule, entriesRule, partitionRule, chainsOf, partitionsFormed};
+ghost use Rattle.partitions.specs.Formed.{headerRule, entriesRule, partitionRule, partitionsFormed};
 ghost use Rattle.partitions.specs.Headers.{headerIn, headerWords};
 ghost use Rattle.partitions.specs.Terms.{EntriesAt, termRule, entryAhead, Readable};
 ghost use Rattle.partitions.specs.Readers.{postingsAhead, GoodReader, firstAhead, movedReader};
@@ -71,31 +71,10 @@ fn header_fits(h: Header, p: Partition) -> bool
 {
     let postings_at = 32 + 12 * h.terms as u64;
     let total = postings_at + 4 * h.count as u64;
-    if h.terms == 0 {
-        return false;
-    }
-    if h.count == 0 {
-        return false;
-    }
-    if h.entries != 32 {
-        return false;
-    }
-    if h.postings as u64 != postings_at {
-        return false;
-    }
-    if h.total as u64 != total {
-        return false;
-    }
-    if h.total != p.length {
-        return false;
-    }
-    if h.level != p.level as u32 {
-        return false;
-    }
-    if h.spare != 0 {
-        return false;
-    }
-    h.last == 0
+    let zeros = (h.spare == 0) & (h.last == 0);
+    let recorded = (h.total == p.length) & ((h.level == p.level as u32) & zeros);
+    let placed = (h.postings as u64 == postings_at) & ((h.total as u64 == total) & recorded);
+    (h.terms >= 1) & ((h.count >= 1) & ((h.entries == 32) & placed))
 }
 
 // Whether a partition's header keeps its rule.
@@ -138,16 +117,7 @@ fn entry_at(card: &[u8], e: Cursor) -> Entry
 fn entry_ok(e: Entry, next: u32, sum: u64) -> bool
     ensures { λ r. ⌜ r ≡ termRule next sum (e .number) (e .count) (e .first) ⌝ }
 {
-    if e.number < next {
-        return false;
-    }
-    if 1023 < e.number {
-        return false;
-    }
-    if e.count == 0 {
-        return false;
-    }
-    e.first as u64 == sum
+    (e.number >= next) & ((e.number <= 1023) & ((e.count >= 1) & (e.first as u64 == sum)))
 }
 
 // The cursor on all entries of a partition.
@@ -197,34 +167,19 @@ pub fn partition_ok(card: &[u8], blocks: u32, p: Partition) -> bool
     entries_ok(card, p)
 }
 
-// Whether each finished partition keeps its rule.
-fn each_ok(card: &[u8], blocks: u32, ps: Partitions) -> bool
+// Whether all finished partitions keep their rules and share no block: each chain is marked, and apart from the marks of those before it.
+pub fn partitions_ok(card: &[u8], blocks: u32, ps: Partitions) -> bool
     requires { ⌜ (length (wordsOf (now card)) ≡ 1024 * blocks) × (blocks ≤ 4096) × (ps .used ≤ 51) × (every (recordRule blocks) (finished ps) ≡ true) ⌝ }
-    ensures { λ r. ⌜ r ≡ every (partitionRule (wordsOf (now (card .entry))) blocks) (finished ps) ⌝ }
-{
-    let n = ps.used as usize;
-    let mut i: usize = 0;
-    while i < n {
-        let p = ps.records[i];
-        if !partition_ok(card, blocks, p) {
-            return false;
-        }
-        i += 1;
-    }
-    true
-}
-
-// Whether no block stands in two places: each chain is marked, and apart from the marks of those before it.
-fn chains_apart(card: &[u8], blocks: u32, ps: Partitions) -> bool
-    requires { ⌜ (length (wordsOf (now card)) ≡ 1024 * blocks) × (blocks ≤ 4096) × (ps .used ≤ 51)
-        × (every (partitionRule (wordsOf (now card)) blocks) (finished ps) ≡ true) ⌝ }
-    ensures { λ r. ⌜ r ≡ different (chainsOf (wordsOf (now (card .entry))) (finished ps)) ⌝ }
+    ensures { λ r. ⌜ r ≡ partitionsFormed (wordsOf (now (card .entry))) blocks (finished ps) ⌝ }
 {
     let n = ps.used as usize;
     let mut marks = card::no_marks();
     let mut i: usize = 0;
     while i < n {
         let p = ps.records[i];
+        if !partition_ok(card, blocks, p) {
+            return false;
+        }
         let m = card::mark_chain(card, marks, p.first, blocks_for(p.length));
         if !m.apart {
             return false;
@@ -233,17 +188,6 @@ fn chains_apart(card: &[u8], blocks: u32, ps: Partitions) -> bool
         i += 1;
     }
     true
-}
-
-// Whether all finished partitions keep their rules and share no block.
-pub fn partitions_ok(card: &[u8], blocks: u32, ps: Partitions) -> bool
-    requires { ⌜ (length (wordsOf (now card)) ≡ 1024 * blocks) × (blocks ≤ 4096) × (ps .used ≤ 51) × (every (recordRule blocks) (finished ps) ≡ true) ⌝ }
-    ensures { λ r. ⌜ r ≡ partitionsFormed (wordsOf (now (card .entry))) blocks (finished ps) ⌝ }
-{
-    if !each_ok(card, blocks, ps) {
-        return false;
-    }
-    chains_apart(card, blocks, ps)
 }
 
 // The cursor on the postings of an identifier; one with none to come where the partition does not have it.

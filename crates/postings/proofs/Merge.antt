@@ -1,17 +1,6 @@
 -- What is put together stands in order, and an ordered list without a count of 0 is told by its sums.
-use mathlib.Core.Bool.{Bool, true, false, not, true≢false}
-use mathlib.Core.List.{List, [], _∷_, foldr, List·Memᴰ, List·Memᴰ·cases-cons, List·Memᴰ·not-nil}
-use mathlib.Core.Logic.{⊎-elim}
-use mathlib.Core.Path.{_≡_, refl, sym, ap, ap₂, _∙_}
-use Prim.Native.Nat.{ℕ, suc, _+_, _≤_}
-use native.Mathlib.Omega.{arith}
-use lib.IntN.{ℤ, pos, _+ℤ_, +ℤ-idl, +ℤ-idr}
-use lib.ListN.{length}
-use borrow.Author.Tests.{eq-eqb}
-use Rattle.lists.specs.Lists.{any, every}
-use Rattle.lists.proofs.Bools.{by-test, and-left, and-right, and-both, or-none}
+use Rattle.lists.proofs.Prelude.{Bool, true, false, not, true≢false, List, [], _∷_, foldr, List·Memᴰ, List·Memᴰ·cases-cons, List·Memᴰ·not-nil, ⊎-elim, _≡_, refl, sym, ap, ap₂, _∙_, ℕ, suc, _+_, _≤_, arith, ℤ, pos, _+ℤ_, +ℤ-idl, +ℤ-idr, length, eq-eqb, any, every, by-test, and-left, and-right, and-both, or-none, every-mem, every-kept}
 use Rattle.lists.proofs.Ints.{sum-cancel}
-use Rattle.lists.proofs.Tests.{every-mem, every-kept, keep-all}
 use Rattle.postings.specs.Order.{precedes, samePair, ordered}
 use Rattle.postings.specs.Merge.{counting, put, isZero, isCounted, nonzero, pairs}
 use Rattle.postings.specs.Sums.{share, sum}
@@ -81,13 +70,6 @@ pub length-puts : (l m : List Posting) → length (foldr put m l) ≤ length l +
 length-puts [] m = omega arith
 length-puts (p ∷ l) m = omega (arith, length-put p (foldr put m l), length-puts l m)
 
--- a pair that is new takes one place
-pub length-put-new : (p : Posting) (l : List Posting) → any (samePair p) l ≡ false → length (put p l) ≡ suc (length l)
-length-put-new p [] e = refl
-length-put-new p (q ∷ l) e =
-    let n = or-none (samePair p q) _ e in
-    by-test (precedes p q) (λ y. rw (n .0, y)) (λ m. rw (n .0, m, length-put-new p l (n .1)))
-
 -- a pair that is there takes no further place
 pub length-put-there : (p : Posting) (l : List Posting) → ordered l ≡ true → any (samePair p) l ≡ true → length (put p l) ≡ length l
 length-put-there p [] e f = absurd (true≢false (sym f))
@@ -125,17 +107,6 @@ ordered-sum {p} (q ∷ l) e m =
 put-first : (p : Posting) (l : List Posting) → every (precedes p) l ≡ true → put p l ≡ p ∷ l
 put-first p [] e = refl
 put-first p (q ∷ l) e = let y = and-left (precedes p q) _ e in rw (precedes-apart p q y, y)
-
--- an ordered list has its own pairs
-pub pairs-self : (l : List Posting) → ordered l ≡ true → pairs l ≡ l
-unfolding pairs
-pairs-self [] e = refl
-pairs-self (p ∷ l) e = rw (pairs-self l (and-right (every (precedes p) l) _ e)) (put-first p l (and-left _ _ e))
-
--- a list that is merged already is as it was
-pub merge-self : (l : List Posting) → ordered l ≡ true → every isCounted l ≡ true → nonzero (pairs l) ≡ l
-unfolding nonzero
-merge-self l e f = rw (pairs-self l e) (keep-all isCounted l f)
 
 -- a posting that counts, and stands before all of a list, has a sum that the list does not have
 missed : (p : Posting) (l m : List Posting) → ordered (p ∷ l) ≡ true → isCounted p ≡ true → every (precedes p) m ≡ true → sum (p ∷ l) (p .id) (p .window) ≡ sum m (p .id) (p .window) → ⊥

@@ -1,16 +1,5 @@
 -- The order of postings is strict and leaves no two pairs aside, and an ordered list has each pair once.
-use mathlib.Core.Bool.{Bool, true, false, _&&_, true≢false, and-false}
-use mathlib.Core.List.{List, [], _∷_}
-use mathlib.Core.Logic.{_⊎_, inl, inr}
-use mathlib.Core.Path.{_≡_, refl, sym, ap₂}
-use Prim.Native.Nat.{ℕ, _<_, _≤_}
-use native.Mathlib.Omega.{arith}
-use lib.Dec.{ltb, eqb}
-use lib.ListN.{length}
-use borrow.Author.Tests.{ltb-true, ltb-false, eqb-true, eqb-false, lt-ltb, le-ltb, eq-eqb, ne-eqb}
-use Rattle.lists.specs.Lists.{keep, any, every}
-use Rattle.lists.proofs.Bools.{by-test, and-left, and-right, and-both, or-right}
-use Rattle.lists.proofs.Tests.{every-from, every-keep, keep-none}
+use Rattle.lists.proofs.Prelude.{Bool, true, false, _&&_, true≢false, and-false, List, [], _∷_, _⊎_, inl, inr, _≡_, refl, sym, ap₂, ℕ, _<_, _≤_, arith, ltb, eqb, ltb-true, ltb-false, eqb-true, eqb-false, lt-ltb, le-ltb, eq-eqb, ne-eqb, keep, any, every, by-test, and-left, and-right, and-both, or-right, every-from, every-keep}
 use Rattle.postings.specs.Order.{precedes, samePair, ordered}
 use Rattle.postings.specs.declared.Posting.{Posting}
 
@@ -104,14 +93,3 @@ keep-ordered t (p ∷ l) e =
 pub any-before : (p : Posting) (l : List Posting) → every (precedes p) l ≡ true → any (samePair p) l ≡ false
 any-before p [] e = refl
 any-before p (q ∷ l) e = rw (precedes-apart p q (and-left _ _ e), any-before p l (and-right (precedes p q) _ e))
-
--- an ordered list has each pair at most once
-pub ordered-once : (p : Posting) (l : List Posting) → ordered l ≡ true → length (keep (samePair p) l) ≤ 1
-ordered-once p [] e = omega arith
-ordered-once p (q ∷ l) e =
-    by-test (samePair p q)
-    (λ y. let i = same-pair p q y in rw (y, none i (any-before q l (and-left _ _ e))) (omega arith))
-    (λ n. rw n (ordered-once p l (and-right (every (precedes q) l) _ e)))
-  where
-    none : (p .id ≡ q .id) × (p .window ≡ q .window) → any (samePair q) l ≡ false → keep (samePair p) l ≡ []
-    none i f = keep-none (samePair p) l (rw (i .0, i .1) f)

@@ -1,16 +1,10 @@
 -- A signed number of 16 bits, its sign and its size.
-use mathlib.Core.Bool.{true, false}
-use mathlib.Core.Path.{_≡_, refl, _∙_}
-use Prim.Native.Nat.{ℕ, zero, suc, _<_, _≤_}
-use native.Mathlib.Omega.{arith}
-use lib.Dec.{T}
-use lib.IntN.{ℤ, pos, negsuc, negℤ, natAbs, _-ℤ_, +ℤ-idl}
+use Rattle.lists.proofs.Prelude.{true, false, _≡_, refl, _∙_, ℕ, zero, suc, _<_, _≤_, arith, T, ℤ, pos, negsuc, negℤ, natAbs, _-ℤ_, +ℤ-idl, ltb-true}
 use lib.Signed.{ltZ, nonNeg}
 use lib.Bits.{bitOr, or-shifted-r}
 use mir.Syntax.{w16}
 use mir.Val.{SFits, Fits}
 use mir.Facts.{sfits-lit}
-use borrow.Author.Tests.{ltb-true}
 use Rattle.postings.specs.Pack.{half}
 
 -- 0 less a number is the number negated

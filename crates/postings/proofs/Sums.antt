@@ -1,12 +1,5 @@
 -- The sum of a pair: what joining, ordering, merging and taking back do to it.
-use mathlib.Core.Bool.{Bool, true, false, not, cond, _&&_}
-use mathlib.Core.List.{List, [], _∷_, _++_, foldr, map, List·Permᴰ, List·Permᴰ·nil, List·Permᴰ·cons, List·Permᴰ·swap, List·Permᴰ·trans}
-use mathlib.Core.Path.{_≡_, refl, sym, ap, ap₂, _∙_}
-use Prim.Native.Nat.{ℕ, zero, suc}
-use lib.Dec.{eqb}
-use lib.IntN.{ℤ, pos, negsuc, negℤ, _+ℤ_, +ℤ-idl, +ℤ-idr, +ℤ-assoc, negℤ-+ℤ}
-use Rattle.lists.specs.Lists.{keep}
-use Rattle.lists.proofs.Bools.{by-test}
+use Rattle.lists.proofs.Prelude.{Bool, true, false, not, cond, _&&_, List, [], _∷_, _++_, foldr, map, _≡_, refl, sym, ap, _∙_, ℕ, zero, suc, eqb, ℤ, pos, negsuc, negℤ, _+ℤ_, +ℤ-idl, +ℤ-idr, +ℤ-assoc, negℤ-+ℤ, keep, by-test}
 use Rattle.lists.proofs.Ints.{sum-swap}
 use Rattle.postings.specs.Order.{precedes, samePair}
 use Rattle.postings.specs.Merge.{counting, put, isZero, isCounted, nonzero, pairs, negated}
@@ -25,14 +18,6 @@ module _ (i w : ℕ) where
   pub sum-append : (l m : List Posting) → sum (l ++ m) i w ≡ sum l i w +ℤ sum m i w
   sum-append [] m = sym (+ℤ-idl (sum m i w))
   sum-append (p ∷ l) m = rw (sum-append l m) (sym (+ℤ-assoc (share p i w) (sum l i w) (sum m i w)))
-
-  -- the same postings in another order
-  pub sum-permuted : {l m : List Posting} → List·Permᴰ l m → sum l i w ≡ sum m i w
-  sum-permuted List·Permᴰ·nil = refl
-  sum-permuted (List·Permᴰ·cons e d) = ap₂ (λ (p : Posting) (z : ℤ). share p i w +ℤ z) e (sum-permuted d)
-  sum-permuted (List·Permᴰ·swap {a = a} {b = b} {l = l} e f) =
-      sum-swap (share a i w) (share b i w) (sum l i w) ∙ ap₂ (λ (p q : Posting). share p i w +ℤ (share q i w +ℤ sum l i w)) f e
-  sum-permuted (List·Permᴰ·trans d e) = sum-permuted d ∙ sum-permuted e
 
   -- one posting put in
   pub sum-put : (p : Posting) (l : List Posting) → sum (put p l) i w ≡ share p i w +ℤ sum l i w

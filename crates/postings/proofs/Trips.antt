@@ -1,12 +1,5 @@
 -- A count and a window that were packed are read back, and so is a word that holds a posting.
-use mathlib.Core.Bool.{true, false, not, and-false}
-use mathlib.Core.Path.{_≡_, refl}
-use Prim.Native.Nat.{ℕ, zero, suc, _+_, _*_, _/_, _%_, _<_, _≤_}
-use native.Mathlib.Omega.{arith}
-use lib.Dec.{eqb}
-use lib.IntN.{ℤ, pos, negsuc, natAbs}
-use borrow.Author.Tests.{eqb-false, eq-eqb, ne-eqb, not-true}
-use Rattle.lists.proofs.Bools.{and-left, and-right}
+use Rattle.lists.proofs.Prelude.{true, false, not, _≡_, refl, ℕ, zero, suc, _+_, _*_, _/_, _%_, _<_, _≤_, arith, eqb, ℤ, pos, negsuc, natAbs, eqb-false, not-true, and-left, and-right}
 use Rattle.postings.specs.Merge.{isZero}
 use Rattle.postings.specs.Pack.{half, packed, signed, countOf, wordCount, wordWindow, isPosting}
 
@@ -25,15 +18,6 @@ half-back (negsuc n) h =
     let m : (32768 + (n + 1)) % 32768 ≡ suc n = omega arith in
     rw (d, m)
 
-half-size : (c : ℤ) → natAbs c ≤ 32767 → half c % 32768 ≡ natAbs c
-half-size (pos n) h = omega arith
-half-size (negsuc n) h = omega arith
-
-nonzero-size : (c : ℤ) → isZero c ≡ false → 1 ≤ natAbs c
-nonzero-size (pos zero) e = let z : _≡_ {A = ℕ} 0 1 = cc in absurd (omega arith)
-nonzero-size (pos (suc n)) e = omega arith
-nonzero-size (negsuc n) e = omega arith
-
 module _ (c : ℤ) (w : ℕ) (small : natAbs c ≤ 32767) where
   -- the count is read back
   pub packed-count : wordCount (packed c w) ≡ c
@@ -45,18 +29,6 @@ module _ (c : ℤ) (w : ℕ) (small : natAbs c ≤ 32767) where
   -- the window is read back
   pub packed-window : wordWindow (packed c w) ≡ w
   packed-window = let b = half-lt c small in omega arith
-
-  -- a word has 32 bits
-  pub packed-fits : w < 65536 → packed c w < 4294967296
-  packed-fits h = let b = half-lt c small in omega arith
-
-  -- the word of a posting holds a posting
-  pub packed-posting : isZero c ≡ false → 1 ≤ w → isPosting (packed c w) ≡ true
-  packed-posting e h =
-      let n = nonzero-size c e in
-      let s = half-size c small in
-      let m : packed c w % 32768 ≡ natAbs c = omega arith in
-      rw (packed-window, m, ne-eqb w 0 (λ q. omega arith), ne-eqb (natAbs c) 0 (λ q. omega arith))
 
 half-signed : (b n : ℕ) → b < 2 → 1 ≤ n → half (signed b n) ≡ b * 32768 + n
 half-signed zero n l h = omega arith
@@ -75,22 +47,6 @@ size-zero (pos (suc n)) h = refl
 size-zero (negsuc n) h = refl
 
 module _ (x : ℕ) where
-  -- every word's count has 15 bits
-  pub word-size : natAbs (wordCount x) ≤ 32767
-  word-size = let s = size-signed (x % 65536 / 32768) (x % 65536 % 32768) in omega arith
-
-  -- without a size, whatever the sign, a word holds no posting
-  pub sizeless : x % 32768 ≡ 0 → isPosting x ≡ false
-  sizeless e = rw (eq-eqb (x % 32768) 0 e) (and-false (not (eqb (x / 65536) 0)))
-
-  -- with window 0 a word holds no posting
-  pub windowless : wordWindow x ≡ 0 → isPosting x ≡ false
-  windowless e = rw (eq-eqb (x / 65536) 0 e)
-
-  -- with a window, the size decides
-  pub windowed : (wordWindow x ≡ 0 → ⊥) → isPosting x ≡ not (eqb (x % 32768) 0)
-  windowed h = rw (ne-eqb (x / 65536) 0 h)
-
   module _ (holds : isPosting x ≡ true) where
     size : 1 ≤ x % 32768
     size =

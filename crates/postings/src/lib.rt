@@ -16,13 +16,7 @@ pub struct Posting {
 pub fn precedes(p: Posting, q: Posting) -> bool
     ensures { λ r. ⌜ r ≡ precedes p q ⌝ }
 {
-    if p.id < q.id {
-        return true;
-    }
-    if p.id == q.id {
-        return q.window < p.window;
-    }
-    false
+    (p.id < q.id) | ((p.id == q.id) & (q.window < p.window))
 }
 
 // Fifteen bits of size under one of sign.
@@ -69,8 +63,5 @@ pub fn unpack(id: u16, word: u32) -> Posting
 pub fn is_posting(word: u32) -> bool
     ensures { λ r. ⌜ r ≡ isPosting word ⌝ }
 {
-    if word >> 16 == 0 {
-        return false;
-    }
-    word & 0x7fff != 0
+    (word >> 16 != 0) & (word & 0x7fff != 0)
 }

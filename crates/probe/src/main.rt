@@ -1,4 +1,4 @@
-// The command program: reads commands from standard input, one a line, and writes the text of each answer to standard output. The probe has a card of 16
+// The command program: takes each line of standard input as a command, and writes the text of its answer to standard output. The probe has a card of 16
 // blocks and a register of 64 entries. What lies between reading and writing is `sessions::lines`.
 use answers::Reply;
 use state::State;
@@ -97,13 +97,12 @@ fn run(s: State, card: &mut [u8], register: &mut [u8]) {
             return;
         }
         let n = io::count(got, &input);
-        let state = t.state;
         if n == 0 {
-            serve_end(state, card, register, &line, t.kept, &mut out);
+            serve_end(t.state, card, register, &line, t.kept, &mut out);
             return;
         }
         t = serve(
-            state,
+            t.state,
             card,
             register,
             &mut line,
@@ -124,9 +123,8 @@ fn main() {
     let mut register: [u8; 4160] = [0; 4160];
     let r = engine::start(&mut card, &mut register);
     let reply = r.reply;
-    let s = r.state;
     match reply {
-        Reply::Done => run(s, &mut card, &mut register),
+        Reply::Done => run(r.state, &mut card, &mut register),
         Reply::Refused(_) => {
             io::write_all(2, b"probe: the card or the register is refused\n");
         }

@@ -1,19 +1,6 @@
 -- What is gathered of a query's identifiers, identifier by identifier.
-use mathlib.Core.Bool.{true, false, _&&_}
-use mathlib.Core.List.{List, [], _∷_, _++_, map, map-append}
-use mathlib.Core.Path.{_≡_, refl, sym, ap, _∙_, subst}
-use Prim.Native.Nat.{ℕ, _+_, _*_, _<_, _≤_}
-use native.Mathlib.Numerals.{add-one}
-use native.Mathlib.Omega.{arith}
-use lib.Dec.{ltb}
-use lib.ListN.{length, getD, take, drop, length-take, length-append, drop-of-length-le, List·getD-map}
-use lib.Seq.{drop-cons, take-suc, take-all, take-append-le}
-use borrow.Author.Tests.{lt-ltb, le-ltb}
+use Rattle.lists.proofs.Prelude.{true, false, _&&_, List, [], _∷_, _++_, map, map-append, _≡_, refl, sym, ap, _∙_, subst, ℕ, _+_, _*_, _<_, _≤_, add-one, arith, ltb, length, getD, take, drop, length-take, length-append, drop-of-length-le, List·getD-map, drop-cons, take-suc, take-all, take-append-le, lt-ltb, le-ltb, keep, every, totalBy, AllOf, never, keep-append}
 use denote.Ref.{RefT, now}
-use Rattle.lists.specs.Lists.{keep, every, totalBy}
-use Rattle.lists.specs.All.{AllOf}
-use Rattle.lists.proofs.Runs.{never}
-use Rattle.lists.proofs.Tests.{keep-append}
 use Rattle.postings.specs.Sums.{under}
 use Rattle.state.specs.declared.State.{State}
 use Rattle.identifiers.specs.Names.{Name, numberOf, numbersOf}
@@ -48,7 +35,7 @@ parts-put w n H P h l = rw (add-one n, parts-front w n H _ (omega arith), put-he
 module _ (W R : List ℕ) (s : State) where
   -- the numbers of a term
   abbrev size : ℕ
-  size = 4 * (s .partitions .used + 1) + 2
+  size = 4 * (s .partitions .used + 1) + 4
 
   served-more : (is : List ℕ) (ts : List Term) (i : ℕ) (t : Term) → Serving W s is ts → Serves W s i t → Serving W s (is ++ (i ∷ [])) (ts ++ (t ∷ []))
   served-more [] [] i t none w = more w none

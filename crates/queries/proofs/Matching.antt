@@ -1,15 +1,5 @@
 -- From terms that stand for the query's identifiers to the query's hits.
-use mathlib.Core.Bool.{Bool, true, false, cond, _||_}
-use mathlib.Core.List.{List, [], _∷_, foldr, map}
-use mathlib.Core.Path.{_≡_, refl, ap, ap₂, _∙_}
-use Prim.Native.Nat.{ℕ, zero, suc, _+_, _*_}
-use native.Mathlib.Omega.{arith}
-use lib.Dec.{ltb}
-use lib.IntN.{ℤ}
-use lib.ListN.{take}
-use borrow.Author.Tests.{ltb-false}
-use Rattle.lists.specs.Lists.{keep, any, every, totalBy, down}
-use Rattle.lists.proofs.Bools.{by-test, and-both}
+use Rattle.lists.proofs.Prelude.{Bool, true, false, cond, _||_, List, [], _∷_, foldr, map, _≡_, refl, ap, ap₂, _∙_, ℕ, zero, suc, _+_, _*_, arith, ltb, ℤ, take, ltb-false, keep, any, every, totalBy, down, by-test, and-both}
 use Rattle.keyed.specs.Keys.{sums, allFall, overKeys}
 use Rattle.keyed.specs.Groups.{allFallAll}
 use Rattle.weights.specs.Weights.{tfWeight, idfWeight, largest}

@@ -1,16 +1,5 @@
 -- The numbers of a query's identifiers: they differ where the identifiers do, and the postings stored under them are then those of each.
-use mathlib.Core.Bool.{true, false, cond, not}
-use mathlib.Core.List.{List, [], _∷_, map}
-use mathlib.Core.Path.{_≡_, refl, sym, ap, _∙_}
-use Prim.Native.Nat.{ℕ, _+_, _<_, _≤_}
-use native.Mathlib.Omega.{arith}
-use lib.Dec.{ltb, eqb}
-use lib.ListN.{length, getD, length-map}
-use borrow.Author.Tests.{ltb-true, eqb-true, eqb-false, eq-eqb, ne-eqb, not-true}
-use Rattle.lists.specs.Lists.{keep, elem, different, totalBy, same}
-use Rattle.lists.proofs.Bools.{by-test, and-left, and-right, or-none}
-use Rattle.lists.proofs.Tests.{length-keep}
-use Rattle.lists.proofs.Same.{same-false}
+use Rattle.lists.proofs.Prelude.{true, false, cond, not, List, [], _∷_, map, _≡_, refl, sym, ap, _∙_, ℕ, _+_, _<_, _≤_, arith, ltb, eqb, length, getD, length-map, ltb-true, eqb-true, eqb-false, eq-eqb, ne-eqb, not-true, keep, elem, different, totalBy, same, by-test, and-left, and-right, or-none, length-keep, same-false}
 use Rattle.postings.specs.declared.Posting.{Posting}
 use Rattle.postings.specs.Sums.{under}
 use Rattle.state.specs.declared.State.{State}

@@ -1,21 +1,10 @@
 -- What a query comes to, test by test, and that what the search promises is what the query is.
-use mathlib.Core.Bool.{Bool, true, false, _&&_, not}
-use mathlib.Core.List.{List, [], foldr, map}
-use mathlib.Core.Path.{_≡_, refl, sym, ap, ap₂, _∙_, subst}
-use Prim.Native.Nat.{ℕ, _+_, _*_, _≤_}
-use native.Mathlib.Nat.{mul-le-mul-left}
-use native.Mathlib.Omega.{arith}
-use lib.Dec.{eqb, ltb}
-use lib.ListN.{length, take, replicate, length-take, length-replicate}
-use lib.Seq.{take-all}
-use borrow.Author.Tests.{ltb-false, eqb-false, eq-eqb, ne-eqb, not-false}
-use Rattle.lists.specs.Lists.{any, empty, down}
-use Rattle.lists.proofs.Bools.{or-none, and-both}
+use Rattle.lists.proofs.Prelude.{Bool, true, false, _&&_, not, List, [], _∷_, foldr, map, _≡_, refl, sym, ap, ap₂, _∙_, subst, ℕ, _+_, _*_, _≤_, mul-le-mul-left, arith, eqb, ltb, length, take, replicate, length-take, length-replicate, take-all, ltb-false, eqb-false, eq-eqb, not-false, any, every, empty, down, or-none, and-both}
 use Rattle.words.specs.Words.{words}
 use Rattle.answers.specs.Answers.{Outcome, refuse, leave, refuseIf, hits, answerOf, stateOf}
 use Rattle.answers.specs.Numbers.{refusalNumber, foundAs}
 use Rattle.answers.specs.declared.Refusal.{Refusal}
-use Rattle.answers.specs.declared.Refusal.the-variants.{BrokenState, WrongLength, Malformed, BadIdentifier, BadQuery}
+use Rattle.answers.specs.declared.Refusal.the-variants.{Malformed, BadIdentifier, BadQuery}
 use Rattle.answers.specs.declared.Found.{Found}
 use Rattle.answers.specs.declared.Found.the-variants as found
 use Rattle.answers.specs.declared.Hit.{Hit}
@@ -26,8 +15,10 @@ use Rattle.state.specs.Probe.{Probe, sameLength}
 use Rattle.state.proofs.Kept.{state-kept}
 use Rattle.identifiers.specs.Names.{Name, badLength, distinct}
 use Rattle.identifiers.specs.Register.{names, registerRule}
-use Rattle.partitions.specs.Formed.{partitionsFormed}
+use Rattle.partitions.specs.Formed.{partitionsFormed, identifierFormed}
 use Rattle.terms.specs.Terms.{Term, termsOf}
+use Rattle.admission.specs.Admission.{firstOf, sameLengths, probeTests}
+use Rattle.admission.proofs.Laws.{refused-apart, barred}
 use Rattle.queries.specs.declared.Top.{Top}
 use Rattle.queries.specs.declared.Answered.{Answered}
 use Rattle.queries.specs.declared.judging.Known.{Known}
@@ -43,43 +34,46 @@ use Rattle.queries.proofs.Numbers.{numbers-few, numbers-different, take
 
 -- ---- the refusals in order
 
--- both buffers have the lengths given at the start
-abbrev sameLengths : Probe → Bool
-sameLengths p = sameLength (p .card) (p .state .lengths .card) && sameLength (p .register) (p .state .lengths .register)
-
 module _ (p : Probe) (ns : List Name) (places : List Hit) where
+  -- what refusal 3 asks beyond the register's rule, and what follows it
+  abbrev rest : Bool
+  rest = partitionsFormed (words (p .card)) (blocks (p .state)) (finished (p .state .partitions)) && every (identifierFormed (words (p .card)) (p .state)) (numbers (p .register) ns)
+
+  abbrev following : Outcome (List Hit)
+  following =
+      leave (hits (hitsOf (words (p .card)) (p .state) (length places) (numbers (p .register) ns)) (takenUp (words (p .card)) (p .state) (numbers (p .register) ns)))
+      (fill (hitsOf (words (p .card)) (p .state) (length places) (numbers (p .register) ns)) places)
+
   abbrev formed : Bool
   formed = queryFormed (words (p .card)) (p .state) (p .register) (numbers (p .register) ns)
 
-  pub query-broken : stateRule (p .state) ≡ false → queryOf p ns places ≡ refuse 1
-  unfolding queryOf querying refuseIf
-  query-broken a = rw a
+  -- refused by what is judged first
+  query-barred : (why : Refusal) → refusalNumber why ≡ firstOf (1 ∷ 2 ∷ 3 ∷ []) (probeTests (stateRule (p .state)) (p .state .lengths) (p .card) (p .register))
+      → queryOf p ns places ≡ refuse (refusalNumber why)
+  unfolding queryOf querying queryFormed
+  query-barred why e =
+      rw (refused-apart (registerRule (p .register)) rest)
+      (barred (3 ∷ 4 ∷ 14 ∷ []) (not rest ∷ any badLength ns ∷ badQuery (length places) ns ∷ []) following (1 ∷ 2 ∷ 3 ∷ [])
+      (probeTests (stateRule (p .state)) (p .state .lengths) (p .card) (p .register)) why e)
 
-  module _ (a : stateRule (p .state) ≡ true) where
-    pub query-length : sameLengths p ≡ false → queryOf p ns places ≡ refuse 2
+  module _ (a : stateRule (p .state) ≡ true) (b : sameLengths (p .state .lengths) (p .card) (p .register) ≡ true) where
+    query-malformed : formed ≡ false → queryOf p ns places ≡ refuse 3
     unfolding queryOf querying refuseIf
-    query-length b = rw (a, b)
+    query-malformed c = rw (a, b, c)
 
-    module _ (b : sameLengths p ≡ true) where
-      pub query-malformed : formed ≡ false → queryOf p ns places ≡ refuse 3
+    module _ (c : formed ≡ true) where
+      query-identifier : any badLength ns ≡ true → queryOf p ns places ≡ refuse 4
       unfolding queryOf querying refuseIf
-      query-malformed c = rw (a, b, c)
+      query-identifier d = rw (a, b, c, d)
 
-      module _ (c : formed ≡ true) where
-        pub query-identifier : any badLength ns ≡ true → queryOf p ns places ≡ refuse 4
+      module _ (d : any badLength ns ≡ false) where
+        query-bad : badQuery (length places) ns ≡ true → queryOf p ns places ≡ refuse 14
         unfolding queryOf querying refuseIf
-        query-identifier d = rw (a, b, c, d)
+        query-bad e = rw (a, b, c, d, e)
 
-        module _ (d : any badLength ns ≡ false) where
-          pub query-bad : badQuery (length places) ns ≡ true → queryOf p ns places ≡ refuse 14
-          unfolding queryOf querying refuseIf
-          query-bad e = rw (a, b, c, d, e)
-
-          pub query-hits : badQuery (length places) ns ≡ false
-              → queryOf p ns places ≡ leave (hits (hitsOf (words (p .card)) (p .state) (length places) (numbers (p .register) ns)) (takenUp (words (p .card)) (p .state) (numbers (p .register) ns)))
-              (fill (hitsOf (words (p .card)) (p .state) (length places) (numbers (p .register) ns)) places)
-          unfolding queryOf querying refuseIf
-          query-hits e = rw (a, b, c, d, e)
+        query-hits : badQuery (length places) ns ≡ false → queryOf p ns places ≡ following
+        unfolding queryOf querying refuseIf
+        query-hits e = rw (a, b, c, d, e)
 
 -- ---- what is promised
 
@@ -135,7 +129,7 @@ module _ (s : State) (card register : List ℕ) (sound : Sound s card register) 
   abbrev p : Probe
   p = probeOf s card register
 
-  lengths-same : sameLengths p ≡ true
+  lengths-same : sameLengths (s .lengths) card register ≡ true
   lengths-same = and-both (sameLength card (s .lengths .card)) _ (eq-eqb _ _ (sound .card)) (eq-eqb _ _ (sound .register))
 
   formed-by : formed p ns (replicate k noHit) ≡ known .fine
@@ -178,7 +172,7 @@ module _ (s : State) (card register : List ℕ) (sound : Sound s card register) 
         terms-walkable spare ready =
             let five : known .used ≤ 5 = omega (arith, gathered .keeps f .used, ap length all-five, few-numbers) in
             let kept = state-kept s (sound .rule) .partitions .used in
-            let less = mul-le-mul-left {m = known .used} {n = 5} (4 * lists + 2) five in
+            let less = mul-le-mul-left {m = known .used} {n = 5} (4 * lists + 4) five in
             record {
               fits = omega (arith, ready .room);
               short = ready .most;
@@ -212,32 +206,16 @@ module _ (s : State) (card register : List ℕ) (sound : Sound s card register) 
 -- ---- the query on buffers that are not sound
 
 module _ (s : State) (card register : List ℕ) (ns : List Name) (k : ℕ) where
-  -- 1
-  pub finds-broken : stateRule s ≡ false → Finds (probeOf s card register) ns k (found.Refused BrokenState) (topOf [])
-  finds-broken a = finds-refused (probeOf s card register) ns k BrokenState (query-broken (probeOf s card register) ns (replicate k noHit) a)
+  -- 1 to 3, by what is judged first
+  pub finds-barred : (why : Refusal) → refusalNumber why ≡ firstOf (1 ∷ 2 ∷ 3 ∷ []) (probeTests (stateRule s) (s .lengths) card register)
+      → Finds (probeOf s card register) ns k (found.Refused why) (topOf [])
+  finds-barred why e = finds-refused (probeOf s card register) ns k why (query-barred (probeOf s card register) ns (replicate k noHit) why e)
 
-  module _ (a : stateRule s ≡ true) where
-    -- 2
-    pub finds-card : (length card ≡ s .lengths .card → ⊥) → Finds (probeOf s card register) ns k (found.Refused WrongLength) (topOf [])
-    finds-card d = finds-refused (probeOf s card register) ns k WrongLength (query-length (probeOf s card register) ns (replicate k noHit) a (rw (ne-eqb _ _ d)))
-
-    module _ (b : length card ≡ s .lengths .card) where
-      pub finds-register : (length register ≡ s .lengths .register → ⊥) → Finds (probeOf s card register) ns k (found.Refused WrongLength) (topOf [])
-      finds-register d = finds-refused (probeOf s card register) ns k WrongLength (query-length (probeOf s card register) ns (replicate k noHit) a (rw (eq-eqb _ _ b, ne-eqb _ _ d)))
-
-      module _ (c : length register ≡ s .lengths .register) where
-        same-both : sameLengths (probeOf s card register) ≡ true
-        same-both = rw (eq-eqb _ _ b, eq-eqb _ _ c)
-
-        -- 3: the register
-        pub finds-names : registerRule register ≡ false → Finds (probeOf s card register) ns k (found.Refused Malformed) (topOf [])
-        unfolding queryFormed
-        finds-names d = finds-refused (probeOf s card register) ns k Malformed (query-malformed (probeOf s card register) ns (replicate k noHit) a same-both (rw d))
-
-        -- 3: the finished partitions
-        pub finds-partitions : registerRule register ≡ true → partitionsFormed (words card) (blocks s) (finished (s .partitions)) ≡ false → Finds (probeOf s card register) ns k (found.Refused Malformed) (topOf [])
-        unfolding queryFormed
-        finds-partitions d e = finds-refused (probeOf s card register) ns k Malformed (query-malformed (probeOf s card register) ns (replicate k noHit) a same-both (rw (d, e)))
+  -- 3: the finished partitions
+  pub finds-partitions : stateRule s ≡ true → length card ≡ s .lengths .card → length register ≡ s .lengths .register → registerRule register ≡ true
+      → partitionsFormed (words card) (blocks s) (finished (s .partitions)) ≡ false → Finds (probeOf s card register) ns k (found.Refused Malformed) (topOf [])
+  unfolding queryFormed
+  finds-partitions a b c d e = finds-refused (probeOf s card register) ns k Malformed (query-malformed (probeOf s card register) ns (replicate k noHit) a (rw (eq-eqb _ _ b, eq-eqb _ _ c)) (rw (d, e)))
 
 -- ---- a lent list
 

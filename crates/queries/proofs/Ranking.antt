@@ -1,19 +1,8 @@
 -- Hits by rank: in whatever order the windows come, and each cut to the places of the list as it comes.
-use mathlib.Core.Bool.{true, _&&_, not}
-use mathlib.Core.List.{List, [], _∷_, foldr, map}
-use mathlib.Core.Logic.{_⊎_, inl, inr}
-use mathlib.Core.Path.{_≡_, refl, ap}
-use Prim.Native.Nat.{ℕ, _≤_, _<_}
-use native.Mathlib.Omega.{arith}
-use lib.Dec.{ltb, eqb}
-use lib.ListN.{take}
-use borrow.Author.Tests.{ltb-true, ltb-false, lt-ltb, le-ltb, eqb-true, eq-eqb, ne-eqb}
-use Rattle.lists.specs.Lists.{different}
-use Rattle.lists.proofs.Bools.{by-test, and-left, and-right, or-right}
-use Rattle.lists.proofs.Sets.{different-keep}
-use Rattle.lists.proofs.TopK.{Inserts, Ranks, topAfter, put-swap, top-after}
+use Rattle.lists.proofs.Prelude.{true, _&&_, not, List, [], foldr, map, _⊎_, inl, inr, _≡_, refl, ℕ, _≤_, _<_, arith, ltb, eqb, take, ltb-true, ltb-false, lt-ltb, le-ltb, eqb-true, eq-eqb, ne-eqb, different, by-test, and-left, and-right, or-right}
+use Rattle.lists.proofs.TopK.{Inserts, Ranks, topAfter, top-after}
 use Rattle.answers.specs.declared.Hit.{Hit}
-use Rattle.queries.specs.Hits.{outranks, place, score, matching, ranked}
+use Rattle.queries.specs.Hits.{outranks, place, score}
 
 -- ---- the order of hits
 
@@ -61,26 +50,6 @@ places = record { last = λ g. refl; next = λ g h l. refl }
 
 -- ---- the order of insertion
 
--- the order in which two windows are placed does not matter
-pub place-swap : (g h : Hit) → (g .window ≡ h .window → ⊥) → (l : List Hit) → place g (place h l) ≡ place h (place g l)
-place-swap g h d l = put-swap places ranks g h d l
-
 -- a walk that places the hits as they come, in a list cut at k, ends with the first k of all by rank
 pub walked-hits : (k : ℕ) (gs : List Hit) → different (map (λ (h : Hit). h .window) gs) ≡ true → topAfter place k [] gs ≡ take k (foldr place [] gs)
 walked-hits k gs d = top-after places ranks k gs d
-
--- so a walk over different windows ends with the hits of the query
-pub walked-ranked : {I : Type 0} (n : ℕ) (count : I → ℕ → ℕ) (windows : List ℕ) (k : ℕ) (is : List I) → different windows ≡ true
-    → topAfter place k [] (map (λ w. record { window = w; score = score n count windows is w }) (matching n count windows is)) ≡ ranked n count windows k is
-unfolding ranked matching
-walked-ranked n count windows k is d = walked-hits k (map hit found) (rw (same found) (different-keep _ windows d))
-  where
-    hit : ℕ → Hit
-    hit w = record { window = w; score = score n count windows is w }
-
-    found : List ℕ
-    found = matching n count windows is
-
-    same : (l : List ℕ) → map (λ (h : Hit). h .window) (map hit l) ≡ l
-    same [] = refl
-    same (w ∷ l) = ap {B = List ℕ} (λ r. w ∷ r) (same l)

@@ -1,17 +1,5 @@
 -- The best hits stand by rank, so that the last of a full list tells which hit gets no place.
-use mathlib.Core.Bool.{true, false, _||_}
-use mathlib.Core.List.{List, [], _∷_}
-use mathlib.Core.Logic.{_⊎_, inl, inr}
-use mathlib.Core.Path.{_≡_, sym, ap, _∙_}
-use Prim.Native.Nat.{ℕ, zero, suc, _-_, _≤_, _<_}
-use native.Mathlib.Omega.{arith}
-use lib.Dec.{ltb}
-use lib.ListN.{length, getD, take}
-use lib.Seq.{getD-take}
-use borrow.Author.Tests.{ltb-true, ltb-false}
-use Rattle.lists.specs.All.{AllOf}
-use Rattle.lists.proofs.Bools.{by-test, or-none}
-use Rattle.lists.proofs.Runs.{never}
+use Rattle.lists.proofs.Prelude.{true, false, _||_, List, [], _∷_, _⊎_, inl, inr, _≡_, sym, ap, _∙_, ℕ, zero, suc, _-_, _≤_, _<_, arith, ltb, length, getD, take, getD-take, ltb-true, ltb-false, AllOf, by-test, or-none, never}
 use Rattle.answers.specs.declared.Hit.{Hit}
 use Rattle.queries.specs.declared.Top.{Top}
 use Rattle.queries.specs.Hits.{outranks, place}

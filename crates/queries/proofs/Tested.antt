@@ -1,17 +1,6 @@
 -- The tests of a query's identifiers, turn by turn, and what sound buffers give to them.
-use mathlib.Core.Bool.{Bool, true, false, _||_, not}
-use mathlib.Core.List.{List, [], _∷_, map}
-use mathlib.Core.Path.{_≡_, refl, sym, ap, ap₂, _∙_}
-use Prim.Native.Nat.{ℕ, _+_, _*_, _<_, _≤_}
-use native.Mathlib.Numerals.{add-one}
-use native.Mathlib.Omega.{arith}
-use lib.Dec.{eqb, ltb}
-use lib.ListN.{length, getD, take, drop, length-map}
-use lib.Seq.{take-all}
-use borrow.Author.Tests.{ne-eqb}
+use Rattle.lists.proofs.Prelude.{Bool, true, false, _||_, not, List, [], _∷_, map, _≡_, refl, sym, ap, ap₂, _∙_, ℕ, _+_, _*_, _<_, _≤_, add-one, arith, eqb, ltb, length, getD, take, drop, length-map, take-all, ne-eqb, any, empty, same, turn, end, used-turn, used-end}
 use denote.Ref.{RefT, now}
-use Rattle.lists.specs.Lists.{any, empty, same}
-use Rattle.lists.proofs.Turns.{turn, end, used-turn, used-end}
 use Rattle.words.specs.Words.{words}
 use Rattle.words.proofs.Views.{length-words}
 use Rattle.state.specs.declared.State.{State}

@@ -1,15 +1,5 @@
 -- The list of the best hits: the rank of a hit in it, and what an insertion makes of it.
-use mathlib.Core.Bool.{true, false}
-use mathlib.Core.List.{List, [], _∷_, _++_}
-use mathlib.Core.Path.{_≡_, refl, sym, ap, ap₂, _∙_}
-use Prim.Native.Nat.{ℕ, suc, _+_, _-_, _≤_, _<_, min}
-use native.Mathlib.Numerals.{add-one}
-use native.Mathlib.Omega.{arith}
-use lib.Dec.{ltb}
-use lib.ListN.{length, getD, take, drop, set, replicate, length-take, drop-of-length-le, length-append, length-replicate}
-use lib.Seq.{take-all, take-append-seam, take-length, drop-cons, getD-take, length-take-le}
-use borrow.Author.Tests.{ltb-true, ltb-false}
-use Rattle.lists.proofs.Bools.{by-test}
+use Rattle.lists.proofs.Prelude.{true, false, List, [], _∷_, _++_, _≡_, refl, sym, ap, ap₂, _∙_, ℕ, suc, _+_, _-_, _≤_, _<_, min, add-one, arith, ltb, length, getD, take, drop, set, replicate, length-take, drop-of-length-le, length-append, length-replicate, take-all, take-append-seam, take-length, drop-cons, getD-take, length-take-le, ltb-true, ltb-false, by-test}
 use Rattle.lists.proofs.Shifts.{raised}
 use Rattle.lists.proofs.Places.{length-insert}
 use Rattle.lists.proofs.TopK.{filled-over}

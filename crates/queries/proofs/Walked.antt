@@ -1,16 +1,5 @@
 -- The second pass of a query: what is found from a window down, step by step.
-use mathlib.Core.Bool.{Bool, true, false, cond, _&&_, _||_}
-use mathlib.Core.List.{List, [], _∷_, foldr, map}
-use mathlib.Core.Path.{_≡_, refl, sym, ap, _∙_}
-use Prim.Native.Nat.{ℕ, zero, suc, _+_, _-_, _*_, _<_, _≤_, zero-le}
-use native.Mathlib.Omega.{arith}
-use lib.IntN.{ℤ}
-use lib.Dec.{ltb}
-use lib.ListN.{length, getD, take}
-use borrow.Author.Tests.{ne-eqb}
-use Rattle.lists.specs.Lists.{any, every, elem, different}
-use Rattle.lists.specs.All.{AllOf}
-use Rattle.lists.proofs.Bools.{by-test, and-left, and-right, and-both}
+use Rattle.lists.proofs.Prelude.{Bool, true, false, cond, _&&_, _||_, List, [], _∷_, foldr, map, _≡_, refl, sym, ap, _∙_, ℕ, zero, suc, _+_, _-_, _*_, _<_, _≤_, zero-le, arith, ℤ, ltb, length, getD, take, ne-eqb, any, every, elem, different, AllOf, by-test, and-left, and-right, and-both}
 use Rattle.lists.proofs.TopK.{topAfter}
 use Rattle.keyed.specs.Keys.{sums, overKeys, headVals}
 use Rattle.keyed.specs.Groups.{Group, topAll, allFallAll, moveAll, headsFineAll}
@@ -159,7 +148,7 @@ module _ (W R : List ℕ) (m g places : ℕ) (H₀ : List ℕ) where
   pub record Walking (H : List ℕ) (best : Top) (top : ℕ) : Type 0 where
     pub bound : ℕ
     pub long : length H ≡ length H₀
-    pub kept : AllOf (KeptGroup W R m) (parts (4 * m + 2) g H)
+    pub kept : AllOf (KeptGroup W R m) (parts (4 * m + 4) g H)
     pub same : weightsIn (termsOf W R m g H) ≡ weights
     pub reach : top ≡ topAll 0 (groupsIn (termsOf W R m g H))
     pub held : Held places best
@@ -203,7 +192,7 @@ module _ (W R : List ℕ) (m g places : ℕ) (H₀ : List ℕ) where
       pub walk-ranges : every inRange (map (headVals k) gs) ≡ true
       walk-ranges = in-range places weights gs (walking .left) k at-top
 
-      module _ (H′ : List ℕ) (next : ℕ) (long : length H′ ≡ length H) (kept : AllOf (KeptGroup W R m) (parts (4 * m + 2) g H′))
+      module _ (H′ : List ℕ) (next : ℕ) (long : length H′ ≡ length H) (kept : AllOf (KeptGroup W R m) (parts (4 * m + 4) g H′))
           (rests : termsOf W R m g H′ ≡ map (moved k) (termsOf W R m g H)) (up : next ≡ topAll 0 (groupsIn (termsOf W R m g H′))) where
         groups-moved : groupsIn (termsOf W R m g H′) ≡ moveAll k gs
         groups-moved = ap groupsIn rests ∙ moved-groups k (termsOf W R m g H)

@@ -33,7 +33,7 @@ pub record Readied (s : State) (cs R : List ℕ) (h spare : ℕ) : Type 0 where
   pub long : length (words cs) ≡ 1024 * blocks s
   pub partitions : partitionsFormed (words cs) (blocks s) (finished (s .partitions)) ≡ true
   pub packed : Packed (s .buffer) R
-  pub room : (4 * (s .partitions .used + 1) + 2) * 5 ≤ h
+  pub room : (4 * (s .partitions .used + 1) + 4) * 5 ≤ h
   pub most : h ≤ 65536
   pub one : spare ≡ 4 * s .partitions .used + 4
 
@@ -49,7 +49,7 @@ pub data Serving (W : List ℕ) (s : State) : List ℕ → List Term → Type 0 
 -- H has the terms of the first five of the identifiers, and k tells how many, and how many postings they have
 pub record Keeps (W R : List ℕ) (s : State) (is : List ℕ) (k : Known) (H : List ℕ) : Type 0 where
   pub used : k .used ≡ length (take 5 is)
-  pub kept : AllOf (KeptGroup W R (s .partitions .used + 1)) (parts (4 * (s .partitions .used + 1) + 2) (k .used) H)
+  pub kept : AllOf (KeptGroup W R (s .partitions .used + 1)) (parts (4 * (s .partitions .used + 1) + 4) (k .used) H)
   pub served : Serving W s (take 5 is) (termsOf W R (s .partitions .used + 1) (k .used) H)
   pub taken : k .taken ≡ storedUnder W s (take 5 is)
 

@@ -28,7 +28,7 @@ module _ {I : Type 0} (n : ℕ) (count : I → ℕ → ℕ) (windows : List ℕ)
   unfoldable pub score : List I → ℕ → ℕ
   score is w = totalBy (λ i. cond (ltb 0 (count i w)) (tfWeight (count i w) * idfWeight n (frequency i)) 0) is
 
-  -- the windows with a count above 0 of at least one identifier
+  -- the windows in which some identifier counts
   unfoldable pub matching : List I → List ℕ
   matching is = keep (λ w. any (λ i. ltb 0 (count i w)) is) windows
 

@@ -33,10 +33,10 @@ foundIn ts = foundBy (weightsIn ts) (groupsIn ts)
 
 -- g terms of m lists each that can be merged: they may be read, their lists fall, and every sum is within ±32,767
 pub record Walkable (W R : List ℕ) (m g : ℕ) (H : List ℕ) : Type 0 where
-  pub fits : (4 * m + 2) * g ≤ length H
+  pub fits : (4 * m + 4) * g ≤ length H
   pub short : length H ≤ 65536
   pub lists : m ≤ 52
   pub terms : g ≤ 5
-  pub kept : AllOf (KeptGroup W R m) (parts (4 * m + 2) g H)
+  pub kept : AllOf (KeptGroup W R m) (parts (4 * m + 4) g H)
   pub falls : allFallAll 65536 (groupsIn (termsOf W R m g H)) ≡ true
   pub ranges : (w : ℕ) → every inRange (map (sums w) (groupsIn (termsOf W R m g H))) ≡ true

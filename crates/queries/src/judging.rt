@@ -39,7 +39,7 @@ fn keep_one(
         };
     }
     let m = s.partitions.used as usize + 1;
-    let size = 4 * m + 2;
+    let size = 4 * m + 4;
     let at = size * k.used as usize;
     let end = at + size;
     let o = terms::counting::keep_term(card, run, &mut heads[at..end], spare, s, id);
@@ -135,17 +135,10 @@ fn all_differ(ids: &[&[u8]]) -> bool
 pub fn bad_query(ids: &[&[u8]], places: usize) -> bool
     ensures { λ r. ⌜ r ≡ badQuery places (map now (now (ids .entry))) ⌝ }
 {
-    if ids.len() == 0 {
+    let count = ids.len();
+    if 5 < count {
         return true;
     }
-    if 5 < ids.len() {
-        return true;
-    }
-    if !all_differ(ids) {
-        return true;
-    }
-    if places == 0 {
-        return true;
-    }
-    32 < places
+    let repeated = !all_differ(ids);
+    (count == 0) | (repeated | ((places == 0) | (32 < places)))
 }

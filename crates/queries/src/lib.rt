@@ -1,14 +1,17 @@
 // The query.
+use admission::Admission;
 use answers::Found;
 use answers::Hit;
 use answers::Refusal;
 use state::State;
-ghost use mathlib.Core.Bool.{_||_};
+ghost use mathlib.Core.Bool.{true, _||_};
 ghost use mathlib.Core.List.{[], _∷_, _++_, map};
 ghost use mathlib.Core.Path.{_≡_};
 ghost use Prim.Native.Nat.{_+_, _-_, _≤_, _<_, min};
 ghost use lib.Dec.{ltb};
 ghost use lib.ListN.{length, take, drop};
+ghost use Rattle.state.specs.Rules.{stateRule};
+ghost use Rattle.identifiers.specs.Register.{registerRule};
 ghost use Rattle.queries.specs.Hits.{outranks, place};
 ghost use Rattle.queries.specs.Top.{topOf, listedHits, Held, rank};
 ghost use Rattle.queries.specs.Gathered.{Sound, Readied};
@@ -46,13 +49,7 @@ pub fn no_hits() -> Top
 pub fn outranks(g: Hit, h: Hit) -> bool
     ensures { λ r. ⌜ r ≡ outranks g h ⌝ }
 {
-    if h.score < g.score {
-        return true;
-    }
-    if h.score == g.score {
-        return h.window < g.window;
-    }
-    false
+    (h.score < g.score) | ((h.score == g.score) & (h.window < g.window))
 }
 
 // How many hits stand before the first that `g` outranks.
@@ -117,10 +114,7 @@ pub fn place_hit(t: Top, g: Hit, places: u16) -> Top
 fn enters(used: u16, places: u16, g: Hit, last: Hit) -> bool
     ensures { λ r. ⌜ r ≡ (ltb used places || outranks g last) ⌝ }
 {
-    if used < places {
-        return true;
-    }
-    outranks(g, last)
+    (used < places) | outranks(g, last)
 }
 
 // A refusal: no hits.
@@ -167,13 +161,14 @@ fn search_with(
     }
 }
 
-// Makes room for the heads of five terms of 52 lists each, for one more to be judged, and for the buffer's postings as words.
+// Makes room for the heads of five terms of 52 lists each, for one more to be judged, and for the buffer's postings as words. The calls from two places keep the
+// compiler from putting this room into their frame, below which the register is judged.
 fn search_sound(s: State, card: &[u8], register: &[u8], ids: &[&[u8]], places: usize) -> Answered
     requires { ⌜ Sound s (now card) (now register) ⌝ }
     ensures { λ r. ⌜ AsksValue s (now (card .entry)) (now (register .entry)) (map now (now (ids .entry))) places r ⌝ }
 {
     let mut run: [u32; 128] = [0; 128];
-    let mut heads: [u32; 1050] = [0; 1050];
+    let mut heads: [u32; 1060] = [0; 1060];
     let mut spare: [u32; 208] = [0; 208];
     terms::opening::pack_run(s.buffer, &mut run);
     let end = 4 * s.partitions.used as usize + 4;
@@ -189,24 +184,27 @@ fn search_sound(s: State, card: &[u8], register: &[u8], ids: &[&[u8]], places: u
     )
 }
 
+// A query that is admitted: 3 for the finished partitions, and then what is read of its identifiers.
+fn search_admitted(s: State, card: &[u8], register: &[u8], ids: &[&[u8]], places: usize) -> Answered
+    requires { ⌜ (stateRule s ≡ true) × (length (now card) ≡ s .lengths .card) × (length (now register) ≡ s .lengths .register) × (registerRule (now register) ≡ true) ⌝ }
+    ensures { λ r. ⌜ AsksValue s (now (card .entry)) (now (register .entry)) (map now (now (ids .entry))) places r ⌝ }
+{
+    if !partitions::partitions_ok(card, s.lengths.card / 4096, s.partitions) {
+        return refuse(Refusal::Malformed);
+    }
+    if places == 32 {
+        return search_sound(s, card, register, ids, 32);
+    }
+    search_sound(s, card, register, ids, places)
+}
+
 // The query, with a list of so many places.
 pub fn search(s: State, card: &[u8], register: &[u8], ids: &[&[u8]], places: usize) -> Answered
     ensures { λ r. ⌜ AsksValue s (now (card .entry)) (now (register .entry)) (map now (now (ids .entry))) places r ⌝ }
 {
-    if !state::state_ok(s) {
-        return refuse(Refusal::BrokenState);
+    let a = admission::judge_probe(state::state_ok(s), s.lengths, card, register);
+    match a {
+        Admission::Refused(why) => refuse(why),
+        Admission::Granted => search_admitted(s, card, register, ids, places),
     }
-    if card.len() != s.lengths.card as usize {
-        return refuse(Refusal::WrongLength);
-    }
-    if register.len() != s.lengths.register as usize {
-        return refuse(Refusal::WrongLength);
-    }
-    if !identifiers::register_ok(register) {
-        return refuse(Refusal::Malformed);
-    }
-    if !partitions::partitions_ok(card, s.lengths.card / 4096, s.partitions) {
-        return refuse(Refusal::Malformed);
-    }
-    search_sound(s, card, register, ids, places)
 }

@@ -1,13 +1,5 @@
 -- What a removal gives after refusals 1 to 3, by its tests and by its flush's target.
-use mathlib.Core.Bool.{Bool, true, false, _&&_, _||_, not}
-use mathlib.Core.List.{List}
-use mathlib.Core.Path.{_≡_, subst}
-use Prim.Native.Nat.{ℕ, _≤_, _+_}
-use native.Mathlib.Omega.{arith}
-use lib.Dec.{eqb, ltb, leb}
-use lib.ListN.{length}
-use borrow.Author.Tests.{leb-false}
-use Rattle.lists.proofs.Bools.{or-none}
+use Rattle.lists.proofs.Prelude.{Bool, true, false, _&&_, _||_, not, List, _≡_, subst, ℕ, _≤_, _+_, arith, eqb, ltb, leb, length, leb-false, or-none}
 use Rattle.words.specs.Words.{words, bytes}
 use Rattle.postings.specs.declared.Posting.{Posting}
 use Rattle.answers.specs.declared.Refusal.{Refusal}

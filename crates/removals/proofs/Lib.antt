@@ -3,5 +3,3 @@ pub mod Takes
 pub mod Given
 pub mod Takeables
 pub mod Turns
-pub mod Effect
-pub mod Whole

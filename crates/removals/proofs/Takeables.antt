@@ -1,15 +1,5 @@
 -- A judged window's counts can be taken back from the buffer, with a flush first or without.
-use mathlib.Core.Bool.{true}
-use mathlib.Core.List.{List, [], List·Memᴰ}
-use mathlib.Core.Path.{_≡_, refl, ap, _∙_}
-use Prim.Native.Nat.{ℕ, zero, suc, _+_, _≤_}
-use native.Mathlib.Omega.{arith}
-use lib.Dec.{leb}
-use lib.IntN.{ℤ, pos, negsuc, natAbs, negℤ, _+ℤ_, +ℤ-idr, +ℤ-invl, +ℤ-assoc, negℤ-+ℤ}
-use lib.ListN.{length}
-use borrow.Author.Tests.{leb-true, le-leb, eqb-true, ltb-false}
-use Rattle.lists.specs.Lists.{every, empty}
-use Rattle.lists.proofs.Bools.{by-test, and-left, and-right, and-both}
+use Rattle.lists.proofs.Prelude.{true, List, [], List·Memᴰ, _≡_, refl, ap, _∙_, ℕ, zero, suc, _+_, _≤_, arith, leb, ℤ, pos, negsuc, natAbs, negℤ, _+ℤ_, +ℤ-idr, +ℤ-invl, +ℤ-assoc, negℤ-+ℤ, length, leb-true, le-leb, eqb-true, ltb-false, every, empty, by-test, and-left, and-right, and-both}
 use Rattle.words.specs.Words.{words}
 use Rattle.postings.specs.declared.Posting.{Posting}
 use Rattle.postings.specs.Order.{ordered}

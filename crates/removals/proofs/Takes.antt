@@ -1,18 +1,5 @@
 -- Counts taken back one by one, from the last to the first.
-use mathlib.Core.Bool.{true, not}
-use mathlib.Core.List.{List, [], _∷_, map, foldr}
-use mathlib.Core.Path.{_≡_, refl, sym, ap, _∙_}
-use Prim.Native.Nat.{ℕ, zero, suc, _+_, _<_, _≤_}
-use native.Mathlib.Numerals.{add-one}
-use native.Mathlib.Omega.{arith}
-use lib.Dec.{leb}
-use lib.IntN.{ℤ, pos, negsuc, natAbs, negℤ}
-use lib.ListN.{length, getD, drop, drop-of-length-le, length-map, length-drop}
-use lib.Seq.{drop-cons, getD-take, length-take-le}
-use borrow.Author.Tests.{leb-true}
-use Rattle.lists.specs.Lists.{any, every}
-use Rattle.lists.proofs.Bools.{and-left, and-right}
-use Rattle.lists.proofs.Tests.{every-at}
+use Rattle.lists.proofs.Prelude.{true, not, List, [], _∷_, map, foldr, _≡_, refl, sym, ap, _∙_, ℕ, zero, suc, _+_, _<_, _≤_, add-one, arith, leb, ℤ, pos, negsuc, natAbs, negℤ, length, getD, drop, drop-of-length-le, length-map, length-drop, drop-cons, getD-take, length-take-le, leb-true, any, every, and-left, and-right, every-at}
 use Rattle.postings.specs.declared.Posting.{Posting}
 use Rattle.postings.specs.Order.{precedes, samePair, ordered}
 use Rattle.postings.specs.Merge.{isZero, put, isCounted, nonzero, negated}

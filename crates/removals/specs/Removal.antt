@@ -24,7 +24,7 @@ use Rattle.windows.specs.Calls.{isOpen}
 pub use Rattle.sums.specs.Tally.{ofWindow}
 unfoldable pub use Rattle.sums.specs.Tally.{countsOf, listsFormed}
 
--- read from the buffers, a window is live when a count of it is above 0
+-- a removal finds out from card and buffer whether its window is live: one of the counts found is positive
 abbrev pub isLive : List Posting → Bool
 isLive counts = any (λ p. isAbove (p .count)) counts
 

@@ -1,4 +1,5 @@
 // Removal of a window.
+use admission::Admission;
 use answers::Refusal;
 use postings::Posting;
 use state::Buffer;
@@ -7,8 +8,8 @@ use state::Windows;
 use sums::Counts;
 use windows::Replied;
 use windows::Target;
-ghost use mathlib.Core.Bool.{_&&_, _||_, not, cond};
-ghost use mathlib.Core.List.{foldr};
+ghost use mathlib.Core.Bool.{true, _&&_, _||_, not, cond};
+ghost use mathlib.Core.List.{[], foldr};
 ghost use mathlib.Core.Path.{_≡_};
 ghost use Prim.Native.Nat.{_+_, _≤_};
 ghost use lib.Dec.{eqb, ltb, leb};
@@ -17,6 +18,10 @@ ghost use Rattle.postings.specs.Merge.{put, nonzero, negated};
 ghost use Rattle.postings.specs.Sums.{isAbove};
 ghost use Rattle.answers.specs.Numbers.{replied};
 ghost use Rattle.state.specs.Views.{buffered, bufferOf};
+ghost use Rattle.state.specs.Rules.{stateRule};
+ghost use Rattle.words.specs.Words.{words as wordsOf, bytes};
+ghost use Rattle.windows.specs.Flush.{flushedTo, flushedCard};
+ghost use Rattle.windows.specs.Targets.{Chosen};
 ghost use Rattle.windows.specs.Promises.{Gives, storeOf};
 ghost use Rattle.sums.specs.Views.{countsIn};
 ghost use Rattle.removals.specs.Removal.{isLive, removed, removing};
@@ -61,14 +66,40 @@ fn without(s: State, c: Counts) -> State
     t
 }
 
+// A buffer without postings.
+fn empty_buffer() -> Buffer
+    ensures { λ r. ⌜ r ≡ bufferOf [] ⌝ }
+{
+    let none = Posting {
+        id: 0,
+        window: 0,
+        count: 0,
+    };
+    Buffer {
+        used: 0,
+        postings: [none; 128],
+    }
+}
+
+// The flush that comes first: only buffer and partitions are handed on, so that few copies of the state stand on the stack.
+fn flushed(s: State, card: &mut [u8], block: u16) -> State
+    requires { ⌜ (stateRule s ≡ true) × (length (now card) ≡ s .lengths .card) × Chosen s (wordsOf (now card)) block ⌝ }
+    ensures { λ r. ⌜ (r ≡ flushedTo s block) × (now (card .exit) ≡ bytes (flushedCard s (wordsOf (now (card .entry))) block)) ⌝ }
+{
+    let list = flushes::flush(card, block, s.buffer, s.partitions);
+    let empty = empty_buffer();
+    let mut t = s;
+    t.buffer = empty;
+    t.partitions = list;
+    t.taken = block;
+    t
+}
+
 // Is it the open window's number?
 fn names_open(w: Windows, window: u32) -> bool
     ensures { λ r. ⌜ r ≡ (not (eqb (w .current) 0) && eqb window (w .current)) ⌝ }
 {
-    if w.current == 0 {
-        return false;
-    }
-    window == w.current as u32
+    !(w.current == 0) & (window == w.current as u32)
 }
 
 // Is a count above 0?
@@ -99,13 +130,11 @@ fn is_live(c: Counts) -> bool
 fn open_counted(w: Windows) -> u16
     ensures { λ r. ⌜ r ≡ cond (not (eqb (w .current) 0) && ltb 0 (w .events)) 1 0 ⌝ }
 {
-    if w.current == 0 {
-        return 0;
+    if !(w.current == 0) & (0 < w.events) {
+        1
+    } else {
+        0
     }
-    if w.events == 0 {
-        return 0;
-    }
-    1
 }
 
 // Is there no such window to remove: none that is live, none given yet, or none but the open one in N?
@@ -113,13 +142,7 @@ fn not_live(w: Windows, window: u32, c: Counts) -> bool
     requires { ⌜ c .used ≤ 64 ⌝ }
     ensures { λ r. ⌜ r ≡ (not (isLive (countsIn c)) || (ltb (w .last) window || leb (w .live) (cond (not (eqb (w .current) 0) && ltb 0 (w .events)) 1 0))) ⌝ }
 {
-    if !is_live(c) {
-        return true;
-    }
-    if (w.last as u32) < window {
-        return true;
-    }
-    w.live <= open_counted(w)
+    !is_live(c) | (((w.last as u32) < window) | (w.live <= open_counted(w)))
 }
 
 // Do buffered postings and counts together exceed 128?
@@ -146,24 +169,20 @@ fn remove_counts(s: State, card: &mut [u8], window: u32, c: Counts) -> Replied
     match target {
         Target::Refused(why) => windows::refuse(s, why),
         Target::Block(b) => {
-            let t = windows::flushing::flush_to(s, card, b);
+            let t = flushed(s, card, b);
             windows::done(without(t, c))
         }
         Target::Nothing => windows::done(without(s, c)),
     }
 }
 
-// Removes a closed window: each of its counts is buffered negated, and N is one less.
-pub fn remove(s: State, card: &mut [u8], window: u32) -> Replied
+// A removal that is admitted: 3 for the finished partitions and what is read of the window, and then its counts.
+fn remove_admitted(s: State, card: &mut [u8], window: u32) -> Replied
+    requires { ⌜ (stateRule s ≡ true) × (length (now card) ≡ s .lengths .card) ⌝ }
     ensures { λ r. ⌜ Removes s (now (card .entry)) window r (now (card .exit)) ⌝ }
 {
-    if !state::state_ok(s) {
-        return windows::refuse(s, Refusal::BrokenState);
-    }
-    if card.len() != s.lengths.card as usize {
-        return windows::refuse(s, Refusal::WrongLength);
-    }
-    if !partitions::partitions_ok(card, s.lengths.card / 4096, s.partitions) {
+    let ps = s.partitions;
+    if !partitions::partitions_ok(card, s.lengths.card / 4096, ps) {
         return windows::refuse(s, Refusal::Malformed);
     }
     let read = sums::read(card, s, window);
@@ -173,4 +192,15 @@ pub fn remove(s: State, card: &mut [u8], window: u32) -> Replied
     }
     let c = read.counts;
     remove_counts(s, card, window, c)
+}
+
+// Removes a closed window: each of its counts is buffered negated, and N is one less.
+pub fn remove(s: State, card: &mut [u8], window: u32) -> Replied
+    ensures { λ r. ⌜ Removes s (now (card .entry)) window r (now (card .exit)) ⌝ }
+{
+    let a = admission::judge_card(state::state_ok(s), s.lengths, card);
+    match a {
+        Admission::Refused(why) => windows::refuse(s, why),
+        Admission::Granted => remove_admitted(s, card, window),
+    }
 }

@@ -1,11 +1,5 @@
 -- The head of a reader: what is there, and what is taken of it under a key.
-use mathlib.Core.Bool.{Bool, true, false, cond, _&&_}
-use mathlib.Core.List.{List, [], _∷_}
-use mathlib.Core.Path.{_≡_, refl}
-use Prim.Native.Nat.{ℕ, zero, suc, _<_}
-use native.Mathlib.Omega.{arith}
-use lib.Dec.{ltb, eqb}
-use borrow.Author.Tests.{lt-ltb, le-ltb, eq-eqb}
+use Rattle.lists.proofs.Prelude.{Bool, true, false, cond, _&&_, List, [], _∷_, _≡_, refl, ℕ, zero, suc, _<_, arith, ltb, eqb, lt-ltb, le-ltb, eq-eqb}
 use Rattle.keyed.specs.Keys.{rest, headVal, headFine}
 use Rattle.postings.specs.Pack.{wordCount, isPosting}
 use Rattle.card.specs.Cursors.{headOf}

@@ -1,13 +1,5 @@
 -- Keys of postings: their order is that of the postings, and their sums are those of the pairs.
-use mathlib.Core.Bool.{Bool, true, false, _&&_, and-false}
-use mathlib.Core.List.{List, [], _∷_, map}
-use mathlib.Core.Path.{_≡_, refl, sym, ap, ap₂, _∙_}
-use Prim.Native.Nat.{ℕ, _<_, _≤_}
-use native.Mathlib.Omega.{arith}
-use lib.Dec.{leb, ltb, eqb}
-use borrow.Author.Tests.{leb-true, ltb-true, ltb-false, eqb-true, eqb-false, lt-ltb, le-ltb, eq-eqb, ne-eqb}
-use Rattle.lists.specs.Lists.{every, joined}
-use Rattle.lists.proofs.Bools.{by-test, and-left, and-right}
+use Rattle.lists.proofs.Prelude.{Bool, true, false, _&&_, and-false, List, [], _∷_, map, _≡_, refl, sym, ap, ap₂, _∙_, ℕ, _<_, _≤_, arith, leb, ltb, eqb, leb-true, ltb-true, ltb-false, eqb-true, eqb-false, lt-ltb, le-ltb, eq-eqb, ne-eqb, every, joined, by-test, and-left, and-right}
 use Rattle.keyed.specs.Keys.{falls, allFall, sumOf, sums}
 use Rattle.postings.specs.declared.Posting.{Posting}
 use Rattle.postings.specs.Order.{precedes, samePair, ordered}

@@ -1,10 +1,5 @@
 -- The pairs by falling key are the pairs of the postings in order.
-use mathlib.Core.Bool.{true, false}
-use mathlib.Core.List.{List, [], _∷_, _++_, map, foldr}
-use mathlib.Core.Path.{_≡_, refl, sym, ap, _∙_}
-use Rattle.lists.specs.Lists.{every, joined}
-use Rattle.lists.proofs.Bools.{by-test, and-left, and-right, and-both}
-use Rattle.lists.proofs.Tests.{every-append}
+use Rattle.lists.proofs.Prelude.{true, false, List, [], _∷_, _++_, map, foldr, _≡_, refl, sym, ap, _∙_, every, joined, by-test, and-left, and-right, and-both, every-append}
 use Rattle.keyed.specs.Keys.{Pair, allFall, keyPairs as keyedPairs}
 use Rattle.keyed.specs.Collect.{putItem as putKeyed, putAll, collect}
 use Rattle.keyed.proofs.Collected.{pairs-collect}

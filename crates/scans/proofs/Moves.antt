@@ -1,16 +1,5 @@
 -- Every posting that a reader has still to come has a key of its own.
-use mathlib.Core.Bool.{true}
-use mathlib.Core.List.{List, [], _∷_}
-use mathlib.Core.Path.{_≡_, refl}
-use Prim.Native.Nat.{ℕ, _-_, _/_, _≤_}
-use native.Mathlib.Omega.{arith}
-use lib.Dec.{ltb, leb}
-use lib.ListN.{getD, drop}
-use borrow.Author.Tests.{le-leb, leb-true}
-use Rattle.lists.specs.Lists.{every}
-use Rattle.lists.specs.All.{AllOf}
-use Rattle.lists.proofs.Bools.{by-test, and-left, and-right, and-both}
-use Rattle.lists.proofs.Runs.{never}
+use Rattle.lists.proofs.Prelude.{true, List, [], _∷_, _≡_, refl, ℕ, _-_, _/_, _≤_, arith, ltb, leb, getD, drop, le-leb, leb-true, every, AllOf, by-test, and-left, and-right, and-both, never}
 use Rattle.words.specs.Words.{Below}
 use Rattle.card.specs.Cursors.{ahead}
 use Rattle.partitions.specs.declared.Reader.{Reader}

@@ -1,9 +1,5 @@
 -- One head: put, taken, and moved.
-use mathlib.Core.List.{List, [], _∷_}
-use mathlib.Core.Path.{_≡_, refl, ap, _∙_}
-use Prim.Native.Nat.{ℕ, zero, suc, _+_, _-_, _*_, _/_, _<_, _≤_}
-use native.Mathlib.Omega.{arith}
-use lib.ListN.{length, getD, set}
+use Rattle.lists.proofs.Prelude.{List, [], _∷_, _≡_, refl, ap, _∙_, ℕ, zero, suc, _+_, _-_, _*_, _/_, _<_, _≤_, arith, length, getD, set}
 use Rattle.keyed.specs.Keys.{reach, rest, headVal, headFine}
 use Rattle.postings.specs.Pack.{wordCount, isPosting}
 use Rattle.card.specs.Cursors.{headOf}

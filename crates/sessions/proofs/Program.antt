@@ -1,16 +1,6 @@
 -- Bytes taken in one after another are lines cut and obeyed one after another.
-use mathlib.Core.Bool.{true, false}
-use mathlib.Core.List.{List, [], _∷_, _++_, append-assoc, append-nil}
+use Rattle.lists.proofs.Prelude.{true, false, List, [], _∷_, _++_, append-assoc, append-nil, _≡_, refl, sym, _∙_, ap, ℕ, zero, suc, _+_, _≤_, _<_, arith, eqb, leb, length, take, take-all, length-take-le, leb-true, leb-false, joined, by-test}
 use mathlib.Core.Option.{Option}
-use mathlib.Core.Path.{_≡_, refl, sym, _∙_, ap}
-use Prim.Native.Nat.{ℕ, zero, suc, _+_, _≤_, _<_}
-use native.Mathlib.Omega.{arith}
-use lib.Dec.{eqb, leb}
-use lib.ListN.{length, take}
-use lib.Seq.{take-all, length-take-le}
-use borrow.Author.Tests.{leb-true, leb-false}
-use Rattle.lists.specs.Lists.{joined}
-use Rattle.lists.proofs.Bools.{by-test}
 use Rattle.state.specs.Probe.{Probe}
 use Rattle.engine.specs.Calls.{Call}
 use Rattle.texts.proofs.Splitting.{too-long}

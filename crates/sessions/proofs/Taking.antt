@@ -1,13 +1,5 @@
 -- What the code has in its buffers, as what is in hand.
-use mathlib.Core.Bool.{Bool, true, false, false≢true}
-use mathlib.Core.List.{List, [], _∷_, _++_}
-use mathlib.Core.Path.{_≡_, refl, sym, _∙_, ap}
-use Prim.Native.Nat.{ℕ, zero, suc, _+_, _-_, _≤_, _<_}
-use native.Mathlib.Numerals.{add-one}
-use native.Mathlib.Omega.{arith}
-use lib.ListN.{length, getD, take, drop, set, length-append, length-set, length-drop}
-use lib.Seq.{take-all, take-add, take-suc, take-suc-set, take-append-le, take-append-add, length-take-le, getD-drop}
-use borrow.Author.Tests.{eq-eqb, ne-eqb}
+use Rattle.lists.proofs.Prelude.{Bool, true, false, false≢true, List, [], _∷_, _++_, _≡_, refl, sym, _∙_, ap, ℕ, zero, suc, _+_, _-_, _≤_, _<_, add-one, arith, length, getD, take, drop, set, length-append, length-set, length-drop, take-all, take-add, take-suc, take-suc-set, take-append-le, take-append-add, length-take-le, getD-drop, eq-eqb, ne-eqb}
 use borrow.Rule.Slice.PartMut.{putMid, postOf}
 use Rattle.state.specs.Probe.{Probe}
 use Rattle.commands.specs.Commands.{commandOf}

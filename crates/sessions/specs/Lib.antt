@@ -1,2 +1,2 @@
-pub mod Arms
+pub mod Alone
 pub mod Lines

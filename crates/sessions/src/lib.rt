@@ -1,35 +1,112 @@
 // Lines of commands obeyed on a probe, one at a time.
 pub mod lines; // the input cut into lines
 
+use commands::Change;
 use commands::Order;
-use commands::calls::Done;
 use state::State;
+use windows::Replied;
 ghost use mathlib.Core.List.{map};
+ghost use mathlib.Core.Option.{none, some};
 ghost use Prim.Native.Nat.{_≤_};
 ghost use lib.ListN.{length};
-ghost use Rattle.windows.specs.Promises.{probeOf};
-ghost use Rattle.commands.specs.Commands.{callIn, commandOf};
+ghost use Rattle.answers.specs.Numbers.{replied};
+ghost use Rattle.engine.specs.Calls.{Open, Query, probeCall};
+ghost use Rattle.windows.specs.Promises.{Gives, probeOf};
+ghost use Rattle.commands.specs.Commands.{changing, changeReach, callIn, commandOf};
 ghost use Rattle.commands.specs.Answering.{Obeys};
-ghost use Rattle.sessions.specs.Arms.{Ignores, Asked};
+ghost use Rattle.sessions.specs.Alone.{ObeysAlone};
 
-// No command: nothing but the mark is written.
-fn unknown(s: State, out: &mut [u8]) -> Done
-    requires { ⌜ 1024 ≤ length (now out) ⌝ }
-    ensures { λ r. ⌜ Ignores s (now (out .exit)) (r .used) (r .state) ⌝ }
+// The state after a line, and how many bytes its text has.
+pub struct Done {
+    pub state: State,
+    pub used: usize,
+}
+
+// A call that is answered with a reply.
+fn reply_to(
+    s: State,
+    card: &mut [u8],
+    register: &mut [u8],
+    parts: &[&[u8]],
+    change: Change,
+) -> Replied
+    requires { ⌜ changeReach change ≤ length (now parts) ⌝ }
+    ensures { λ r. ⌜ Gives (probeOf s (now (card .entry)) (now (register .entry))) (probeCall (probeOf s (now (card .entry)) (now (register .entry))) (changing change (map now (now (parts .entry)))))
+        (replied (r .reply)) (probeOf (r .state) (now (card .exit)) (now (register .exit))) ⌝ }
 {
-    let used = texts::writing::write_unknown(out);
+    match change {
+        Change::Event => {
+            let id = parts[1];
+            engine::event(s, card, register, id)
+        }
+        Change::Close => engine::close(s),
+        Change::Remove(window) => engine::remove(s, card, window),
+        Change::Flush => engine::flush(s, card),
+        Change::Step => engine::step_value(s, card),
+    }
+}
+
+// The same, with its text.
+fn changed(
+    s: State,
+    card: &mut [u8],
+    register: &mut [u8],
+    parts: &[&[u8]],
+    change: Change,
+    out: &mut [u8],
+) -> Done
+    requires { ⌜ (changeReach change ≤ length (now parts)) × (1024 ≤ length (now out)) ⌝ }
+    ensures { λ r. ⌜ Obeys (probeOf s (now (card .entry)) (now (register .entry))) (some (changing change (map now (now (parts .entry)))))
+        (now (out .exit)) (r .used) (probeOf (r .state) (now (card .exit)) (now (register .exit))) ⌝ }
+{
+    let r = reply_to(s, card, register, parts, change);
+    let reply = r.reply;
+    let state = r.state;
+    let used = texts::writing::write_reply(out, reply);
+    Done {
+        state: state,
+        used: used,
+    }
+}
+
+// An open.
+fn opened(s: State, out: &mut [u8]) -> Done
+    requires { ⌜ 1024 ≤ length (now out) ⌝ }
+    ensures { λ r. ⌜ ObeysAlone s (some Open) (now (out .exit)) (r .used) (r .state) ⌝ }
+{
+    let r = engine::open(s);
+    let answer = r.answer;
+    let state = r.state;
+    let used = texts::writing::write_opened(out, answer);
+    Done {
+        state: state,
+        used: used,
+    }
+}
+
+// A query with so many places; it leaves everything as it is.
+fn asked(s: State, card: &[u8], register: &[u8], ids: &[&[u8]], places: u32, out: &mut [u8]) -> Done
+    requires { ⌜ 1024 ≤ length (now out) ⌝ }
+    ensures { λ r. ⌜ Obeys (probeOf s (now (card .entry)) (now (register .entry))) (some (Query places (map now (now (ids .entry)))))
+        (now (out .exit)) (r .used) (probeOf (r .state) (now (card .entry)) (now (register .entry))) ⌝ }
+{
+    let r = engine::query_value(s, card, register, ids, places as usize);
+    let answer = r.answer;
+    let top = r.top;
+    let hits = top.hits;
+    let used = texts::writing::write_found(out, answer, hits);
     Done {
         state: s,
         used: used,
     }
 }
 
-// A query, with the state as it was.
-fn asked(s: State, card: &[u8], register: &[u8], ids: &[&[u8]], places: u32, out: &mut [u8]) -> Done
+// No command: nothing but the mark is written.
+fn unknown(s: State, out: &mut [u8]) -> Done
     requires { ⌜ 1024 ≤ length (now out) ⌝ }
-    ensures { λ r. ⌜ Asked (probeOf s (now (card .entry)) (now (register .entry))) (map now (now (ids .entry))) places (now (out .exit)) (r .used) s (r .state) ⌝ }
+    ensures { λ r. ⌜ ObeysAlone s none (now (out .exit)) (r .used) (r .state) ⌝ }
 {
-    let used = commands::calls::query(s, card, register, ids, places, out);
+    let used = texts::writing::write_unknown(out);
     Done {
         state: s,
         used: used,
@@ -50,15 +127,8 @@ fn obey_fields(
 {
     let order = commands::order_of(parts);
     match order {
-        Order::Open => commands::calls::open(s, out),
-        Order::Event => {
-            let id = parts[1];
-            commands::calls::event(s, card, register, id, out)
-        }
-        Order::Close => commands::calls::close(s, out),
-        Order::Remove(window) => commands::calls::remove(s, card, window, out),
-        Order::Flush => commands::calls::flush(s, card, out),
-        Order::Step => commands::calls::step(s, card, out),
+        Order::Open => opened(s, out),
+        Order::Change(change) => changed(s, card, register, parts, change, out),
         Order::Query(places) => {
             let ids = &parts[2..];
             asked(s, &*card, &*register, ids, places, out)

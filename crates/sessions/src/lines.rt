@@ -1,5 +1,5 @@
 // The program's input cut into lines as it comes in, piece by piece, and each line obeyed. Texts are gathered in a lent buffer.
-use commands::calls::Done;
+use super::Done;
 use state::State;
 ghost use mathlib.Core.List.{[]};
 ghost use Prim.Native.Nat.{_+_, _≤_};
@@ -54,13 +54,9 @@ fn answer(
     ensures { λ r. ⌜ Answers (handOf s (now (card .entry)) (now (register .entry)) (now (line .entry)) (take used (now (out .entry)))) (length (now (out .exit))) (r .used)
         (handOf (r .state) (now (card .exit)) (now (register .exit)) [] (take (r .used) (now (out .exit)))) ⌝ }
 {
-    let d = super::obey(s, card, register, line, &mut out[used..]);
-    let state = d.state;
-    let more = d.used;
-    Done {
-        state: state,
-        used: used + more,
-    }
+    let mut d = super::obey(s, card, register, line, &mut out[used..]);
+    d.used = used + d.used;
+    d
 }
 
 // Takes in the bytes of a piece until it ends, or the buffer may be too full for one more line's text.

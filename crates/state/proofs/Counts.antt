@@ -1,11 +1,5 @@
 -- Levels: their list counted down, and the loops that count and find the partitions of one.
-use mathlib.Core.Bool.{true, false, not}
-use mathlib.Core.List.{List, [], _∷_}
-use mathlib.Core.Path.{_≡_, refl, sym, ap, _∙_}
-use Prim.Native.Nat.{ℕ, zero, suc, _-_, _<_}
-use native.Mathlib.Omega.{arith}
-use borrow.Author.Tests.{ne-eqb}
-use Rattle.lists.specs.Lists.{empty, below}
+use Rattle.lists.proofs.Prelude.{true, false, not, List, [], _∷_, _≡_, refl, sym, ap, _∙_, ℕ, zero, suc, _-_, _<_, arith, ne-eqb, empty, below}
 use Rattle.state.specs.declared.Due.{Due}
 use Rattle.state.specs.declared.MergeJob.{MergeJob}
 use Rattle.state.specs.declared.Partitions.{Partitions}

@@ -1,18 +1,6 @@
 -- The three lists of a state in their one form: what a used place after the count would break, and back.
-use mathlib.Core.Bool.{Bool, true}
-use mathlib.Core.List.{List}
-use mathlib.Core.Path.{_≡_, refl, sym}
-use Prim.Native.Nat.{ℕ, zero, suc, _-_, _≤_}
-use native.Mathlib.Omega.{arith}
-use lib.Dec.{eqb, leb}
-use lib.IntN.{ℤ, pos, negsuc}
-use lib.ListN.{length, take, drop, replicate}
-use lib.Seq.{length-take-le, take-append-seam, drop-append-seam}
-use borrow.Author.Tests.{eqb-true, le-leb}
-use Rattle.lists.specs.Lists.{every, different}
-use Rattle.lists.proofs.Bools.{by-test, and-left, and-right}
+use Rattle.lists.proofs.Prelude.{Bool, true, List, _≡_, refl, sym, ℕ, zero, suc, _-_, _≤_, arith, eqb, leb, ℤ, pos, negsuc, length, take, drop, replicate, length-take-le, take-append-seam, drop-append-seam, eqb-true, le-leb, every, different, by-test, and-left, and-right, every-replicate}
 use Rattle.lists.proofs.Padding.{padded-form}
-use Rattle.lists.proofs.Tests.{every-replicate}
 use Rattle.postings.specs.declared.Posting.{Posting}
 use Rattle.postings.specs.Merge.{isZero}
 use Rattle.postings.specs.Order.{ordered}

@@ -1,17 +1,5 @@
 -- What the rules of the state say, as plain facts, and back.
-use mathlib.Core.Bool.{true, false, _&&_, _||_, not, cond}
-use mathlib.Core.List.{[]}
-use mathlib.Core.Logic.{_⊎_, inl, inr}
-use mathlib.Core.Path.{_≡_, refl}
-use Prim.Native.Nat.{ℕ, _*_, _/_, _%_, _<_, _≤_}
-use native.Mathlib.Nat.{div-add-mod', mul-comm}
-use native.Mathlib.Omega.{arith}
-use lib.Dec.{eqb, leb, ltb}
-use lib.IntN.{natAbs}
-use lib.ListN.{length, drop}
-use borrow.Author.Tests.{ltb-true, leb-true, eqb-true, eqb-false, lt-ltb, le-leb, eq-eqb, ne-eqb, not-true}
-use Rattle.lists.specs.Lists.{every, empty, different}
-use Rattle.lists.proofs.Bools.{by-test, and-left, and-right, and-both}
+use Rattle.lists.proofs.Prelude.{true, false, _&&_, _||_, not, cond, _⊎_, inl, inr, _≡_, ℕ, _*_, _/_, _%_, _<_, _≤_, div-add-mod', mul-comm, arith, eqb, leb, ltb, natAbs, length, drop, ltb-true, leb-true, eqb-true, eqb-false, lt-ltb, le-leb, eq-eqb, ne-eqb, not-true, every, empty, different, by-test, and-left, and-right, and-both}
 use Rattle.postings.specs.declared.Posting.{Posting}
 use Rattle.postings.specs.Merge.{isZero}
 use Rattle.postings.specs.Order.{ordered}
@@ -24,10 +12,10 @@ use Rattle.state.specs.declared.Partition.{Partition}
 use Rattle.state.specs.declared.Partitions.{Partitions}
 use Rattle.state.specs.declared.MergeJob.{MergeJob}
 use Rattle.state.specs.declared.State.{State}
-use Rattle.state.specs.Views.{blocks, noMerge, listed, buffered, finished, listedOf, bufferOf, partitionsOf, emptyState}
+use Rattle.state.specs.Views.{blocks, noMerge, listed, buffered, finished, listedOf, bufferOf, partitionsOf}
 use Rattle.state.specs.Levels.{levels, levelLimit, ofLevel, dueLevels}
 use Rattle.state.specs.Rules.{cardLength, registerLength, lengthsRule, windowsRule, listedRule, postingRule, bufferRule, recordRule, unusedRecord, neverRise, partitionsRule, mergeRule, stateRule}
-use Rattle.state.proofs.Forms.{listed-form, buffer-form, partitions-form, listed-rule, buffer-rule, partitions-rule}
+use Rattle.state.proofs.Forms.{listed-form, buffer-form, partitions-form}
 
 -- ---- lengths
 
@@ -71,7 +59,7 @@ pub record Shut (w : Windows) : Type 0 where
   pub number : w .current ≡ 0
   pub events : w .events ≡ 0
 
--- the open window has the last number given, and is counted in N exactly when it has events
+-- with a window open: it is the last that was numbered, and N has it from its first event on
 pub record Opened (w : Windows) : Type 0 where
   pub some : 1 ≤ w .current
   pub number : w .current ≡ w .last
@@ -326,17 +314,3 @@ state-kept s e =
       taken = r .taken;
       merge = merge-kept (s .partitions) (s .merge) (r .merge);
     }
-
--- a state without windows keeps the rules
-pub empty-rule : (card register taken : ℕ) → cardLength card ≡ true → registerLength register ≡ true → taken < card / 4096 → stateRule (emptyState card register taken) ≡ true
-unfolding lengthsRule windowsRule mergeRule
-empty-rule card register taken c r t =
-    state-rule (emptyState card register taken) (record {
-      lengths = and-both (cardLength card) (registerLength register) c r;
-      windows = refl;
-      listed = listed-rule _ [] (omega arith) refl refl (λ z. refl);
-      buffer = buffer-rule _ [] (omega arith) refl refl;
-      partitions = partitions-rule _ [] (omega arith) refl refl refl;
-      taken = t;
-      merge = refl;
-    })

@@ -1,5 +1,5 @@
 pub mod Signs
-pub mod Neighbours
+pub mod Places
 pub mod Rows
 pub mod Counts
 pub mod Forms

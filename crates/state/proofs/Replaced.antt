@@ -1,16 +1,5 @@
 -- What a flush and a merge do to the levels: one more partition of level 0 at the end, and the inputs' place taken by the result.
-use mathlib.Core.Bool.{Bool, true, _&&_, cond}
-use mathlib.Core.List.{List, [], _∷_, _++_}
-use mathlib.Core.Path.{_≡_, refl, sym, ap, ap₂, _∙_}
-use Prim.Native.Nat.{ℕ, zero, suc, _+_, _<_, _≤_}
-use native.Mathlib.Omega.{arith}
-use lib.Dec.{eqb, leb, ltb}
-use lib.ListN.{length, take, drop, length-append, take-append-drop}
-use borrow.Author.Tests.{ltb-true, leb-true, eqb-true, eqb-false, le-leb, ne-eqb}
-use Rattle.lists.specs.Lists.{keep, every, below}
-use Rattle.lists.proofs.Bools.{by-test, and-left, and-right, and-both}
-use Rattle.lists.proofs.Tests.{every-from, keep-append, keep-all}
-use Rattle.lists.proofs.Tests.{every-append, every-take, every-drop}
+use Rattle.lists.proofs.Prelude.{Bool, true, _&&_, cond, List, [], _∷_, _++_, _≡_, refl, sym, ap, ap₂, _∙_, ℕ, zero, suc, _+_, _<_, _≤_, arith, eqb, leb, ltb, length, take, drop, length-append, take-append-drop, ltb-true, leb-true, eqb-true, eqb-false, le-leb, ne-eqb, keep, every, below, by-test, and-left, and-right, and-both, every-from, keep-append, keep-all, every-append, every-take, every-drop}
 use Rattle.state.specs.Levels.{dueAt, nextLevel, levelLimit, levels, ofLevel, dueLevels, oldestAt, oldest, replaced}
 use Rattle.state.proofs.Runs.{falls, due-first, before-run, oldest-length, oldest-level}
 

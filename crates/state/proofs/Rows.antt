@@ -1,10 +1,5 @@
 -- The lists of partitions and of identifiers in their one form: one more, a run replaced or gone.
-use mathlib.Core.List.{List, [], _∷_, _++_}
-use mathlib.Core.Path.{_≡_, sym, ap, _∙_}
-use Prim.Native.Nat.{ℕ, _+_, _<_, _≤_}
-use native.Mathlib.Omega.{arith}
-use lib.ListN.{length, length-take, set, length-append, length-set}
-use lib.Seq.{take-set-lt}
+use Rattle.lists.proofs.Prelude.{List, [], _∷_, _++_, _≡_, sym, ap, _∙_, ℕ, _+_, _<_, _≤_, arith, length, length-take, set, length-append, length-set, take-set-lt}
 use Rattle.lists.proofs.Padding.{padded-add, padded-set}
 use Rattle.state.specs.declared.Listed.{Listed}
 use Rattle.state.specs.declared.Partition.{Partition}

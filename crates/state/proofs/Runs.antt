@@ -1,20 +1,6 @@
 -- The due levels, and the run in which the partitions of a level stand where levels never rise, for partitions of whatever kind that have a level.
-use mathlib.Core.Bool.{Bool, true, false, _&&_}
-use mathlib.Core.List.{List, [], _∷_}
-use mathlib.Core.Path.{_≡_, refl, sym, ap, _∙_}
-use Prim.Native.Nat.{ℕ, zero, suc, _+_, _<_, _≤_}
-use native.Mathlib.Omega.{arith}
-use lib.Dec.{eqb, leb, ltb}
-use lib.ListN.{length, take, drop, length-drop}
-use lib.Seq.{take-take, length-take-le}
-use borrow.Author.Tests.{ltb-true, leb-true, leb-false, eqb-true, eqb-false, lt-ltb, ne-eqb}
-use Rattle.lists.specs.Lists.{keep, any, every, below}
-use Rattle.lists.proofs.Bools.{by-test, and-left, and-right, and-both}
-use Rattle.lists.proofs.Tests.{every-from, every-kept, keep-none, length-keep}
-use Rattle.lists.proofs.Tests.{every-take}
-use Rattle.state.specs.declared.Partition.{Partition}
+use Rattle.lists.proofs.Prelude.{Bool, true, false, _&&_, List, [], _∷_, _≡_, refl, sym, ap, _∙_, ℕ, zero, suc, _+_, _<_, _≤_, arith, eqb, leb, ltb, length, take, drop, length-drop, take-take, length-take-le, ltb-true, leb-true, leb-false, eqb-true, eqb-false, lt-ltb, ne-eqb, keep, any, every, below, by-test, and-left, and-right, and-both, every-from, every-kept, keep-none, length-keep, every-take}
 use Rattle.state.specs.Levels.{dueAt, ofLevel, dueLevels, oldestAt, oldest}
-use Rattle.state.specs.Rules.{neverRise}
 use Rattle.state.proofs.Counts.{levels-below}
 
 -- the first of those that a test keeps of n - 1, .., 0 passes it, and none above does
@@ -126,8 +112,3 @@ module _ {P : Type 0} (level : P → ℕ) where
   oldest-level ps v vs f h =
       rw (← take-take (dueAt v) (ofLevel level v ps) (drop (oldestAt level v ps) ps) h, ← run v ps f .0)
       (every-take (λ q. eqb (level q) v) (dueAt v) (keep (λ q. eqb (level q) v) ps) (every-kept (λ q. eqb (level q) v) ps))
-
--- of a state's partitions
-pub falls-records : (ps : List Partition) → neverRise ps ≡ falls (λ q. q .level) ps
-falls-records [] = refl
-falls-records (p ∷ ps) = rw (falls-records ps)

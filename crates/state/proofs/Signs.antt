@@ -1,14 +1,8 @@
 -- A signed count of 16 bits: whether it is 0, its size, and what it counts.
-use mathlib.Core.Bool.{true, false}
-use mathlib.Core.Path.{_≡_, refl, sym}
-use Prim.Native.Nat.{ℕ, zero, suc, _-_, _<_}
-use native.Mathlib.Omega.{arith}
-use lib.Dec.{T, eqb, leb}
-use lib.IntN.{ℤ, pos, negsuc, natAbs}
+use Rattle.lists.proofs.Prelude.{true, false, _≡_, refl, sym, ℕ, zero, suc, _-_, _<_, arith, T, eqb, leb, ℤ, pos, negsuc, natAbs, ltb-true, ne-eqb, le-leb}
 use lib.Signed.{ltZ, nonNeg}
 use mir.Syntax.{w16}
 use mir.Val.{SFits, Fits, ofZ}
-use borrow.Author.Tests.{ltb-true, ne-eqb, le-leb}
 use Rattle.postings.specs.Merge.{isZero}
 use Rattle.postings.specs.Sums.{above}
 

@@ -22,7 +22,7 @@ use Rattle.state.specs.declared.State.{State}
 use Rattle.state.specs.Views.{blocks, listed, buffered, finished}
 use Rattle.state.specs.Levels.{levelLimit, levels, ofLevel, dueLevels}
 
--- a card has 4 to 4,096 blocks of 4,096 bytes
+-- a card is of whole blocks, at least 4 and at most 4,096 of them
 abbrev pub cardLength : ℕ → Bool
 cardLength n = eqb (n % 4096) 0 && (leb 4 (n / 4096) && leb (n / 4096) 4096)
 
@@ -34,8 +34,8 @@ registerLength n = eqb (n % 65) 0 && (leb 1 (n / 65) && leb (n / 65) 1024)
 unfoldable pub lengthsRule : Lengths → Bool
 lengthsRule l = cardLength (l .card) && registerLength (l .register)
 
--- N is at most the last number given; an open window has that number, at most 32,767 events, and is counted in N exactly when it has events:
--- then N is at least 1, and else below its number; without an open window there are no events
+-- no more windows are live than were numbered. An open window is the last that was numbered, with no more than 32,767 events; from its first event on it is one of N,
+-- which then is not 0, and before that N leaves room for it. Where none is open there are no events
 unfoldable pub windowsRule : Windows → Bool
 windowsRule w =
     leb (w .live) (w .last)
@@ -84,7 +84,7 @@ abbrev pub neverRise : List Partition → Bool
 neverRise [] = true
 neverRise (p ∷ ps) = every (λ q. leb (q .level) (p .level)) ps && neverRise ps
 
--- at most 51 finished partitions, 16 of level 0, 8 of each of levels 1 to 4 and 3 of level 5, whose levels never rise; zeros follow them
+-- no level has more partitions than its limit (51 in all), no level is above the one before it, and the places past the last are zeros
 unfoldable pub partitionsRule : ℕ → Partitions → Bool
 partitionsRule blockCount p =
     leb (p .used) 51

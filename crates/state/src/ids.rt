@@ -1,6 +1,7 @@
 // The open window's identifiers.
 use super::Listed;
 use super::Windows;
+ghost use mathlib.Core.Bool.{_&&_};
 ghost use mathlib.Core.Path.{_≡_};
 ghost use mathlib.Core.List.{[], _∷_, _++_};
 ghost use Prim.Native.Nat.{_<_, _≤_};
@@ -47,53 +48,21 @@ pub fn list_id(l: Listed, id: u16) -> Listed
     t
 }
 
-// Whether each identifier is one that the register can have.
-fn ids_small(l: Listed) -> bool
+// Whether each place keeps its rule: an identifier that the register can have where it is used, and 0 else; and whether none is listed twice.
+fn places_ok(l: Listed) -> bool
     requires { ⌜ l .used ≤ 64 ⌝ }
-    ensures { λ r. ⌜ r ≡ every (λ i. leb i 1023) (listed l) ⌝ }
+    ensures { λ r. ⌜ r ≡ (every (λ i. leb i 1023) (listed l) && (different (listed l) && every (λ i. eqb i 0) (drop (l .used) (l .ids)))) ⌝ }
 {
     let n = l.used as usize;
+    let mut ok = true;
     let mut i = 0;
-    while i < n {
-        let x = l.ids[i];
-        if x > 1023 {
-            return false;
-        }
-        i += 1;
-    }
-    true
-}
-
-// Whether no identifier is listed twice.
-fn ids_different(l: Listed) -> bool
-    requires { ⌜ l .used ≤ 64 ⌝ }
-    ensures { λ r. ⌜ r ≡ different (listed l) ⌝ }
-{
-    let n = l.used as usize;
-    let mut i = 0;
-    while i < n {
-        let x = l.ids[i];
-        if found_from(l, i + 1, x) {
-            return false;
-        }
-        i += 1;
-    }
-    true
-}
-
-// Whether zeros follow the identifiers.
-fn ids_end(l: Listed) -> bool
-    ensures { λ r. ⌜ r ≡ every (λ i. eqb i 0) (drop (l .used) (l .ids)) ⌝ }
-{
-    let mut i = l.used as usize;
     while i < 64 {
         let x = l.ids[i];
-        if x != 0 {
-            return false;
-        }
+        let place = ((i < n) & (x <= 1023)) | ((i >= n) & (x == 0));
+        ok = ok & (!found_from(l, i + 1, x) & place);
         i += 1;
     }
-    true
+    ok
 }
 
 // Whether the list of identifiers keeps its rule.
@@ -103,17 +72,5 @@ pub fn listed_ok(w: Windows, l: Listed) -> bool
     if l.used > 64 {
         return false;
     }
-    if !ids_small(l) {
-        return false;
-    }
-    if !ids_different(l) {
-        return false;
-    }
-    if !ids_end(l) {
-        return false;
-    }
-    if w.current != 0 {
-        return true;
-    }
-    l.used == 0
+    places_ok(l) & ((w.current != 0) | (l.used == 0))
 }

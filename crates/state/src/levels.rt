@@ -50,16 +50,6 @@ pub fn due_at(level: u16) -> u16
     if level == 5 { 3 } else { 8 }
 }
 
-// How many partitions of a level there may be.
-fn limit(level: u16) -> u16
-    ensures { λ r. ⌜ r ≡ levelLimit level ⌝ }
-{
-    if level == 0 {
-        return 16;
-    }
-    due_at(level)
-}
-
 // The highest due level.
 pub fn due_level(p: Partitions) -> Due
     requires { ⌜ p .used ≤ 51 ⌝ }
@@ -80,12 +70,6 @@ pub fn levels_within(p: Partitions) -> bool
     requires { ⌜ p .used ≤ 51 ⌝ }
     ensures { λ r. ⌜ r ≡ every (λ v. leb (ofLevel (λ q. q .level) v (finished p)) (levelLimit v)) levels ⌝ }
 {
-    let mut v: u16 = 6;
-    while v > 0 {
-        v -= 1;
-        if of_level(p, v) > limit(v) {
-            return false;
-        }
-    }
-    true
+    let lower = (of_level(p, 2) <= 8) & ((of_level(p, 1) <= 8) & (of_level(p, 0) <= 16));
+    (of_level(p, 5) <= 3) & ((of_level(p, 4) <= 8) & ((of_level(p, 3) <= 8) & lower))
 }

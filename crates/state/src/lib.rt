@@ -49,7 +49,7 @@ pub struct Partitions {
     pub records: [Partition; 51],
 }
 
-// The merge in progress: first output block, output length, steps done. All 0: none.
+// How far a merge is: where its output begins, how long that will be, and how many steps were taken. All 0 where none is in progress.
 pub struct MergeJob {
     pub first: u16,
     pub length: u32,
@@ -77,44 +77,21 @@ pub enum Due {
 fn lengths_ok(l: Lengths) -> bool
     ensures { λ r. ⌜ r ≡ lengthsRule l ⌝ }
 {
-    if l.card % 4096 != 0 {
-        return false;
-    }
-    if l.card / 4096 < 4 {
-        return false;
-    }
-    if l.card / 4096 > 4096 {
-        return false;
-    }
-    if l.register % 65 != 0 {
-        return false;
-    }
-    if l.register / 65 < 1 {
-        return false;
-    }
-    l.register / 65 <= 1024
+    let blocks = l.card / 4096;
+    let rows = l.register / 65;
+    let card = (l.card % 4096 == 0) & ((blocks >= 4) & (blocks <= 4096));
+    card & ((l.register % 65 == 0) & ((rows >= 1) & (rows <= 1024)))
 }
 
 // Whether the windows' numbers agree.
 fn windows_ok(w: Windows) -> bool
     ensures { λ r. ⌜ r ≡ windowsRule w ⌝ }
 {
-    if w.live > w.last {
-        return false;
-    }
-    if w.current == 0 {
-        return w.events == 0;
-    }
-    if w.current != w.last {
-        return false;
-    }
-    if w.events > 32767 {
-        return false;
-    }
-    if w.events == 0 {
-        return w.live < w.current;
-    }
-    w.live >= 1
+    let number = w.current;
+    let events = w.events;
+    let counted = ((events == 0) & (w.live < number)) | ((events != 0) & (w.live >= 1));
+    let opened = (number == w.last) & ((events <= 32767) & counted);
+    (w.live <= w.last) & (((number == 0) & (events == 0)) | ((number != 0) & opened))
 }
 
 // Whether the merge in progress has a level to merge, or its record is zeros.
@@ -123,13 +100,9 @@ fn merge_ok(p: Partitions, m: MergeJob) -> bool
     ensures { λ r. ⌜ r ≡ mergeRule p m ⌝ }
 {
     if m.steps == 0 {
-        if m.first != 0 {
-            return false;
-        }
-        return m.length == 0;
+        return (m.first == 0) & (m.length == 0);
     }
-    let due = levels::due_level(p);
-    match due {
+    match levels::due_level(p) {
         Due::Level(v) => true,
         Due::Nothing => false,
     }
@@ -139,24 +112,12 @@ fn merge_ok(p: Partitions, m: MergeJob) -> bool
 pub fn state_ok(s: State) -> bool
     ensures { λ r. ⌜ r ≡ stateRule s ⌝ }
 {
-    if !lengths_ok(s.lengths) {
-        return false;
-    }
-    if !windows_ok(s.windows) {
-        return false;
-    }
-    if !ids::listed_ok(s.windows, s.listed) {
-        return false;
-    }
-    if !buffer_rules::buffer_ok(s.windows, s.buffer) {
-        return false;
-    }
     let blocks = s.lengths.card / 4096;
     if !partition_rules::partitions_ok(blocks, s.partitions) {
         return false;
     }
-    if s.taken as u32 >= blocks {
-        return false;
-    }
-    merge_ok(s.partitions, s.merge)
+    let rest = ((s.taken as u32) < blocks) & merge_ok(s.partitions, s.merge);
+    let lists = ids::listed_ok(s.windows, s.listed)
+        & (buffer_rules::buffer_ok(s.windows, s.buffer) & rest);
+    lengths_ok(s.lengths) & (windows_ok(s.windows) & lists)
 }

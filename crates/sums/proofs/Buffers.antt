@@ -1,18 +1,5 @@
 -- The buffer as one list by key: what is to come first, and what is taken of it under a key.
-use mathlib.Core.Bool.{true, cond}
-use mathlib.Core.List.{List, [], _∷_, map}
-use mathlib.Core.Path.{_≡_, refl, sym, ap, _∙_}
-use Prim.Native.Nat.{ℕ, suc, _+_, _<_, _≤_}
-use native.Mathlib.Numerals.{add-one}
-use native.Mathlib.Omega.{arith}
-use lib.Dec.{eqb, leb, ltb}
-use lib.IntN.{pos}
-use lib.ListN.{length, getD, drop, drop-of-length-le}
-use lib.Seq.{drop-cons, getD-take, length-take-le}
-use borrow.Author.Tests.{leb-true, eq-eqb, ne-eqb, eqb-true, eqb-false, ltb-true, ltb-false}
-use Rattle.lists.specs.Lists.{every}
-use Rattle.lists.proofs.Bools.{by-test, and-left}
-use Rattle.lists.proofs.Tests.{every-at, every-drop}
+use Rattle.lists.proofs.Prelude.{true, cond, List, [], _∷_, map, _≡_, refl, sym, ap, _∙_, ℕ, suc, _+_, _<_, _≤_, add-one, arith, eqb, leb, ltb, pos, length, getD, drop, drop-of-length-le, drop-cons, getD-take, length-take-le, leb-true, eq-eqb, ne-eqb, eqb-true, eqb-false, ltb-true, ltb-false, every, by-test, and-left, every-at, every-drop}
 use Rattle.keyed.specs.Keys.{Item, reach, rest, headVal, headFine}
 use Rattle.postings.specs.declared.Posting.{Posting}
 use Rattle.state.specs.declared.Buffer.{Buffer}

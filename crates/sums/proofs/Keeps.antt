@@ -1,17 +1,8 @@
 -- One key more: what is told of the counts.
-use mathlib.Core.Bool.{Bool, true, false, cond, _&&_, not}
-use mathlib.Core.List.{List, [], _∷_, _++_}
-use mathlib.Core.Path.{_≡_, refl, sym, ap, _∙_}
-use Prim.Native.Nat.{ℕ, _≤_}
-use native.Mathlib.Omega.{arith}
-use lib.IntN.{ℤ}
-use lib.ListN.{length, length-append}
+use Rattle.lists.proofs.Prelude.{Bool, true, false, cond, _&&_, not, List, [], _∷_, _++_, _≡_, refl, sym, ap, _∙_, ℕ, _≤_, arith, ℤ, length, length-append, eq-eqb, ne-eqb, le-leb, lt-leb, leb-true, by-test, and-left, and-right, never}
 use mir.Syntax.{w16, w32}
 use mir.Val.{SFits, toZ, ofZ}
 use mir.Facts.{toZ-ofZ}
-use borrow.Author.Tests.{eq-eqb, ne-eqb, le-leb, lt-leb, leb-true}
-use Rattle.lists.proofs.Bools.{by-test, and-left, and-right}
-use Rattle.lists.proofs.Runs.{never}
 use Rattle.lists.proofs.Sizes.{small-fits}
 use Rattle.postings.specs.declared.Posting.{Posting}
 use Rattle.postings.specs.Merge.{isZero}

@@ -1,17 +1,5 @@
 -- What the walk over partitions and buffer tells is what a removal reads.
-use mathlib.Core.Bool.{Bool, true, false, cond, _&&_, not}
-use mathlib.Core.List.{List, [], _∷_, _++_, map}
-use mathlib.Core.Path.{_≡_, refl, sym, ap, _∙_}
-use Prim.Native.Nat.{ℕ, _≤_}
-use native.Mathlib.Omega.{arith}
-use lib.Dec.{leb}
-use lib.ListN.{length}
-use borrow.Author.Tests.{le-leb}
-use Rattle.lists.specs.Lists.{every, joined}
-use Rattle.lists.specs.All.{AllOf}
-use Rattle.lists.proofs.Bools.{by-test, and-both}
-use Rattle.lists.proofs.Tests.{every-from}
-use Rattle.lists.proofs.Ranges.{every-map}
+use Rattle.lists.proofs.Prelude.{Bool, true, false, cond, _&&_, not, List, [], _∷_, _++_, map, _≡_, refl, sym, ap, _∙_, ℕ, _≤_, arith, leb, length, le-leb, every, joined, AllOf, by-test, and-both, every-from, every-map}
 use Rattle.keyed.specs.Groups.{Group}
 use Rattle.words.specs.Words.{Below}
 use Rattle.postings.specs.declared.Posting.{Posting}

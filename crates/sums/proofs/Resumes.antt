@@ -1,15 +1,5 @@
 -- The walk as a whole computes the definition.
-use mathlib.Core.Bool.{Bool, true, false, cond, _&&_, _||_, not, and-true}
-use mathlib.Core.List.{List, [], _∷_, _++_, map, append-assoc}
-use mathlib.Core.Path.{_≡_, refl, sym, ap, ap₂, _∙_}
-use Prim.Native.Nat.{ℕ, zero, suc, _<_, _≤_}
-use native.Mathlib.Omega.{arith}
-use lib.Dec.{eqb, leb}
-use lib.IntN.{ℤ, _+ℤ_, +ℤ-idr}
-use lib.ListN.{length, length-append}
-use borrow.Author.Tests.{le-leb, lt-leb, leb-false}
-use Rattle.lists.specs.All.{AllOf}
-use Rattle.lists.proofs.Bools.{by-test}
+use Rattle.lists.proofs.Prelude.{Bool, true, false, cond, _&&_, _||_, not, and-true, List, [], _∷_, _++_, map, append-assoc, _≡_, refl, sym, ap, ap₂, _∙_, ℕ, zero, suc, _<_, _≤_, arith, eqb, leb, ℤ, _+ℤ_, +ℤ-idr, length, length-append, le-leb, lt-leb, leb-false, AllOf, by-test}
 use Rattle.keyed.specs.Keys.{Item, sums, overKeys, headVal, headVals, headFine, headsFine}
 use Rattle.keyed.specs.Groups.{Group, topAll, allFallAll, moveAll, headsFineAll}
 use Rattle.keyed.proofs.Walk.{over-none}

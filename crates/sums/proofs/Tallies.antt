@@ -1,15 +1,5 @@
 -- What the walk tells of one window is what a removal reads: its lists, its sums and its counts.
-use mathlib.Core.Bool.{Bool, true, false, cond, _&&_, _||_, not, and-true}
-use mathlib.Core.List.{List, [], _∷_, _++_, map}
-use mathlib.Core.Path.{_≡_, refl, sym, ap, ap₂, _∙_}
-use Prim.Native.Nat.{ℕ, zero, suc, _+_, _<_, _≤_}
-use native.Mathlib.Omega.{arith}
-use lib.Dec.{eqb, ltb, leb}
-use lib.IntN.{ℤ, pos, natAbs, _+ℤ_, +ℤ-idl, +ℤ-idr}
-use borrow.Author.Tests.{leb-true, le-leb, eqb-true, eqb-false, eq-eqb, ltb-true, ltb-false, lt-ltb, le-ltb}
-use Rattle.lists.specs.Lists.{every, joined}
-use Rattle.lists.proofs.Bools.{by-test, and-left, and-right, and-both}
-use Rattle.lists.proofs.Tests.{every-from, every-mem, every-keep, every-kept, every-append}
+use Rattle.lists.proofs.Prelude.{Bool, true, false, cond, _&&_, _||_, not, and-true, List, [], _∷_, _++_, map, _≡_, refl, sym, ap, ap₂, _∙_, ℕ, zero, suc, _+_, _<_, _≤_, arith, eqb, ltb, leb, ℤ, pos, natAbs, _+ℤ_, +ℤ-idl, +ℤ-idr, leb-true, le-leb, eqb-true, eqb-false, eq-eqb, ltb-true, ltb-false, lt-ltb, le-ltb, every, joined, by-test, and-left, and-right, and-both, every-from, every-mem, every-keep, every-kept, every-append}
 use Rattle.keyed.specs.Keys.{sumOf, sums, overKeys}
 use Rattle.keyed.specs.Groups.{Group, allFallAll}
 use Rattle.postings.specs.declared.Posting.{Posting}

@@ -1,12 +1,5 @@
 -- What the walk tells, key by key: the lists by falling key, the window's sums tested and its totals gathered at every key.
-use mathlib.Core.Bool.{Bool, true, cond, _&&_, _||_, not}
-use mathlib.Core.List.{List, [], _∷_, _++_, map}
-use mathlib.Core.Path.{_≡_}
-use Prim.Native.Nat.{ℕ, _≤_}
-use lib.Dec.{eqb, leb}
-use lib.IntN.{ℤ}
-use lib.ListN.{length, drop}
-use Rattle.lists.specs.Lists.{every}
+use Rattle.lists.proofs.Prelude.{Bool, true, cond, _&&_, _||_, not, List, [], _∷_, _++_, map, _≡_, ℕ, _≤_, eqb, leb, ℤ, length, drop, every}
 use Rattle.keyed.specs.Keys.{Item, sums, overKeys}
 use Rattle.keyed.specs.Groups.{Group, allFallAll}
 use Rattle.postings.specs.declared.Posting.{Posting}

@@ -1,14 +1,5 @@
 -- The walk's invariant, and its turns.
-use mathlib.Core.Bool.{Bool, true, false, cond, _&&_, _||_, not}
-use mathlib.Core.List.{List, [], _∷_, _++_, map}
-use mathlib.Core.Path.{_≡_, refl, sym, ap, ap₂, _∙_}
-use Prim.Native.Nat.{ℕ, suc, _+_, _*_, _<_, _≤_}
-use native.Mathlib.Omega.{arith}
-use lib.Dec.{eqb}
-use lib.IntN.{ℤ, _+ℤ_}
-use lib.ListN.{length}
-use Rattle.lists.specs.All.{AllOf}
-use Rattle.lists.proofs.Bools.{by-test}
+use Rattle.lists.proofs.Prelude.{Bool, true, false, cond, _&&_, _||_, not, List, [], _∷_, _++_, map, _≡_, refl, sym, ap, ap₂, _∙_, ℕ, suc, _+_, _*_, _<_, _≤_, arith, eqb, ℤ, _+ℤ_, length, AllOf, by-test}
 use Rattle.keyed.specs.Keys.{Item, reach, larger, topFrom, rest, headVal, headVals, headsFine}
 use Rattle.keyed.specs.Groups.{Group, topAll, headsFineAll}
 use Rattle.postings.specs.declared.Posting.{Posting}

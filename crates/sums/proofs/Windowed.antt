@@ -1,15 +1,5 @@
 -- A window's sums, and its counts read from them.
-use mathlib.Core.Bool.{Bool, true, false, _&&_}
-use mathlib.Core.List.{List, [], _∷_, List·Memᴰ, List·Memᴰ·head, List·Memᴰ·tail}
-use mathlib.Core.Path.{_≡_, refl, sym, _∙_}
-use Prim.Native.Nat.{ℕ, _≤_}
-use native.Mathlib.Omega.{arith}
-use lib.Dec.{eqb}
-use lib.IntN.{ℤ, pos, natAbs, _+ℤ_, +ℤ-idl, +ℤ-idr}
-use borrow.Author.Tests.{leb-true, eqb-true}
-use Rattle.lists.specs.Lists.{every}
-use Rattle.lists.proofs.Bools.{by-test, and-left, and-right}
-use Rattle.lists.proofs.Tests.{every-kept, every-keep, every-mem}
+use Rattle.lists.proofs.Prelude.{Bool, true, false, _&&_, List, [], _∷_, List·Memᴰ, List·Memᴰ·head, List·Memᴰ·tail, _≡_, refl, sym, _∙_, ℕ, _≤_, arith, eqb, ℤ, pos, natAbs, _+ℤ_, +ℤ-idl, +ℤ-idr, leb-true, eqb-true, every, by-test, and-left, and-right, every-kept, every-keep, every-mem}
 use Rattle.postings.specs.declared.Posting.{Posting}
 use Rattle.postings.specs.Order.{precedes, ordered}
 use Rattle.postings.specs.Merge.{counting, isCounted, pairs, nonzero}

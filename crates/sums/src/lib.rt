@@ -182,6 +182,7 @@ pub fn read(card: &[u8], s: State, window: u32) -> Judged
     ensures { λ r. ⌜ ReadOf (wordsOf (now (card .entry))) s window r ⌝ }
 {
     let mut heads = [0u32; 510];
-    let start = scans::open_heads(card, s.partitions, &mut heads);
+    let ps = s.partitions;
+    let start = scans::open_heads(card, ps, &mut heads);
     walk(card, &mut heads, start, s, s.buffer, window)
 }

@@ -1,24 +1,12 @@
 -- How many postings heads have to come, and the numbers in front of a group's heads.
-use mathlib.Core.Bool.{true}
-use mathlib.Core.List.{List, [], _∷_, _++_, map}
-use mathlib.Core.Path.{_≡_, refl, sym, ap, _∙_}
-use Prim.Native.Nat.{ℕ, zero, suc, _+_, _-_, _*_, _<_, _≤_}
-use native.Mathlib.Numerals.{add-one}
-use native.Mathlib.Omega.{arith}
-use lib.Dec.{ltb}
-use lib.ListN.{length, getD, take, drop, set, length-map, length-take, length-drop, drop-of-length-le, length-append}
-use lib.Seq.{getD-take, getD-drop, take-all, take-suc, take-suc-set}
-use borrow.Author.Tests.{ltb-true, ltb-false}
+use Rattle.lists.proofs.Prelude.{true, List, [], _∷_, _++_, map, _≡_, refl, sym, ap, _∙_, ℕ, zero, suc, _+_, _-_, _*_, _<_, _≤_, add-one, arith, ltb, length, getD, take, drop, set, length-map, length-take, length-drop, drop-of-length-le, length-append, getD-take, getD-drop, take-all, take-suc, take-suc-set, ltb-true, ltb-false, totalBy, AllOf, by-test, and-left, and-right}
 use borrow.Rule.Slice.PartMut.{putMid}
-use Rattle.lists.specs.Lists.{totalBy}
-use Rattle.lists.specs.All.{AllOf}
-use Rattle.lists.proofs.Bools.{by-test, and-left, and-right}
 use Rattle.keyed.specs.Keys.{Item, falls, allFall}
 use Rattle.card.proofs.Cursors.{length-ahead}
 use Rattle.kway.specs.Parts.{part, parts}
 use Rattle.kway.proofs.Parts.{views-more, all-at}
-use Rattle.terms.specs.Heads.{itemOf, cursorAt, comes, Lies, coming, view, Kept, views}
-use Rattle.terms.proofs.Heads.{comes-none}
+use Rattle.heads.specs.Heads.{itemOf, cursorAt, comes, Lies, coming, view, Kept, views}
+use Rattle.heads.proofs.Heads.{comes-none}
 
 -- ---- a copy
 
@@ -79,54 +67,44 @@ module _ (W R : List ℕ) where
 
 -- ---- the numbers in front
 
--- all but two
-pub rest-two : (G : List ℕ) → 2 ≤ length G → take (length G - 2) (drop 2 G) ≡ drop 2 G
-rest-two G h = take-all (length G - 2) (drop 2 G) (omega (arith, length-drop 2 G))
+-- all but four
+pub rest-four : (G : List ℕ) → 4 ≤ length G → take (length G - 4) (drop 4 G) ≡ drop 4 G
+rest-four G h = take-all (length G - 4) (drop 4 G) (omega (arith, length-drop 4 G))
 
--- two numbers put in front
-pub record Headed (G : List ℕ) (a b : ℕ) (F : List ℕ) : Type 0 where
+-- four numbers, and others
+front : (Q : List ℕ → Type 0) → ((a b c d : ℕ) (G : List ℕ) → Q (a ∷ b ∷ c ∷ d ∷ G)) → (G : List ℕ) → 4 ≤ length G → Q G
+front Q f [] h = absurd (omega arith)
+front Q f (a ∷ []) h = absurd (omega arith)
+front Q f (a ∷ b ∷ []) h = absurd (omega arith)
+front Q f (a ∷ b ∷ c ∷ []) h = absurd (omega arith)
+front Q f (a ∷ b ∷ c ∷ d ∷ G) h = f a b c d G
+
+-- a group of which the four numbers and the others are these
+pub record Headed (a b c d : ℕ) (P F : List ℕ) : Type 0 where
   pub first : getD F 0 0 ≡ a
   pub second : getD F 1 0 ≡ b
-  pub others : drop 2 F ≡ drop 2 G
-  pub long : length F ≡ length G
+  pub third : getD F 2 0 ≡ c
+  pub fourth : getD F 3 0 ≡ d
+  pub others : drop 4 F ≡ P
 
-pub headed : (G : List ℕ) (a b : ℕ) → 2 ≤ length G → Headed G a b (set (set G 0 a) 1 b)
-headed [] a b h = absurd (omega arith)
-headed (x ∷ []) a b h = absurd (omega arith)
-headed (x ∷ y ∷ G) a b h = record { first = refl; second = refl; others = refl; long = refl }
+pub headed : (G : List ℕ) (a b c d : ℕ) → 4 ≤ length G → Headed a b c d (drop 4 G) (set (set (set (set G 0 a) 1 b) 2 c) 3 d)
+headed G a b c d h = front (λ G. Headed a b c d (drop 4 G) (set (set (set (set G 0 a) 1 b) 2 c) 3 d)) (λ p q r s G. record { first = refl; second = refl; third = refl; fourth = refl; others = refl }) G h
 
--- the numbers behind two put back
-pub put-behind : (G P : List ℕ) → 2 ≤ length G → length P ≡ length G - 2 → drop 2 (putMid 2 (length G - 2) G P) ≡ P
-put-behind [] P h l = absurd (omega arith)
-put-behind (x ∷ []) P h l = absurd (omega arith)
-put-behind (x ∷ y ∷ G) P h l =
-    let e : drop (length (x ∷ y ∷ G) - 2) G ≡ [] = drop-of-length-le G {i = length (x ∷ y ∷ G) - 2} (omega arith) in
-    rw e (end P)
+-- the numbers behind four put back
+pub put-behind : (G P : List ℕ) → 4 ≤ length G → length P ≡ length G - 4 → drop 4 (putMid 4 (length G - 4) G P) ≡ P
+put-behind G P h l = front (λ G. length P ≡ length G - 4 → drop 4 (putMid 4 (length G - 4) G P) ≡ P) (λ a b c d G l. rw (drop-of-length-le G {i = length (a ∷ b ∷ c ∷ d ∷ G) - 4} (omega arith)) (end P)) G h l
   where
     end : (P : List ℕ) → P ++ [] ≡ P
     end [] = refl
     end (z ∷ P) = rw (end P)
 
-pub put-behind-long : (G P : List ℕ) → 2 ≤ length G → length P ≡ length G - 2 → length (putMid 2 (length G - 2) G P) ≡ length G
-put-behind-long [] P h l = absurd (omega arith)
-put-behind-long (x ∷ []) P h l = absurd (omega arith)
-put-behind-long (x ∷ y ∷ G) P h l =
-    let e : drop (length (x ∷ y ∷ G) - 2) G ≡ [] = drop-of-length-le G {i = length (x ∷ y ∷ G) - 2} (omega arith) in
-    rw e (rw (length-append P []) (omega arith))
+pub put-behind-long : (G P : List ℕ) → 4 ≤ length G → length P ≡ length G - 4 → length (putMid 4 (length G - 4) G P) ≡ length G
+put-behind-long G P h l =
+    front (λ G. length P ≡ length G - 4 → length (putMid 4 (length G - 4) G P) ≡ length G)
+    (λ a b c d G l. rw (drop-of-length-le G {i = length (a ∷ b ∷ c ∷ d ∷ G) - 4} (omega arith)) (rw (length-append P []) (omega arith))) G h l
 
--- and the first number
-pub record Topped (G P : List ℕ) (x : ℕ) (F : List ℕ) : Type 0 where
-  pub first : getD F 0 0 ≡ x
-  pub second : getD F 1 0 ≡ getD G 1 0
-  pub others : drop 2 F ≡ P
-  pub long : length F ≡ length G
-
-pub topped : (G P : List ℕ) (x : ℕ) → 2 ≤ length G → length P ≡ length G - 2 → Topped G P x (set (putMid 2 (length G - 2) G P) 0 x)
-topped [] P x h l = absurd (omega arith)
-topped (y ∷ []) P x h l = absurd (omega arith)
-topped (y ∷ z ∷ G) P x h l = record {
-  first = refl;
-  second = refl;
-  others = put-behind (y ∷ z ∷ G) P h l;
-  long = put-behind-long (y ∷ z ∷ G) P h l;
-}
+-- and reach and lead
+pub topped : (G P : List ℕ) (a c d : ℕ) → 4 ≤ length G → length P ≡ length G - 4 → Headed a (getD G 1 0) c d P (set (set (set (putMid 4 (length G - 4) G P) 0 a) 2 c) 3 d)
+topped G P a c d h l =
+    front (λ G. (drop 4 (putMid 4 (length G - 4) G P) ≡ P) → Headed a (getD G 1 0) c d P (set (set (set (putMid 4 (length G - 4) G P) 0 a) 2 c) 3 d))
+    (λ p q r s G e. record { first = refl; second = refl; third = refl; fourth = refl; others = e }) G h (put-behind G P h l)

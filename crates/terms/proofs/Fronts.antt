@@ -1,22 +1,12 @@
 -- Heads of an array of which a part is lent: the parts in front of it are as they were.
-use mathlib.Core.List.{List, _++_, map}
-use mathlib.Core.Path.{_≡_, refl, sym, ap, _∙_}
-use Prim.Native.Nat.{ℕ, zero, suc, _+_, _-_, _*_, _≤_}
-use native.Mathlib.Nat.{mul-suc}
-use native.Mathlib.Numerals.{add-one}
-use native.Mathlib.Omega.{arith}
-use lib.ListN.{length, take, drop, take-append-drop, length-append, length-drop}
-use lib.Seq.{length-take-le, take-append-le, drop-append-le, drop-at}
+use Rattle.lists.proofs.Prelude.{List, _++_, map, _≡_, refl, sym, ap, _∙_, ℕ, zero, suc, _+_, _-_, _*_, _≤_, mul-suc, add-one, arith, length, take, drop, take-append-drop, length-append, length-drop, length-take-le, take-append-le, drop-append-le, drop-at, AllOf}
 use borrow.Rule.Slice.PartMut.{putMid}
-use Rattle.lists.specs.All.{AllOf}
-use Rattle.keyed.specs.Keys.{rest, topFrom}
-use Rattle.keyed.specs.Groups.{moveAll, topAll}
+use Rattle.keyed.specs.Keys.{rest}
+use Rattle.keyed.specs.Groups.{moveAll}
 use Rattle.kway.specs.Parts.{part, parts}
-use Rattle.kway.proofs.Parts.{all-more, views-more, put-length, put-here, putIn}
-use Rattle.kway.proofs.Turns.{top-more}
-use Rattle.terms.specs.Heads.{view, Kept, views}
+use Rattle.kway.proofs.Parts.{all-more, put-length, put-here, putIn}
+use Rattle.heads.specs.Heads.{view, Kept, views}
 use Rattle.terms.specs.Both.{Ready, both}
-use Rattle.terms.proofs.Steps.{top-step}
 
 -- parts of the front
 pub parts-append : (w n : ℕ) (P Q : List ℕ) → w * n ≤ length P → parts w n (P ++ Q) ≡ parts w n P
@@ -81,13 +71,3 @@ module _ (n : ℕ) (H P Q : List ℕ) (long : length H ≡ 4 * n + 4) (front : l
 pub ready-all : (W R : List ℕ) (n : ℕ) (H : List ℕ) → Ready W R n H → AllOf (Kept W R) (parts 4 (n + 1) H)
 unfolding parts
 ready-all W R n H r = rw (add-one n) (all-more (Kept W R) (parts 4 n H) (part 4 n H) (r .lists) (r .run))
-
--- the heads of the lists alone
-pub ready-front : (W R : List ℕ) (n : ℕ) (H : List ℕ) → 4 * n ≤ length H → Ready W R n H → AllOf (Kept W R) (parts 4 n (take (4 * n) H))
-ready-front W R n H h r = rw (parts-take 4 n H h) (r .lists)
-
--- their greatest key
-pub both-top : (W R : List ℕ) (n : ℕ) (H : List ℕ) → topFrom 0 (views W R (n + 1) H) ≡ topAll 0 (both W R n H)
-both-top W R n H =
-    ap (topFrom 0) (views-more (view W R) 4 n H) ∙ top-more 0 (views W R n H) (view W R (part 4 n H))
-    ∙ sym (top-step (views W R n H) (view W R (part 4 n H)) _ _ _ refl refl refl)

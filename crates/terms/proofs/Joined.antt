@@ -1,31 +1,21 @@
 -- The turns of the loop over a query's terms.
-use mathlib.Core.Bool.{Bool, true, false, _||_, or-false, or-assoc}
-use mathlib.Core.List.{List, [], _∷_, _++_, map}
-use mathlib.Core.Path.{_≡_, refl, sym, ap, ap₂, _∙_}
-use Prim.Native.Nat.{ℕ, _+_, _-_, _*_, _≤_}
-use native.Mathlib.Nat.{mul-le-mul}
-use native.Mathlib.Omega.{arith}
-use lib.IntN.{pos}
-use lib.ListN.{length, getD, drop, set, length-drop}
-use lib.Seq.{getD-take, getD-drop}
+use Rattle.lists.proofs.Prelude.{Bool, true, false, _||_, or-false, or-assoc, List, [], _∷_, _++_, map, _≡_, refl, sym, ap, ap₂, _∙_, ℕ, _+_, _-_, _*_, _≤_, mul-le-mul, arith, length, getD, drop, set, length-drop, length-set, getD-take, getD-drop, any, every, AllOf, and-left, and-right}
 use borrow.Rule.Slice.PartMut.{putMid}
-use Rattle.lists.specs.Lists.{any, every}
-use Rattle.lists.specs.All.{AllOf}
-use Rattle.lists.proofs.Bools.{and-left, and-right}
-use Rattle.keyed.specs.Keys.{reach, rest, larger, topFrom, headVals}
+use Rattle.keyed.specs.Keys.{rest, larger, topFrom, headVals}
 use Rattle.keyed.specs.Groups.{Group, topAll, moveAll}
-use Rattle.keyed.proofs.Walk.{Under, none, more, larger-left, larger-right, under-top}
+use Rattle.keyed.proofs.Walk.{larger-left, larger-right}
 use Rattle.weights.specs.Weights.{tfWeight, largest}
 use Rattle.weights.proofs.Laws.{tf-most}
 use Rattle.postings.specs.Sums.{isAbove}
 use Rattle.partitions.specs.Formed.{inRange}
 use Rattle.kway.specs.Parts.{part, parts}
 use Rattle.kway.proofs.Parts.{putIn, views-more, Moved, moved-none, now-more, moved-more}
-use Rattle.terms.specs.Heads.{Kept, views}
+use Rattle.heads.specs.Heads.{Kept, views}
+use Rattle.heads.specs.Leads.{Leads}
 use Rattle.terms.specs.Terms.{Term, termOf, KeptGroup, termsOf}
 use Rattle.terms.specs.Scores.{groupsIn, weightsIn, moved, weigh, scoreAt}
-use Rattle.terms.proofs.Heads.{missed}
-use Rattle.terms.proofs.Counts.{topped}
+use Rattle.terms.proofs.Counts.{Headed, topped, put-behind-long}
+use Rattle.heads.proofs.Leads.{still-at}
 
 -- ---- a term that is not at the window
 
@@ -33,24 +23,9 @@ tf-none : tfWeight 0 ≡ 0
 unfolding tfWeight largest
 tf-none = refl
 
--- no head has it
-pub record Still (k : ℕ) (g : Group) : Type 0 where
-  pub sum : headVals k g ≡ pos 0
-  pub rests : map (rest k) g ≡ g
-
-still-under : (k t : ℕ) (g : Group) → t ≤ k → Under t g → Still k g
-still-under k t [] h none = record { sum = refl; rests = refl }
-still-under k t (l ∷ g) h (more a u) =
-    let r = still-under k t g h u in
-    let m = missed [] [] k l (λ q. omega arith) in
-    record { sum = rw (sym (m .1), r .sum); rests = ap₂ {C = Group} (λ x y. x ∷ y) (sym (m .0)) (r .rests) }
-
-still-at : (k : ℕ) (g : Group) → topFrom 0 g ≤ k → Still k g
-still-at k g h = still-under k (topFrom 0 g) g h (under-top 0 g)
-
 module _ (W R : List ℕ) (m k : ℕ) (G : List ℕ) (kept : KeptGroup W R m G) where
   abbrev lists : Group
-  lists = views W R m (drop 2 G)
+  lists = views W R m (drop 4 G)
 
   -- so it is passed over
   pub passed-over : topFrom 0 lists ≤ k + 1 → (getD G 0 0 ≡ k + 1 → ⊥) → (termOf W R m G ≡ moved k (termOf W R m G)) × (0 ≡ weigh k (termOf W R m G)) × (false ≡ isAbove (headVals k lists))
@@ -60,31 +35,33 @@ module _ (W R : List ℕ) (m k : ℕ) (G : List ℕ) (kept : KeptGroup W R m G) 
 
   -- ---- a term at the window: its heads are put back, and its next reach
 
-  module _ (P : List ℕ) (next : ℕ) (same : length P ≡ length (drop 2 G)) (heads : AllOf (Kept W R) (parts 4 m P)) (rests : views W R m P ≡ map (rest k) lists) (top : next ≡ topFrom 0 (views W R m P)) where
+  module _ (P : List ℕ) (next at others : ℕ) (same : length P ≡ length (drop 4 G)) (heads : AllOf (Kept W R) (parts 4 m P)) (rests : views W R m P ≡ map (rest k) lists) (top : next ≡ topFrom 0 (views W R m P)) (lead : Leads (views W R m P) at others) where
     abbrev after : List ℕ
-    after = set (putMid 2 (length G - 2) G P) 0 next
+    after = set (set (set (putMid 4 (length G - 4) G P) 0 next) 2 at) 3 others
 
-    two : 2 ≤ length G
-    two = omega (arith, kept .long)
+    four : 4 ≤ length G
+    four = omega (arith, kept .long)
 
-    room : length P ≡ length G - 2
-    room = omega (arith, length-drop 2 G)
+    room : length P ≡ length G - 4
+    room = omega (arith, length-drop 4 G)
+
+    now : Headed next (getD G 1 0) at others P after
+    now = topped G P next at others four room
 
     pub after-kept : KeptGroup W R m after
-    after-kept =
-        let h = topped G P next two room in
-        record {
-          long = h .long ∙ kept .long;
-          top = h .first ∙ top ∙ ap (λ (x : List ℕ). topFrom 0 (views W R m x)) (sym (h .others));
-          light = omega (arith, h .second, kept .light);
-          heads = rw (h .others) heads;
-        }
+    after-kept = record {
+      long = length-set (set (set (putMid 4 (length G - 4) G P) 0 next) 2 at) 3 others ∙ length-set (set (putMid 4 (length G - 4) G P) 0 next) 2 at ∙ length-set (putMid 4 (length G - 4) G P) 0 next ∙ put-behind-long G P four room ∙ kept .long;
+      top = now .first ∙ top ∙ ap (λ (x : List ℕ). topFrom 0 (views W R m x)) (sym (now .others));
+      light = omega (arith, now .second, kept .light);
+      heads = rw (now .others) heads;
+      lead = rw (now .others, now .third, now .fourth) lead;
+    }
 
     pub after-term : termOf W R m after ≡ moved k (termOf W R m G)
-    after-term = let h = topped G P next two room in ap₂ {C = Term} (λ (g : Group) (w : ℕ). record { lists = g; weight = w }) (ap (views W R m) (h .others) ∙ rests) (h .second)
+    after-term = ap₂ {C = Term} (λ (g : Group) (w : ℕ). record { lists = g; weight = w }) (ap (views W R m) (now .others) ∙ rests) (now .second)
 
-    pub after-top : next ≡ topFrom 0 (views W R m (drop 2 after))
-    after-top = top ∙ ap (λ (x : List ℕ). topFrom 0 (views W R m x)) (sym (topped G P next two room .others))
+    pub after-top : next ≡ topFrom 0 (views W R m (drop 4 after))
+    after-top = top ∙ ap (λ (x : List ℕ). topFrom 0 (views W R m x)) (sym (now .others))
 
 -- no identifier adds more to the score of a window
 pub score-most : (count w : ℕ) → count ≤ 32767 → w ≤ 63 → tfWeight count * w ≤ 3780
@@ -113,14 +90,14 @@ top-all-from t (g ∷ gs) = let a = top-all-from (larger t (topFrom 0 g)) gs in 
 
 -- no window of a group is above k, and the sum of k is in range
 abbrev pub Due : List ℕ → List ℕ → ℕ → ℕ → List ℕ → Type 0
-Due W R m k P = (topFrom 0 (views W R m (drop 2 P)) ≤ k + 1) × (inRange (headVals k (views W R m (drop 2 P))) ≡ true)
+Due W R m k P = (topFrom 0 (views W R m (drop 4 P)) ≤ k + 1) × (inRange (headVals k (views W R m (drop 4 P))) ≡ true)
 
 pub due-all : (W R : List ℕ) (m k t : ℕ) (ps : List (List ℕ)) → topAll t (groupsIn (map (termOf W R m) ps)) ≤ k + 1
     → every inRange (map (headVals k) (groupsIn (map (termOf W R m) ps))) ≡ true → AllOf (Due W R m k) ps
 unfolding AllOf
 due-all W R m k t [] h e = tt
 due-all W R m k t (P ∷ ps) h e =
-    let g = views W R m (drop 2 P) in
+    let g = views W R m (drop 4 P) in
     let a = larger-right t (topFrom 0 g) in
     let b = top-all-from (larger t (topFrom 0 g)) (groupsIn (map (termOf W R m) ps)) in
     ((omega arith, and-left _ _ e), due-all W R m k (larger t (topFrom 0 g)) ps h (and-right (inRange (headVals k g)) _ e))
@@ -128,7 +105,7 @@ due-all W R m k t (P ∷ ps) h e =
 -- ---- what stands after j turns of taking the window k
 
 pub record Joined (W R : List ℕ) (m k : ℕ) (H₀ : List ℕ) (j : ℕ) (H : List ℕ) (score : ℕ) (counts : Bool) (next : ℕ) : Type 0 where
-  pub heads : Moved (termOf W R m) (KeptGroup W R m) (moved k) (4 * m + 2) H₀ j H
+  pub heads : Moved (termOf W R m) (KeptGroup W R m) (moved k) (4 * m + 4) H₀ j H
   pub few : score ≤ 3780 * j
   pub total : score ≡ scoreAt k (termsOf W R m j H₀)
   pub some : counts ≡ any isAbove (map (headVals k) (groupsIn (termsOf W R m j H₀)))
@@ -137,36 +114,36 @@ pub record Joined (W R : List ℕ) (m k : ℕ) (H₀ : List ℕ) (j : ℕ) (H : 
 module _ (W R : List ℕ) (m k : ℕ) (H₀ : List ℕ) where
   pub joined-none : Joined W R m k H₀ 0 H₀ 0 false 0
   unfolding parts
-  joined-none = record { heads = moved-none (termOf W R m) (KeptGroup W R m) (moved k) (4 * m + 2) H₀; few = omega arith; total = refl; some = refl; top = refl }
+  joined-none = record { heads = moved-none (termOf W R m) (KeptGroup W R m) (moved k) (4 * m + 4) H₀; few = omega arith; total = refl; some = refl; top = refl }
 
-  pub joined-more : (j : ℕ) (H : List ℕ) (score : ℕ) (counts : Bool) (next : ℕ) → Joined W R m k H₀ j H score counts next → (4 * m + 2) * j + (4 * m + 2) ≤ length H₀
-      → (P : List ℕ) (a : ℕ) (b : Bool) (r : ℕ) → KeptGroup W R m P → termOf W R m P ≡ moved k (termOf W R m (part (4 * m + 2) j H))
-      → a ≡ weigh k (termOf W R m (part (4 * m + 2) j H)) → a ≤ 3780 → b ≡ isAbove (headVals k (views W R m (drop 2 (part (4 * m + 2) j H)))) → r ≡ topFrom 0 (views W R m (drop 2 P))
-      → Joined W R m k H₀ (j + 1) (putIn (4 * m + 2) H P j) (score + a) (counts || b) (larger next r)
+  pub joined-more : (j : ℕ) (H : List ℕ) (score : ℕ) (counts : Bool) (next : ℕ) → Joined W R m k H₀ j H score counts next → (4 * m + 4) * j + (4 * m + 4) ≤ length H₀
+      → (P : List ℕ) (a : ℕ) (b : Bool) (r : ℕ) → KeptGroup W R m P → termOf W R m P ≡ moved k (termOf W R m (part (4 * m + 4) j H))
+      → a ≡ weigh k (termOf W R m (part (4 * m + 4) j H)) → a ≤ 3780 → b ≡ isAbove (headVals k (views W R m (drop 4 (part (4 * m + 4) j H)))) → r ≡ topFrom 0 (views W R m (drop 4 P))
+      → Joined W R m k H₀ (j + 1) (putIn (4 * m + 4) H P j) (score + a) (counts || b) (larger next r)
   joined-more j H score counts next t fits P a b r g ev ea small eb er =
       let v = t .heads in
       let was = v .later j (omega arith) in
       let f = t .few in
       let ts = termsOf W R m j H₀ in
-      let one = termOf W R m (part (4 * m + 2) j H₀) in
+      let one = termOf W R m (part (4 * m + 4) j H₀) in
       record {
-        heads = moved-more (termOf W R m) (KeptGroup W R m) (moved k) (4 * m + 2) H₀ j H v fits P (g .long) g (rw (← was) ev);
+        heads = moved-more (termOf W R m) (KeptGroup W R m) (moved k) (4 * m + 4) H₀ j H v fits P (g .long) g (rw (← was) ev);
         few = omega arith;
-        total = rw (views-more (termOf W R m) (4 * m + 2) j H₀, score-more k ts one, ← t .total, ea, was);
-        some = rw (views-more (termOf W R m) (4 * m + 2) j H₀, any-more k ts one, ← t .some, eb, was);
-        top = rw (now-more (termOf W R m) (KeptGroup W R m) (moved k) (4 * m + 2) H₀ j H v fits P (g .long), top-more 0 (termsOf W R m j H) (termOf W R m P), ← t .top, er);
+        total = rw (views-more (termOf W R m) (4 * m + 4) j H₀, score-more k ts one, ← t .total, ea, was);
+        some = rw (views-more (termOf W R m) (4 * m + 4) j H₀, any-more k ts one, ← t .some, eb, was);
+        top = rw (now-more (termOf W R m) (KeptGroup W R m) (moved k) (4 * m + 4) H₀ j H v fits P (g .long), top-more 0 (termsOf W R m j H) (termOf W R m P), ← t .top, er);
       }
 
 -- one turn of the search for the greatest window
-pub terms-turn : (W R : List ℕ) (m : ℕ) (H : List ℕ) (j top r : ℕ) → r ≡ topFrom 0 (views W R m (drop 2 (part (4 * m + 2) j H))) → top ≡ topAll 0 (groupsIn (termsOf W R m j H))
+pub terms-turn : (W R : List ℕ) (m : ℕ) (H : List ℕ) (j top r : ℕ) → r ≡ topFrom 0 (views W R m (drop 4 (part (4 * m + 4) j H))) → top ≡ topAll 0 (groupsIn (termsOf W R m j H))
     → larger top r ≡ topAll 0 (groupsIn (termsOf W R m (j + 1) H))
-terms-turn W R m H j top r a e = rw (views-more (termOf W R m) (4 * m + 2) j H, top-more 0 (termsOf W R m j H) (termOf W R m (part (4 * m + 2) j H)), ← e, a)
+terms-turn W R m H j top r a e = rw (views-more (termOf W R m) (4 * m + 4) j H, top-more 0 (termsOf W R m j H) (termOf W R m (part (4 * m + 4) j H)), ← e, a)
 
 -- the reach of group j
-pub group-reach : (W R : List ℕ) (m : ℕ) (H : List ℕ) (j : ℕ) → KeptGroup W R m (part (4 * m + 2) j H) → getD H ((4 * m + 2) * j) 0 ≡ topFrom 0 (views W R m (drop 2 (part (4 * m + 2) j H)))
+pub group-reach : (W R : List ℕ) (m : ℕ) (H : List ℕ) (j : ℕ) → KeptGroup W R m (part (4 * m + 4) j H) → getD H ((4 * m + 4) * j) 0 ≡ topFrom 0 (views W R m (drop 4 (part (4 * m + 4) j H)))
 group-reach W R m H j g =
-    let z : (4 * m + 2) * j + 0 ≡ (4 * m + 2) * j = omega arith in
-    sym (getD-take (4 * m + 2) (drop ((4 * m + 2) * j) H) 0 0 (omega arith) ∙ getD-drop ((4 * m + 2) * j) H 0 0 ∙ ap (λ (i : ℕ). getD H i 0) z) ∙ g .top
+    let z : (4 * m + 4) * j + 0 ≡ (4 * m + 4) * j = omega arith in
+    sym (getD-take (4 * m + 4) (drop ((4 * m + 4) * j) H) 0 0 (omega arith) ∙ getD-drop ((4 * m + 4) * j) H 0 0 ∙ ap (λ (i : ℕ). getD H i 0) z) ∙ g .top
 
 -- ---- all terms past a window
 

@@ -1,4 +1,3 @@
-pub mod Heads
 pub mod Fronts
 pub mod Steps
 pub mod Runs

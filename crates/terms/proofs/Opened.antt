@@ -1,13 +1,5 @@
 -- What the rules of the state and of the finished partitions give to a merge.
-use mathlib.Core.Bool.{true, not, _&&_}
-use mathlib.Core.List.{List}
-use mathlib.Core.Path.{_≡_}
-use lib.Dec.{leb}
-use lib.IntN.{natAbs}
-use borrow.Author.Tests.{le-leb}
-use Rattle.lists.specs.Lists.{every}
-use Rattle.lists.proofs.Bools.{and-both}
-use Rattle.lists.proofs.Tests.{every-from}
+use Rattle.lists.proofs.Prelude.{true, not, _&&_, List, _≡_, leb, natAbs, le-leb, every, and-both, every-from}
 use Rattle.postings.specs.declared.Posting.{Posting}
 use Rattle.postings.specs.Merge.{isZero}
 use Rattle.state.specs.declared.Windows.{Windows}

@@ -1,13 +1,5 @@
 -- Heads put one after another: each at the start of a list on the card.
-use mathlib.Core.List.{List, map}
-use mathlib.Core.Path.{_≡_, refl, sym, ap, _∙_, subst}
-use Prim.Native.Nat.{ℕ, zero, suc, _+_, _*_, _/_, _%_, _<_, _≤_}
-use native.Mathlib.Numerals.{add-one}
-use native.Mathlib.Omega.{arith}
-use lib.ListN.{length, getD, take}
-use lib.Seq.{take-suc}
-use borrow.Author.Tests.{lt-ltb}
-use Rattle.lists.specs.All.{AllOf}
+use Rattle.lists.proofs.Prelude.{List, map, _≡_, refl, sym, ap, _∙_, subst, ℕ, zero, suc, _+_, _*_, _/_, _%_, _<_, _≤_, add-one, arith, length, getD, take, take-suc, lt-ltb, AllOf}
 use Rattle.postings.specs.Sums.{under}
 use Rattle.state.specs.declared.State.{State}
 use Rattle.state.specs.Views.{buffered, finished}
@@ -17,9 +9,9 @@ use Rattle.card.proofs.Cursors.{in-block, in-card}
 use Rattle.partitions.specs.Reading.{postingsOf}
 use Rattle.kway.specs.Parts.{part, parts}
 use Rattle.kway.proofs.Parts.{putIn, map-more, all-more, put-length, put-here}
-use Rattle.terms.specs.Heads.{cursorAt, comes, Lies, Kept}
+use Rattle.heads.specs.Heads.{cursorAt, comes, Lies, Kept}
 use Rattle.terms.specs.Opening.{listed, Opens}
-use Rattle.terms.proofs.Heads.{comes-none}
+use Rattle.heads.proofs.Heads.{comes-none}
 use Rattle.terms.proofs.Fronts.{parts-front}
 
 -- the place of a cursor

@@ -1,17 +1,5 @@
 -- Sums of one identifier's postings: the test of the pairs that occur is a test of every window, and so is F.
-use mathlib.Core.Bool.{Bool, true, false, _&&_}
-use mathlib.Core.List.{List, [], _∷_}
-use mathlib.Core.Logic.{⊎-elim}
-use mathlib.Core.Path.{_≡_, refl, sym, ap, _∙_}
-use Prim.Native.Nat.{ℕ, zero, suc, _<_, _≤_}
-use native.Mathlib.Omega.{arith}
-use lib.Dec.{ltb, eqb}
-use lib.IntN.{ℤ, pos, _+ℤ_, +ℤ-idl, +ℤ-idr}
-use lib.ListN.{length}
-use borrow.Author.Tests.{ltb-true, lt-ltb, eqb-true, eq-eqb, ne-eqb}
-use Rattle.lists.specs.Lists.{keep, every, down}
-use Rattle.lists.proofs.Bools.{by-test, and-left, and-right, and-both, and-swap}
-use Rattle.lists.proofs.Tests.{every-from}
+use Rattle.lists.proofs.Prelude.{Bool, true, false, _&&_, List, [], _∷_, ⊎-elim, _≡_, refl, sym, ap, _∙_, ℕ, zero, suc, _<_, _≤_, arith, ltb, eqb, ℤ, pos, _+ℤ_, +ℤ-idl, +ℤ-idr, length, ltb-true, lt-ltb, eqb-true, eq-eqb, ne-eqb, keep, every, down, by-test, and-left, and-right, and-both, and-swap, every-from}
 use Rattle.keyed.specs.Keys.{overKeys}
 use Rattle.keyed.proofs.Walk.{over-same, over-none, over-step}
 use Rattle.postings.specs.declared.Posting.{Posting}

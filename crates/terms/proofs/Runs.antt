@@ -1,20 +1,5 @@
 -- The run of an identifier in the buffer: where it lies, and its words.
-use mathlib.Core.Bool.{true}
-use mathlib.Core.List.{List, [], _∷_, map}
-use mathlib.Core.Logic.{⊎-elim}
-use mathlib.Core.Path.{_≡_, refl, sym, ap, _∙_}
-use Prim.Native.Nat.{ℕ, zero, suc, _+_, _-_, _<_, _≤_}
-use native.Mathlib.Numerals.{add-one}
-use native.Mathlib.Omega.{arith}
-use lib.Dec.{ltb, eqb, leb}
-use lib.IntN.{natAbs}
-use lib.ListN.{length, getD, take, drop, set}
-use lib.Seq.{slice, take-nil, take-take, getD-take, take-suc, take-suc-set, length-take-le}
-use borrow.Author.Tests.{lt-ltb, le-ltb, ne-eqb, ltb-true, ltb-false, eqb-true, eqb-false, leb-true}
-use Rattle.lists.specs.Lists.{every}
-use Rattle.lists.proofs.Turns.{used-turn, used-end}
-use Rattle.lists.proofs.Bools.{by-test, and-left, and-right}
-use Rattle.lists.proofs.Tests.{every-at, every-keep, every-kept}
+use Rattle.lists.proofs.Prelude.{true, List, [], _∷_, map, ⊎-elim, _≡_, refl, sym, ap, _∙_, ℕ, zero, suc, _+_, _-_, _<_, _≤_, add-one, arith, ltb, eqb, leb, natAbs, length, getD, take, drop, set, slice, take-nil, take-take, getD-take, take-suc, take-suc-set, length-take-le, lt-ltb, le-ltb, ne-eqb, ltb-true, ltb-false, eqb-true, eqb-false, leb-true, every, used-turn, used-end, by-test, and-left, and-right, every-at, every-keep, every-kept}
 use Rattle.kway.proofs.Parts.{map-more}
 use Rattle.postings.specs.declared.Posting.{Posting}
 use Rattle.postings.specs.Order.{precedes, ordered}
@@ -25,7 +10,7 @@ use Rattle.postings.proofs.Trips.{packed-count, packed-window}
 use Rattle.state.specs.declared.Buffer.{Buffer}
 use Rattle.state.specs.Views.{noPosting, buffered}
 use Rattle.partitions.specs.Formed.{inRange}
-use Rattle.terms.specs.Heads.{comes, Lies}
+use Rattle.heads.specs.Heads.{comes, Lies}
 use Rattle.terms.specs.Opening.{lower, wordFor, Packed}
 
 -- ---- where the run lies

@@ -1,20 +1,6 @@
 -- From what the judging tells of an identifier's heads to its term.
-use mathlib.Core.Bool.{true, false}
-use mathlib.Core.List.{List, [], _∷_, _++_, map}
-use mathlib.Core.Logic.{⊎-elim}
-use mathlib.Core.Path.{_≡_, sym, ap, ap₂, _∙_, subst}
-use Prim.Native.Nat.{ℕ, zero, suc, _+_, _-_, _*_, _<_, _≤_}
-use native.Mathlib.Nat.{eq-or-lt-of-le}
-use native.Mathlib.Omega.{arith}
-use lib.Dec.{ltb}
-use lib.IntN.{ℤ, pos, _+ℤ_, +ℤ-assoc, +ℤ-idl, +ℤ-idr}
-use lib.ListN.{length, drop, set}
-use borrow.Author.Tests.{ltb-true, ltb-false}
+use Rattle.lists.proofs.Prelude.{true, false, List, [], _∷_, _++_, map, ⊎-elim, _≡_, sym, ap, ap₂, _∙_, subst, ℕ, zero, suc, _+_, _-_, _*_, _<_, _≤_, eq-or-lt-of-le, arith, ltb, ℤ, pos, _+ℤ_, +ℤ-assoc, +ℤ-idl, +ℤ-idr, length, drop, set, length-set, ltb-true, ltb-false, every, totalBy, AllOf, by-test, and-left, and-right, never}
 use borrow.Rule.Slice.PartMut.{putMid}
-use Rattle.lists.specs.Lists.{every, totalBy}
-use Rattle.lists.specs.All.{AllOf}
-use Rattle.lists.proofs.Bools.{by-test, and-left, and-right}
-use Rattle.lists.proofs.Runs.{never}
 use Rattle.keyed.specs.Keys.{Item, falls, allFall, sumOf, sums, overKeys, topFrom}
 use Rattle.keyed.specs.Groups.{Group, allFallAll}
 use Rattle.keyed.proofs.Walk.{sums-high}
@@ -30,8 +16,9 @@ use Rattle.partitions.specs.Formed.{inRange, identifierFormed}
 use Rattle.kway.specs.Parts.{part, parts}
 use Rattle.kway.proofs.Parts.{views-more}
 use Rattle.terms.specs.declared.judging.Told.the-variants.{Malformed, Windows}
-use Rattle.terms.specs.Heads.{view, Kept, views}
+use Rattle.heads.specs.Heads.{view, Kept, views}
 use Rattle.terms.specs.Both.{Ready, both}
+use Rattle.heads.specs.Leads.{Leads}
 use Rattle.terms.specs.Judged.{inRanges, ranges, formed, risen, toldOf}
 use Rattle.terms.specs.Opening.{Opens}
 use Rattle.terms.specs.Terms.{Term, termOf, KeptGroup, Serves}
@@ -142,33 +129,34 @@ module _ (W R : List ℕ) (s : State) (i : ℕ) (H : List ℕ) (opens : Opens W 
           weight = ap (idfWeight (s .windows .live)) (told-windows gs n told .1 ∙ sym (risen-same W R s i H opens small few order rules ok));
         })
 
--- ---- reach and weight put in front of a group's heads
+-- ---- reach, weight and lead put in front of a group's heads
 
-pub weighed : (W R : List ℕ) (m : ℕ) (G : List ℕ) → length G ≡ 4 * m + 2 → AllOf (Kept W R) (parts 4 m (drop 2 G)) → (a b n f : ℕ) → a ≡ topFrom 0 (views W R m (drop 2 G)) → b ≡ idfWeight n f
-    → KeptGroup W R m (set (set G 0 a) 1 b) × (termOf W R m (set (set G 0 a) 1 b) ≡ record { lists = views W R m (drop 2 G); weight = idfWeight n f })
-weighed W R m G l k a b n f p q =
-    let h = headed G a b (omega arith) in (
+pub weighed : (W R : List ℕ) (m : ℕ) (G : List ℕ) → length G ≡ 4 * m + 4 → AllOf (Kept W R) (parts 4 m (drop 4 G)) → (a b c d n f : ℕ) → a ≡ topFrom 0 (views W R m (drop 4 G)) → b ≡ idfWeight n f → Leads (views W R m (drop 4 G)) c d
+    → KeptGroup W R m (set (set (set (set G 0 a) 1 b) 2 c) 3 d) × (termOf W R m (set (set (set (set G 0 a) 1 b) 2 c) 3 d) ≡ record { lists = views W R m (drop 4 G); weight = idfWeight n f })
+weighed W R m G l k a b c d n f p q e =
+    let h = headed G a b c d (omega arith) in (
       record {
-        long = h .long ∙ l;
+        long = length-set (set (set (set G 0 a) 1 b) 2 c) 3 d ∙ length-set (set (set G 0 a) 1 b) 2 c ∙ length-set (set G 0 a) 1 b ∙ length-set G 0 a ∙ l;
         top = h .first ∙ p ∙ ap (λ (P : List ℕ). topFrom 0 (views W R m P)) (sym (h .others));
         light = omega (arith, h .second, q, idf-most n f);
         heads = rw (h .others) k;
+        lead = rw (h .others, h .third, h .fourth) e;
       },
       ap₂ {C = Term} (λ (g : Group) (w : ℕ). record { lists = g; weight = w }) (ap (views W R m) (h .others)) (h .second ∙ q),
     )
 
--- ---- opened heads copied behind two numbers
+-- ---- opened heads copied behind four numbers
 
-pub copied : (W R : List ℕ) (n : ℕ) (H G P : List ℕ) → length G ≡ 4 * n + 6 → length H ≡ 4 * n + 4 → P ≡ H → Ready W R n H
-    → (length (putMid 2 (length G - 2) G P) ≡ 4 * (n + 1) + 2) × AllOf (Kept W R) (parts 4 (n + 1) (drop 2 (putMid 2 (length G - 2) G P))) × (drop 2 (putMid 2 (length G - 2) G P) ≡ H)
+pub copied : (W R : List ℕ) (n : ℕ) (H G P : List ℕ) → length G ≡ 4 * n + 8 → length H ≡ 4 * n + 4 → P ≡ H → Ready W R n H
+    → (length (putMid 4 (length G - 4) G P) ≡ 4 * (n + 1) + 4) × AllOf (Kept W R) (parts 4 (n + 1) (drop 4 (putMid 4 (length G - 4) G P))) × (drop 4 (putMid 4 (length G - 4) G P) ≡ H)
 copied W R n H G P g h e r =
-    let l : length P ≡ length G - 2 = ap length e ∙ omega arith in
-    let d : drop 2 (putMid 2 (length G - 2) G P) ≡ H = put-behind G P (omega arith) l ∙ e in
+    let l : length P ≡ length G - 4 = ap length e ∙ omega arith in
+    let d : drop 4 (putMid 4 (length G - 4) G P) ≡ H = put-behind G P (omega arith) l ∙ e in
     (put-behind-long G P (omega arith) l ∙ omega arith, subst (λ (x : List ℕ). AllOf (Kept W R) (parts 4 (n + 1) x)) (sym d) (ready-all W R n H r), d)
 
 -- what a kept group has to come is what was opened
-pub kept-lists : (W R : List ℕ) (m : ℕ) (H G F : List ℕ) (w : ℕ) → drop 2 G ≡ H → termOf W R m F ≡ record { lists = views W R m (drop 2 G); weight = w }
-    → (termOf W R m F ≡ record { lists = views W R m H; weight = w }) × (views W R m (drop 2 F) ≡ views W R m H)
+pub kept-lists : (W R : List ℕ) (m : ℕ) (H G F : List ℕ) (w : ℕ) → drop 4 G ≡ H → termOf W R m F ≡ record { lists = views W R m (drop 4 G); weight = w }
+    → (termOf W R m F ≡ record { lists = views W R m H; weight = w }) × (views W R m (drop 4 F) ≡ views W R m H)
 kept-lists W R m H G F w d e =
     let t : termOf W R m F ≡ record { lists = views W R m H; weight = w } = e ∙ ap (λ (x : List ℕ). record { lists = views W R m x; weight = w }) d in
     (t, ap (λ (x : Term). x .lists) t)

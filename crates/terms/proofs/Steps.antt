@@ -1,12 +1,6 @@
 -- The merge as a whole computes the definition.
-use mathlib.Core.Bool.{true, false, cond, _&&_, and-true}
-use mathlib.Core.List.{List, [], _∷_, map}
-use mathlib.Core.Path.{_≡_, ap, _∙_}
-use Prim.Native.Nat.{ℕ, suc, _+_, _<_, _≤_}
-use native.Mathlib.Omega.{arith}
-use lib.IntN.{ℤ, _+ℤ_, +ℤ-idr}
-use Rattle.lists.specs.All.{AllOf}
-use Rattle.lists.proofs.Bools.{by-test, and-left, and-right}
+use Rattle.lists.proofs.Prelude.{Bool, true, false, cond, _&&_, and-true, List, [], _∷_, map, _≡_, ap, _∙_, ℕ, suc, _+_, _<_, _≤_, arith, ℤ, _+ℤ_, +ℤ-idr, AllOf, by-test, and-left, and-right}
+use mir.Val.{boolByte}
 use Rattle.keyed.specs.Keys.{Item, headVal, headVals, headFine, headsFine}
 use Rattle.keyed.specs.Groups.{Group, topAll, moveAll, headsFineAll}
 use Rattle.keyed.proofs.Groups as G
@@ -52,13 +46,15 @@ module _ (m n k : ℕ) (gs : List Group) (top : topAll 0 gs ≡ suc k) (low : su
         G.went-on-all inRanges quiet countAbove 0 still Malformed (λ (x : ℕ). Windows (n + x)) m gs k top low (and-left _ _ f) (and-right (headsFineAll k gs) _ f)
         ∙ G.resume-all-same inRanges quiet countAbove 0 still Malformed (λ (x : ℕ). Windows (n + countAbove k (map (headVals k) gs) x)) (λ (x : ℕ). Windows (j + x)) (λ x. ap Windows (e x)) k (moveAll k gs)
 
-    -- a window that counts
-    pub counted : isAbove (totalZ (map (headVals k) gs)) ≡ true → resume m n gs ≡ resume k (n + 1) (moveAll k gs)
-    counted e = on (n + 1) (λ x. rw e (omega arith))
+    -- one window is counted, or none
+    pub counted : (b : Bool) → b ≡ isAbove (totalZ (map (headVals k) gs)) → resume m n gs ≡ resume k (n + boolByte b) (moveAll k gs)
+    counted true e = on (n + 1) (λ x. rw (← e) (omega arith))
+    counted false e = on (n + 0) (λ x. rw (← e) (omega arith))
 
-    -- and one that does not
-    pub passed : isAbove (totalZ (map (headVals k) gs)) ≡ false → resume m n gs ≡ resume k n (moveAll k gs)
-    passed e = on n (λ x. rw e (omega arith))
+-- it is 0 or 1
+pub one-most : (b : Bool) → boolByte b ≤ 1
+one-most true = omega arith
+one-most false = omega arith
 
 -- ---- a group of lists beside a group of one
 

@@ -1,19 +1,5 @@
 -- From the words that an identifier's heads have to come to what is stored under it.
-use mathlib.Core.Bool.{Bool, true, false, _&&_, and-true, and-false}
-use mathlib.Core.List.{List, [], _∷_, _++_, map}
-use mathlib.Core.Path.{_≡_, refl, sym, ap, ap₂, _∙_}
-use Prim.Native.Nat.{ℕ, zero, suc, _+_, _-_, _/_, _%_, _≤_}
-use native.Mathlib.Omega.{arith}
-use lib.Dec.{ltb, eqb}
-use lib.IntN.{ℤ, pos, _+ℤ_, +ℤ-idr}
-use lib.ListN.{length, take, drop, length-append, length-map}
-use borrow.Author.Tests.{lt-ltb, le-ltb, eq-eqb, ne-eqb}
-use Rattle.lists.specs.Lists.{every, joined, totalBy}
-use Rattle.lists.specs.All.{AllOf}
-use Rattle.lists.proofs.Bools.{by-test, and-left, and-right, and-both}
-use Rattle.lists.proofs.Tests.{keep-append, every-keep}
-use Rattle.lists.proofs.Tests.{every-append}
-use Rattle.lists.proofs.Ranges.{every-map, keep-joined}
+use Rattle.lists.proofs.Prelude.{Bool, true, false, _&&_, and-true, and-false, List, [], _∷_, _++_, map, _≡_, refl, sym, ap, ap₂, _∙_, ℕ, zero, suc, _+_, _-_, _/_, _%_, _≤_, arith, ltb, eqb, ℤ, pos, _+ℤ_, +ℤ-idr, length, take, drop, length-append, length-map, lt-ltb, le-ltb, eq-eqb, ne-eqb, every, joined, totalBy, AllOf, by-test, and-left, and-right, and-both, keep-append, every-keep, every-append, every-map, keep-joined}
 use Rattle.keyed.specs.Keys.{falls, allFall, sumOf, sums, overKeys}
 use Rattle.keyed.specs.Groups.{Group, allFallAll}
 use Rattle.keyed.proofs.Walk.{over-same}
@@ -32,7 +18,7 @@ use Rattle.partitions.specs.Reading.{postingsOf, inPartitions, stored}
 use Rattle.partitions.specs.Formed.{listRule, sumsInRange, identifierFormed}
 use Rattle.kway.specs.Parts.{part, parts}
 pub use Rattle.kway.proofs.Stored.{Small, rule, fine-rule, small-at}
-use Rattle.terms.specs.Heads.{itemOf, comes, coming, view}
+use Rattle.heads.specs.Heads.{itemOf, comes, coming, view}
 use Rattle.terms.specs.Both.{both}
 use Rattle.terms.specs.Judged.{totalZ, ranges, countAbove, formed, risen}
 use Rattle.terms.specs.Opening.{listed, Opens}

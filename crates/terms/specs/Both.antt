@@ -4,7 +4,7 @@ use Prim.Native.Nat.{ℕ}
 use Rattle.lists.specs.All.{AllOf}
 use Rattle.keyed.specs.Groups.{Group}
 use Rattle.kway.specs.Parts.{part, parts}
-use Rattle.terms.specs.Heads.{view, Kept, views}
+use Rattle.heads.specs.Heads.{view, Kept, views}
 
 -- all of them can be read
 pub record Ready (W R : List ℕ) (n : ℕ) (H : List ℕ) : Type 0 where

@@ -1,4 +1,3 @@
-pub mod Heads
 pub mod Both
 pub mod Judged
 pub mod Opening

@@ -13,7 +13,7 @@ use Rattle.state.specs.declared.State.{State}
 use Rattle.state.specs.Views.{buffered, finished}
 use Rattle.partitions.specs.Reading.{postingsOf}
 use Rattle.kway.specs.Parts.{part, parts}
-use Rattle.terms.specs.Heads.{coming}
+use Rattle.heads.specs.Heads.{coming}
 use Rattle.terms.specs.Both.{Ready}
 
 -- how many postings at the front have an identifier below i

@@ -1,5 +1,5 @@
--- The terms of a query: an identifier's lists as one group, with the weight of its N and F. A group of m heads is 4 m + 2 numbers: its reach, its weight,
--- and the heads.
+-- The terms of a query: an identifier's lists as one group, with the weight of its N and F. A group of m heads is 4 m + 4 numbers: its reach, its weight,
+-- the place of the list that leads and the reach of the others, and the heads.
 use mathlib.Core.Bool.{true}
 use mathlib.Core.List.{List, map}
 use mathlib.Core.Path.{_≡_}
@@ -15,7 +15,8 @@ use Rattle.state.specs.declared.State.{State}
 use Rattle.partitions.specs.Reading.{stored}
 use Rattle.partitions.specs.Formed.{inRange, identifierFormed}
 use Rattle.kway.specs.Parts.{parts}
-use Rattle.terms.specs.Heads.{Kept, views}
+use Rattle.heads.specs.Heads.{Kept, views}
+use Rattle.heads.specs.Leads.{Leads}
 use Rattle.terms.specs.declared.counting.Counted.{Counted}
 
 -- an identifier's lists, and what a count of it weighs
@@ -25,18 +26,19 @@ pub record Term : Type 0 where
 
 -- what a group of numbers stands for
 abbrev pub termOf : List ℕ → List ℕ → ℕ → List ℕ → Term
-termOf W R m P = record { lists = views W R m (drop 2 P); weight = getD P 1 0 }
+termOf W R m P = record { lists = views W R m (drop 4 P); weight = getD P 1 0 }
 
 -- a group that can be read, with its reach
 pub record KeptGroup (W R : List ℕ) (m : ℕ) (P : List ℕ) : Type 0 where
-  pub long : length P ≡ 4 * m + 2
-  pub top : getD P 0 0 ≡ topFrom 0 (views W R m (drop 2 P))
+  pub long : length P ≡ 4 * m + 4
+  pub top : getD P 0 0 ≡ topFrom 0 (views W R m (drop 4 P))
   pub light : getD P 1 0 ≤ 63
-  pub heads : AllOf (Kept W R) (parts 4 m (drop 2 P))
+  pub heads : AllOf (Kept W R) (parts 4 m (drop 4 P))
+  pub lead : Leads (views W R m (drop 4 P)) (getD P 2 0) (getD P 3 0)
 
 -- g groups
 abbrev pub termsOf : List ℕ → List ℕ → ℕ → ℕ → List ℕ → List Term
-termsOf W R m g H = map (termOf W R m) (parts (4 * m + 2) g H)
+termsOf W R m g H = map (termOf W R m) (parts (4 * m + 4) g H)
 
 -- t stands for the identifier i: its lists fall, the sums of each window are those of what is stored, within ±32,767, and its weight is that of N and F
 pub record Serves (W : List ℕ) (s : State) (i : ℕ) (t : Term) : Type 0 where

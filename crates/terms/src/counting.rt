@@ -14,7 +14,7 @@ ghost use Rattle.state.specs.Views.{blocks, finished};
 ghost use Rattle.state.specs.Rules.{stateRule};
 ghost use Rattle.partitions.specs.Formed.{partitionsFormed, identifierFormed};
 ghost use Rattle.kway.specs.Parts.{parts};
-ghost use Rattle.terms.specs.Heads.{Kept, views};
+ghost use Rattle.heads.specs.Heads.{Kept, views};
 ghost use Rattle.terms.specs.Opening.{Packed};
 ghost use Rattle.terms.specs.Terms.{termOf, KeptGroup, CountedFor};
 
@@ -52,16 +52,18 @@ fn total_left(card: &[u8], run: &[u32], heads: &[u32], m: usize) -> u32
     total
 }
 
-// Puts the reach and the weight of a group whose heads are kept: `f` of `n` windows have its identifier.
+// Puts the reach, the weight and the lead of a group whose heads are kept: `f` of `n` windows have its identifier.
 fn weigh(card: &[u8], run: &[u32], group: &mut [u32], m: usize, n: u16, f: u16)
-    requires { ⌜ (length (now group) ≡ 4 * m + 2) × (m ≤ 52) × AllOf (Kept (wordsOf (now card)) (now run)) (parts 4 m (drop 2 (now group))) ⌝ }
+    requires { ⌜ (length (now group) ≡ 4 * m + 4) × (m ≤ 52) × AllOf (Kept (wordsOf (now card)) (now run)) (parts 4 m (drop 4 (now group))) ⌝ }
     ensures { λ r. ⌜ KeptGroup (wordsOf (now (card .entry))) (now (run .entry)) m (now (group .exit))
         × (termOf (wordsOf (now (card .entry))) (now (run .entry)) m (now (group .exit))
-        ≡ record { lists = views (wordsOf (now (card .entry))) (now (run .entry)) m (drop 2 (now (group .entry))); weight = idfWeight n f }) ⌝ }
+        ≡ record { lists = views (wordsOf (now (card .entry))) (now (run .entry)) m (drop 4 (now (group .entry))); weight = idfWeight n f }) ⌝ }
 {
-    let top = super::top_key(card, run, &group[2..], m);
-    group[0] = top;
+    let l = heads::leading::leader(card, run, &group[4..], m);
+    group[0] = l.top;
     group[1] = weights::idf_weight(n, f);
+    group[2] = l.at;
+    group[3] = l.others;
 }
 
 // Whether what is read of an identifier is well formed. The heads are opened, and spent by the judging.
@@ -91,12 +93,12 @@ pub fn keep_term(
 ) -> Counted
     requires { ⌜ (stateRule s ≡ true) × (length (wordsOf (now card)) ≡ 1024 * blocks s)
         × (partitionsFormed (wordsOf (now card)) (blocks s) (finished (s .partitions)) ≡ true)
-        × Packed (s .buffer) (now run) × (length (now heads) ≡ 4 * s .partitions .used + 4) × (length (now group) ≡ 4 * s .partitions .used + 6) ⌝ }
+        × Packed (s .buffer) (now run) × (length (now heads) ≡ 4 * s .partitions .used + 4) × (length (now group) ≡ 4 * s .partitions .used + 8) ⌝ }
     ensures { λ r. ⌜ CountedFor (wordsOf (now (card .entry))) (now (run .entry)) s id (s .partitions .used + 1) (now (group .exit)) r ⌝ }
 {
     let n = s.partitions.used as usize;
     super::opening::open_heads(card, run, heads, s, id);
-    copy(&mut group[2..], heads);
+    copy(&mut group[4..], heads);
     let told = super::judging::judge(card, run, heads, n);
     match told {
         Told::Malformed => Counted {
@@ -105,7 +107,7 @@ pub fn keep_term(
         },
         Told::Windows(windows) => {
             weigh(card, run, group, n + 1, s.windows.live, windows as u16);
-            let taken = total_left(card, run, &group[2..], n + 1);
+            let taken = total_left(card, run, &group[4..], n + 1);
             Counted {
                 fine: true,
                 taken: taken,

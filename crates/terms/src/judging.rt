@@ -8,13 +8,18 @@ ghost use Rattle.keyed.specs.Groups.{topAll, moveAll};
 ghost use Rattle.words.specs.Words.{words as wordsOf};
 ghost use Rattle.postings.specs.Sums.{isAbove};
 ghost use Rattle.terms.specs.Judged.{totalZ, fineAt, toldOf};
+ghost use Rattle.heads.specs.Heads.{views};
+ghost use Rattle.heads.specs.Leads.{Leads};
 ghost use Rattle.terms.specs.Both.{Ready, both as bothOf};
 
-// What is taken under a window: whether it is well formed with sums in range, whether it counts, and one more than the greatest window to come.
+// What is taken under a window: whether it is well formed with sums in range, whether it counts, one more than the greatest window to come, and the
+// list on the card that leads.
 struct Judged {
     pub fine: bool,
     pub counts: bool,
     pub next: u32,
+    pub at: u32,
+    pub others: u32,
 }
 
 // In how many windows the sum is above 0.
@@ -24,8 +29,17 @@ pub enum Told {
 }
 
 // Takes the heads that have the key. The sum is judged without the run and with it.
-fn judge_window(card: &[u8], run: &[u32], heads: &mut [u32], n: usize, key: u32) -> Judged
-    requires { ⌜ (length (now heads) ≡ 4 * n + 4) × (n ≤ 51) × (key < 4294967295) × Ready (wordsOf (now card)) (now run) n (now heads) ⌝ }
+fn judge_window(
+    card: &[u8],
+    run: &[u32],
+    heads: &mut [u32],
+    n: usize,
+    lead: u32,
+    others: u32,
+    key: u32,
+) -> Judged
+    requires { ⌜ (length (now heads) ≡ 4 * n + 4) × (n ≤ 51) × (key < 4294967295) × Ready (wordsOf (now card)) (now run) n (now heads)
+        × Leads (views (wordsOf (now card)) (now run) n (now heads)) lead others ⌝ }
     ensures heads { λ r. ⌜ (length (now (heads .exit)) ≡ length (now (heads .entry)))
         × Ready (wordsOf (now (card .entry))) (now (run .entry)) n (now (heads .exit))
         × (bothOf (wordsOf (now (card .entry))) (now (run .entry)) n (now (heads .exit))
@@ -33,22 +47,24 @@ fn judge_window(card: &[u8], run: &[u32], heads: &mut [u32], n: usize, key: u32)
     ensures judged { λ r. ⌜ (r .fine ≡ fineAt key (bothOf (wordsOf (now (card .entry))) (now (run .entry)) n (now (heads .entry))))
         × (r .counts ≡ isAbove (totalZ (map (headVals key) (bothOf (wordsOf (now (card .entry))) (now (run .entry)) n (now (heads .entry))))))
         × (r .next ≡ topAll 0 (bothOf (wordsOf (now (card .entry))) (now (run .entry)) n (now (heads .exit)))) ⌝ }
+    ensures lead { λ r. ⌜ Leads (views (wordsOf (now (card .entry))) (now (run .entry)) n (now (heads .exit))) (r .at) (r .others) ⌝ }
 {
     let at = 4 * n;
     let end = at + 4;
-    let t = super::take(card, run, &mut heads[0..at], n, key);
-    let q = super::took(card, run, &mut heads[at..end], key);
+    let t = heads::leading::take_led(card, run, &mut heads[0..at], n, lead, others, key);
+    let q = heads::took(card, run, &mut heads[at..end], key);
     let sum = t.sum;
     let total = kway::added(sum, q.count);
-    let ranges = kway::both(kway::in_range(sum), kway::in_range(total));
-    let formed = kway::both(t.fine, q.fine);
-    let fine = kway::both(formed, ranges);
+    let ranges = kway::in_range(sum) & kway::in_range(total);
+    let fine = (t.fine & q.fine) & ranges;
     let counts = kway::above(total);
     let next = kway::larger(t.next, q.reach);
     Judged {
         fine: fine,
         counts: counts,
         next: next,
+        at: t.at,
+        others: t.others,
     }
 }
 
@@ -57,7 +73,10 @@ pub fn judge(card: &[u8], run: &[u32], heads: &mut [u32], n: usize) -> Told
     requires { ⌜ (length (now heads) ≡ 4 * n + 4) × (n ≤ 51) × Ready (wordsOf (now card)) (now run) n (now heads) ⌝ }
     ensures { λ r. ⌜ r ≡ toldOf (bothOf (wordsOf (now (card .entry))) (now (run .entry)) n (now (heads .entry))) ⌝ }
 {
-    let mut top = super::top_key(card, run, heads, n + 1);
+    let l = heads::leading::leader(card, run, heads, n);
+    let mut top = kway::larger(l.top, heads[4 * n]);
+    let mut at = l.at;
+    let mut others = l.others;
     let mut bound: u32 = 65536;
     let mut count: u32 = 0;
     while 0 < top {
@@ -65,16 +84,15 @@ pub fn judge(card: &[u8], run: &[u32], heads: &mut [u32], n: usize) -> Told
             return Told::Malformed;
         }
         let w = top - 1;
-        let t = judge_window(card, run, heads, n, w);
+        let t = judge_window(card, run, heads, n, at, others, w);
         let fine = t.fine;
         if !fine {
             return Told::Malformed;
         }
-        let counts = t.counts;
-        if counts {
-            count += 1;
-        }
+        count += t.counts as u32;
         top = t.next;
+        at = t.at;
+        others = t.others;
         bound = w;
     }
     Told::Windows(count)

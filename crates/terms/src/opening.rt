@@ -17,7 +17,7 @@ ghost use Rattle.partitions.specs.Reading.{postingsOf};
 ghost use Rattle.partitions.specs.Formed.{inRange};
 ghost use Rattle.partitions.specs.Terms.{Readable};
 ghost use Rattle.kway.specs.Parts.{parts};
-ghost use Rattle.terms.specs.Heads.{Kept};
+ghost use Rattle.heads.specs.Heads.{Kept};
 ghost use Rattle.terms.specs.Opening.{lower as lowerOf, listed, Packed, Opens};
 
 // Packs the buffer's postings as words, in the buffer's order: the run.
@@ -60,7 +60,7 @@ fn open_run(card: &[u8], run: &[u32], head: &mut [u32], b: Buffer, id: u16)
 {
     let at = lower(b, id as u32);
     let end = lower(b, id as u32 + 1);
-    super::put(card, run, head, 4194304 + at as u32, (end - at) as u32);
+    heads::put(card, run, head, 4194304 + at as u32, (end - at) as u32);
 }
 
 // Puts the head of the identifier's list in each finished partition.
@@ -79,7 +79,7 @@ fn open_lists(card: &[u8], run: &[u32], heads: &mut [u32], ps: Partitions, id: u
         let place = 1024 * c.block as u32 + c.word as u32;
         let at = 4 * i;
         let end = at + 4;
-        super::put(card, run, &mut heads[at..end], place, c.left);
+        heads::put(card, run, &mut heads[at..end], place, c.left);
         i += 1;
     }
 }

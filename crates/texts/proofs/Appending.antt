@@ -1,11 +1,5 @@
 -- Text written behind the first bytes of a buffer, piece by piece.
-use mathlib.Core.List.{List, [], _∷_, _++_, append-assoc, append-nil}
-use mathlib.Core.Path.{_≡_, refl, _∙_, ap}
-use Prim.Native.Nat.{ℕ, suc, _+_, _≤_, _<_}
-use native.Mathlib.Numerals.{add-one}
-use native.Mathlib.Omega.{arith}
-use lib.ListN.{length, getD, take, set, length-set, length-append}
-use lib.Seq.{take-suc, take-suc-set, take-all}
+use Rattle.lists.proofs.Prelude.{List, [], _∷_, _++_, append-assoc, append-nil, _≡_, refl, _∙_, ap, ℕ, suc, _+_, _≤_, _<_, add-one, arith, length, getD, take, set, length-set, length-append, take-suc, take-suc-set, take-all}
 use Rattle.texts.specs.Texts.{Wrote, Says}
 
 pub wrote-byte : (l : List ℕ) (n b : ℕ) → n < length l → Wrote l n (b ∷ []) (set l n b) (n + 1)

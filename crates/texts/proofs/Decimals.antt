@@ -1,20 +1,7 @@
 -- The fewest digits of a number are its text in decimal.
-use mathlib.Core.List.{[], _∷_}
-use mathlib.Core.Path.{_≡_, refl, _∙_, ap}
-use Prim.Native.Nat.{ℕ, zero, suc, _+_, _-_, _*_, _/_, _%_, _^_, _≤_, _<_}
-use native.Mathlib.Numerals.{add-one}
-use native.Mathlib.Nat.{pow-suc, pow-le-pow-right}
-use native.Mathlib.Omega.{arith}
-use lib.Dec.{leb}
-use lib.ListN.{length, length-append}
-use borrow.Author.Tests.{lt-ltb, le-ltb, leb-true, leb-false}
-use Rattle.lists.proofs.Bools.{by-test}
+use Rattle.lists.proofs.Prelude.{_≡_, ℕ, zero, suc, _+_, _-_, _*_, _/_, _%_, _^_, _≤_, _<_, pow-suc, pow-le-pow-right, arith, leb, lt-ltb, le-ltb, leb-true, leb-false, by-test}
 use Rattle.io.specs.Digits.{digits, glyph, Fewest}
 use Rattle.texts.specs.Texts.{decimalIn, decimal}
-
-pub length-digits : (k n : ℕ) → length (digits 10 k n) ≡ k
-length-digits zero n = refl
-length-digits (suc k) n = length-append (digits 10 k (n / 10)) (glyph (n % 10) ∷ []) ∙ ap (λ (j : ℕ). j + 1) (length-digits k (n / 10)) ∙ add-one k
 
 -- a digit below 10
 small-glyph : (d : ℕ) → d < 10 → glyph d ≡ 48 + d

@@ -1,13 +1,6 @@
 -- The lines of hits, written one after another.
-use mathlib.Core.List.{List, [], _∷_, _++_, map, append-nil}
-use mathlib.Core.Path.{_≡_, refl, sym}
-use Prim.Native.Nat.{ℕ, _+_, _*_, _≤_, _<_}
-use native.Mathlib.Numerals.{add-one}
-use native.Mathlib.Omega.{arith}
-use lib.ListN.{length, getD, take}
-use lib.Seq.{take-suc}
+use Rattle.lists.proofs.Prelude.{List, [], _∷_, _++_, map, append-nil, _≡_, refl, sym, ℕ, _+_, _*_, _≤_, _<_, add-one, arith, length, getD, take, take-suc, joined}
 use Rattle.answers.specs.declared.Hit.{Hit}
-use Rattle.lists.specs.Lists.{joined}
 use Rattle.lists.proofs.Stores.{joined-append}
 use Rattle.texts.specs.Texts.{Wrote, hitText}
 use Rattle.texts.proofs.Appending.{wrote-then, wrote-as}

@@ -1,19 +1,6 @@
 -- How far a line is split: the fields put so far, and what is left.
-use mathlib.Core.Bool.{true, false}
-use mathlib.Core.List.{List, [], _∷_, _++_, map, map-append, append-assoc}
-use mathlib.Core.Path.{_≡_, refl, sym, _∙_, ap}
-use Prim.Native.Nat.{ℕ, suc, _+_, _-_, _*_, _≤_, _<_}
-use native.Mathlib.Numerals.{add-one}
-use native.Mathlib.Omega.{arith}
-use native.Mathlib.Nat.{sub-self}
-use lib.Dec.{eqb}
-use lib.ListN.{length, getD, take, drop, set, length-set, length-drop, drop-of-length-le}
-use lib.Seq.{drop-cons, take-suc, take-suc-set, getD-drop, length-take-le}
+use Rattle.lists.proofs.Prelude.{true, false, List, [], _∷_, _++_, map, map-append, append-assoc, _≡_, refl, sym, _∙_, ap, ℕ, suc, _+_, _-_, _*_, _≤_, _<_, add-one, arith, sub-self, eqb, length, getD, take, drop, set, length-set, length-drop, drop-of-length-le, drop-cons, take-suc, take-suc-set, getD-drop, length-take-le, le-leb, lt-leb, any, empty, any-append, or-right}
 use denote.Ref.{RefT, now}
-use borrow.Author.Tests.{le-leb, lt-leb}
-use Rattle.lists.specs.Lists.{any, empty}
-use Rattle.lists.proofs.Tests.{any-append}
-use Rattle.lists.proofs.Bools.{or-right}
 use Rattle.texts.specs.Fields.{fieldsFrom, fields, partsOf}
 
 abbrev pub Part : Type 0

@@ -48,20 +48,14 @@ pub fn split<'a>(line: &'a [u8], parts: &mut [&'a [u8]]) -> usize
 pub fn read_number(field: &[u8]) -> Number
     ensures { λ r. ⌜ numberOf r ≡ numberIn (now (field .entry)) ⌝ }
 {
-    if field.len() < 1 {
-        return Number::Nothing;
-    }
-    if 5 < field.len() {
+    if !((1 <= field.len()) & (field.len() <= 5)) {
         return Number::Nothing;
     }
     let mut n: u32 = 0;
     let mut i: usize = 0;
     while i < field.len() {
         let b = wide(field[i]);
-        if b < 48 {
-            return Number::Nothing;
-        }
-        if 57 < b {
+        if !((48 <= b) & (b <= 57)) {
             return Number::Nothing;
         }
         n = n * 10 + (b - 48);

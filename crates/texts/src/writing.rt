@@ -5,7 +5,6 @@ use answers::Opened;
 use answers::Refusal;
 use answers::Reply;
 ghost use mathlib.Core.List.{[], _∷_, _++_, map};
-ghost use mathlib.Core.Path.{_≡_};
 ghost use Prim.Native.Nat.{_+_, _*_, _≤_, _<_};
 ghost use lib.ListN.{length, take};
 ghost use Rattle.lists.specs.Lists.{joined};
@@ -56,28 +55,6 @@ fn put_pair(out: &mut [u8], n: usize, a: u32, b: u32) -> usize
     put_byte(out, second, 10)
 }
 
-// A refusal's number.
-fn refusal_number(why: Refusal) -> u32
-    ensures { λ r. ⌜ r ≡ refusalNumber why ⌝ }
-{
-    match why {
-        Refusal::BrokenState => 1,
-        Refusal::WrongLength => 2,
-        Refusal::Malformed => 3,
-        Refusal::BadIdentifier => 4,
-        Refusal::OutOfTurn => 5,
-        Refusal::Exhausted => 6,
-        Refusal::NotLive => 7,
-        Refusal::RegisterFull => 8,
-        Refusal::WindowFull => 9,
-        Refusal::LevelFull => 10,
-        Refusal::HalfFull => 11,
-        Refusal::TooFewFree => 12,
-        Refusal::NothingDue => 13,
-        Refusal::BadQuery => 14,
-    }
-}
-
 // The lines of the first `used` hits.
 fn put_hits(out: &mut [u8], n: usize, hits: [Hit; 32], used: usize) -> usize
     requires { ⌜ (used ≤ 32) × (n + used * 22 ≤ length (now out)) ⌝ }
@@ -99,7 +76,7 @@ fn put_refusal(out: &mut [u8], why: Refusal) -> usize
     ensures { λ r. ⌜ Says (now (out .exit)) r (answerText (refused (refusalNumber why))) ⌝ }
 {
     let mark = put_byte(out, 0, 33);
-    let number = put_number(out, mark, refusal_number(why));
+    let number = put_number(out, mark, answers::number_of(why));
     put_byte(out, number, 10)
 }
 

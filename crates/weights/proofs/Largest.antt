@@ -1,12 +1,5 @@
 -- The largest number that passes a test.
-use mathlib.Core.Bool.{Bool, true, false}
-use mathlib.Core.Path.{_≡_, sym, _∙_}
-use Prim.Native.Nat.{ℕ, zero, suc, _+_, _≤_}
-use native.Mathlib.Numerals.{add-one}
-use native.Mathlib.Omega.{arith}
-use lib.Dec.{leb}
-use borrow.Author.Tests.{leb-true, leb-false}
-use Rattle.lists.proofs.Bools.{by-test}
+use Rattle.lists.proofs.Prelude.{Bool, true, false, _≡_, sym, _∙_, ℕ, zero, suc, _+_, _≤_, add-one, arith, leb, leb-true, leb-false, by-test}
 use Rattle.weights.specs.Weights.{largest}
 
 module _ (t : ℕ → Bool) where

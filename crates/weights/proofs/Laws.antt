@@ -1,14 +1,7 @@
 -- What the weights are, and how they grow.
-use mathlib.Core.Bool.{true, false, _||_}
-use mathlib.Core.Path.{_≡_, refl, sym, _∙_}
-use Prim.Native.Nat.{ℕ, _+_, _-_, _*_, _/_, _^_, _≤_, _<_}
-use native.Mathlib.Nat.{le-trans, le-of-eq, pow-le-pow-left, mul-le-mul-left, mul-le-mul-right}
-use native.Mathlib.Omega.{arith}
+use Rattle.lists.proofs.Prelude.{true, false, _||_, _≡_, refl, sym, _∙_, ℕ, _+_, _-_, _*_, _/_, _^_, _≤_, _<_, le-trans, le-of-eq, pow-le-pow-left, mul-le-mul-right, arith, leb, ltb, eqb, le-leb, lt-leb, leb-true, leb-false, le-ltb, lt-ltb, ne-eqb, by-test, or-right}
 use lib.Count.{leadingZeros}
-use lib.Dec.{leb, ltb, eqb}
 use lib.Pow.{pow-mono}
-use borrow.Author.Tests.{le-leb, lt-leb, leb-true, leb-false, le-ltb, lt-ltb, ltb-true, ltb-false, ne-eqb}
-use Rattle.lists.proofs.Bools.{by-test, or-right}
 use Rattle.weights.specs.Weights.{largest, tfWeight, idfWeight, Highest, HighestOver}
 use Rattle.weights.proofs.Largest.{largest-le, largest-top, largest-only, largest-more}
 use Rattle.weights.proofs.Powers.{fourth-fits, fourth-positive, highest-bit, of-quotient, quotient-positive, quotient-fits}
@@ -53,11 +46,6 @@ pub tf-most : (f : ℕ) → f ≤ 32767 → tfWeight f ≤ 60
 unfolding largest tfWeight
 tf-most f h = le-trans (tf-grows f 32767 h) (le-of-eq {m = tfWeight 32767} refl)
 
--- a count above 0 weighs something
-pub tf-least : (f : ℕ) → 1 ≤ f → 4 ≤ tfWeight f
-unfolding largest tfWeight
-tf-least f h = tf-grows 1 f h
-
 -- The weight of n and f ---------------------------------------------------------------------------------------------
 
 idf-test-falls : (m x i j : ℕ) → i ≤ j → leb (2 ^ j * m) x ≡ true → leb (2 ^ i * m) x ≡ true
@@ -82,12 +70,6 @@ module _ (n f : ℕ) (lo : 1 ≤ f) (le : f ≤ n) (hi : n ≤ 65535) where
   idf-out : leb (2 ^ 64 * f ^ 4) (n ^ 4) ≡ false
   idf-out = lt-leb (18446744073709551616 * f ^ 4) (n ^ 4) (omega (arith, fourth-fits n hi, fourth-positive f lo))
 
-  -- the bound of 63 in the definition leaves nothing out
-  pub idf-highest : HighestOver (n ^ 4) (f ^ 4) (idfWeight n f)
-  idf-highest =
-      let top = largest-top (λ b. leb (2 ^ b * f ^ 4) (n ^ 4)) (le-leb (1 * f ^ 4) (n ^ 4) (omega (arith, pow-le-pow-left le 4))) 63 idf-out in
-      rw (idf-proper n f lo le) (record { reached = leb-true _ _ (top .0); next = leb-false _ _ (top .1) })
-
   -- no other number is the highest
   pub idf-only : (b : ℕ) → HighestOver (n ^ 4) (f ^ 4) b → idfWeight n f ≡ b
   idf-only b t =
@@ -103,17 +85,3 @@ pub idf-most : (n f : ℕ) → idfWeight n f ≤ 63
 unfolding idfWeight
 idf-most n f =
     by-test (eqb f 0 || ltb n f) (λ e. rw e (omega arith)) (λ e. rw e (largest-le (λ b. leb (2 ^ b * f ^ 4) (n ^ 4)) 63))
-
--- what more windows have weighs no more
-pub idf-falls : (n f g : ℕ) → 1 ≤ f → f ≤ g → idfWeight n g ≤ idfWeight n f
-idf-falls n f g lo h =
-    by-test
-    (ltb n g)
-    (λ e. rw (idf-past n g (ltb-true n g e)) (omega arith))
-    (λ e. let k = ltb-false n g e in
-    rw (idf-proper n g (omega arith) k, idf-proper n f lo (omega arith))
-    (largest-more
-    (λ b. leb (2 ^ b * g ^ 4) (n ^ 4))
-    (λ b. leb (2 ^ b * f ^ 4) (n ^ 4))
-    (λ b t. le-leb _ _ (le-trans (mul-le-mul-left (2 ^ b) (pow-le-pow-left h 4)) (leb-true _ _ t)))
-    63))

@@ -1,11 +1,6 @@
 -- Fourth powers, and where the highest set bit of a number stands.
-use mathlib.Core.Path.{_≡_}
-use Prim.Native.Nat.{ℕ, suc, _+_, _-_, _*_, _/_, _^_, _≤_, _<_}
-use native.Mathlib.Nat.{mul-assoc, one-mul, pow-suc, pow-zero, lt-of-le-of-lt, pow-le-pow-left, div-le-self, le-div-iff-mul-le, div-lt-iff-lt-mul}
-use native.Mathlib.Numerals.{add-one}
-use native.Mathlib.Omega.{arith}
+use Rattle.lists.proofs.Prelude.{_≡_, ℕ, suc, _+_, _-_, _*_, _/_, _^_, _≤_, _<_, mul-assoc, one-mul, pow-suc, pow-zero, lt-of-le-of-lt, pow-le-pow-left, div-le-self, le-div-iff-mul-le, div-lt-iff-lt-mul, add-one, arith, lit<}
 use lib.Count.{leadingZeros, leading-top}
-use lib.Dec.{lit<}
 use Rattle.weights.specs.Weights.{Highest, HighestOver}
 
 -- the fourth power as the code computes it

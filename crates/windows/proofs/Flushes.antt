@@ -1,17 +1,17 @@
--- What a flush gives, by its target.
-use mathlib.Core.Bool.{true}
-use mathlib.Core.List.{List}
-use mathlib.Core.Path.{_≡_, refl, sym, _∙_}
-use Prim.Native.Nat.{ℕ}
-use native.Mathlib.Omega.{arith}
-use Rattle.words.specs.Words.{words, bytes}
+-- What a flush comes to, by its target, and what an outcome gives.
+use Rattle.lists.proofs.Prelude.{true, List, [], _≡_, refl, sym, _∙_, ℕ, arith}
 use Rattle.answers.specs.declared.Refusal.{Refusal}
-use Rattle.answers.specs.Answers.{Answer, Outcome, refuse, leave, done, refused}
+use Rattle.answers.specs.Answers.{Answer, Outcome, refuse, leave, refused}
 use Rattle.answers.specs.Numbers.{refusalNumber}
+use Rattle.answers.specs.Order as order
 use Rattle.state.specs.declared.State.{State}
+use Rattle.state.specs.Rules.{stateRule}
+use Rattle.admission.specs.Admission.{firstOf, cardTests}
+use Rattle.admission.proofs.Laws.{barred, granted, card-sound}
 use Rattle.windows.specs.declared.Target.{Target}
-use Rattle.windows.specs.Flush.{flushing, flushedTo, flushedCard}
-use Rattle.windows.specs.Targets.{written, Aimed}
+use Rattle.windows.specs.Flush.{flushing, flushingIf}
+use Rattle.windows.specs.Calls.{flushOf}
+use Rattle.windows.specs.Targets.{written, Aimed, Judged}
 use Rattle.windows.specs.Promises.{Gives, storeOf}
 use Rattle.windows.proofs.Targets.{flushing-wanted}
 
@@ -28,14 +28,21 @@ pub leaves : {S : Type 0} {s : S} (a : Answer) (t : S) → Gives s (leave a t) a
 leaves a t = record { answer = refl; left = refl }
 
 module _ (s : State) (card : List ℕ) where
-  pub flush-refused : (why : Refusal) → Aimed true s card (Target.Refused why) → Gives (storeOf s card) (flushing s card written) (refused (refusalNumber why)) (storeOf s card)
-  flush-refused why a = gives-by _ _ (flushing-wanted s card written ∙ a) (refuses _)
+  -- refused before a target is sought
+  pub flush-barred : (why : Refusal) → refusalNumber why ≡ firstOf order.flush (cardTests (stateRule s) (s .lengths) card) → Judged s card (Target.Refused why)
+  unfolding flushOf
+  flush-barred why e = barred [] [] (flushing s card written) order.flush (cardTests (stateRule s) (s .lengths) card) why e
 
-  pub flush-nothing : Aimed true s card Target.Nothing → Gives (storeOf s card) (flushing s card written) done (storeOf s card)
-  flush-nothing a = gives-by _ _ (flushing-wanted s card written ∙ a .0) (leaves _ _)
+  module _ (told : 0 ≡ firstOf order.flush (cardTests (stateRule s) (s .lengths) card)) where
+    flush-admitted : flushOf (storeOf s card) ≡ flushingIf true s card written
+    unfolding flushOf
+    flush-admitted = granted [] [] (flushing s card written) order.flush (cardTests (stateRule s) (s .lengths) card) refl refl told ∙ flushing-wanted s card written
 
-  pub flush-written : (b : ℕ) → Aimed true s card (Target.Block b) → Gives (storeOf s card) (flushing s card written) done (storeOf (flushedTo s b) (bytes (flushedCard s (words card) b)))
-  flush-written b a = gives-by _ _ (flushing-wanted s card written ∙ a .0) (leaves _ _)
+    -- judged by its target
+    pub flush-judged : (t : Target) → Aimed true s card t → Judged s card t
+    flush-judged (Target.Refused why) a = flush-admitted ∙ a
+    flush-judged Target.Nothing a = flush-admitted ∙ a .0
+    flush-judged (Target.Block b) a = let k = card-sound (stateRule s) (s .lengths) card told in (flush-admitted ∙ a .0, k .rule, k .size, a .1)
 
 -- nothing to write, as the answer's kind tells
 pub nothing-told : (tag : Target → ℕ) → ((b : ℕ) → tag (Target.Block b) ≡ 1) → ((why : Refusal) → tag (Target.Refused why) ≡ 2) → (t : Target) → tag t ≡ 0 → t ≡ Target.Nothing

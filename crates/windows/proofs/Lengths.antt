@@ -1,7 +1,5 @@
 -- What the limits of the buffers' lengths say.
-use mathlib.Core.Bool.{true, _&&_}
-use mathlib.Core.Path.{_≡_}
-use Prim.Native.Nat.{ℕ}
+use Rattle.lists.proofs.Prelude.{true, _&&_, _≡_, ℕ}
 use Rattle.state.specs.Rules.{cardLength, registerLength, lengthsRule}
 use Rattle.state.proofs.Kept.{LengthsKept, lengths-kept}
 

@@ -4,6 +4,3 @@ pub mod Lengths
 pub mod Targets
 pub mod Rooms
 pub mod Flushes
-pub mod Verdicts
-pub mod Counts
-pub mod Pairs

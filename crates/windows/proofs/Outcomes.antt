@@ -1,7 +1,5 @@
 -- How a promise goes through the forms that calls are written in.
-use mathlib.Core.Bool.{Bool, true, false}
-use mathlib.Core.Path.{_≡_, refl}
-use Prim.Native.Nat.{ℕ}
+use Rattle.lists.proofs.Prelude.{Bool, true, false, _≡_, refl, ℕ}
 use Rattle.answers.specs.Answers.{Answer, Outcome, leave, refuseIf, choose, refused}
 use Rattle.windows.specs.Promises.{Gives}
 

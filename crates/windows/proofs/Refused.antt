@@ -1,7 +1,5 @@
 -- Refused means unchanged, for start, open, event, close and flush.
-use mathlib.Core.Bool.{Bool}
-use mathlib.Core.List.{List}
-use Prim.Native.Nat.{ℕ}
+use Rattle.lists.proofs.Prelude.{Bool, List, ℕ}
 use Rattle.answers.specs.Answers.{Outcome}
 use Rattle.answers.specs.Unchanged.{Unchanged}
 use Rattle.answers.proofs.Kept.{unchanged-if, unchanged-choose, unchanged-done, unchanged-number}

@@ -1,15 +1,5 @@
 -- What a judged flush finds: a free block on the card, room in the list of partitions, and counts that fit.
-use mathlib.Core.Bool.{true, cond}
-use mathlib.Core.List.{List, [], _∷_}
-use mathlib.Core.Path.{_≡_, refl}
-use Prim.Native.Nat.{ℕ, zero, suc, _+_, _<_, _≤_}
-use native.Mathlib.Omega.{arith}
-use lib.Dec.{eqb, leb}
-use lib.ListN.{length}
-use borrow.Author.Tests.{leb-true, le-leb}
-use Rattle.lists.specs.Lists.{every}
-use Rattle.lists.proofs.Bools.{by-test, and-left, and-right}
-use Rattle.lists.proofs.Tests.{every-from}
+use Rattle.lists.proofs.Prelude.{true, cond, List, [], _∷_, _≡_, refl, ℕ, zero, suc, _+_, _<_, _≤_, arith, eqb, leb, length, leb-true, le-leb, every, by-test, and-left, and-right, every-from}
 use Rattle.postings.specs.declared.Posting.{Posting}
 use Rattle.state.specs.declared.Windows.{Windows}
 use Rattle.state.specs.declared.Partition.{Partition}

@@ -1,14 +1,5 @@
 -- What a flush that stands alone comes to, and that it tells what follows a flush whatever that is.
-use mathlib.Core.Bool.{Bool, true, false, not, _||_}
-use mathlib.Core.List.{List, [], _∷_}
-use mathlib.Core.Path.{_≡_, refl, sym, ap, _∙_}
-use Prim.Native.Nat.{ℕ, suc, _*_, _<_, _≤_}
-use native.Mathlib.Omega.{arith}
-use lib.Dec.{eqb, ltb, leb}
-use lib.ListN.{length, getD}
-use borrow.Author.Tests.{ne-eqb, leb-true, leb-false, ltb-true, ltb-false, le-leb, lt-leb, lt-ltb, le-ltb}
-use Rattle.lists.specs.Lists.{empty}
-use Rattle.lists.proofs.Bools.{by-test}
+use Rattle.lists.proofs.Prelude.{Bool, true, false, not, _||_, List, [], _∷_, _≡_, refl, sym, ap, _∙_, ℕ, suc, _*_, _<_, _≤_, arith, eqb, length, getD, ne-eqb, le-leb, lt-leb, lt-ltb, le-ltb, not-false, empty, by-test, or-none}
 use Rattle.words.specs.Words.{words, bytes}
 use Rattle.answers.specs.declared.Refusal.{Refusal}
 use Rattle.answers.specs.declared.Refusal.the-variants.{LevelFull, HalfFull, TooFewFree}
@@ -37,16 +28,19 @@ length-some (x ∷ l) e = omega arith
 
 -- ---- from what is judged to the target
 
-pub not-wanted : (s : State) (card : List ℕ) (wanted : Bool) → wanted ≡ false → Aimed wanted s card Target.Nothing
-unfolding flushingIf choose
-not-wanted s card wanted w = rw w (refl, refl)
-
-module _ (s : State) (card : List ℕ) (wanted : Bool) (w : wanted ≡ true) where
-  pub not-held : empty (buffered (s .buffer)) ≡ true → Aimed wanted s card Target.Nothing
+module _ (s : State) (card : List ℕ) (wanted : Bool) where
+  -- no flush is wanted, or nothing is buffered
+  pub idle : (not wanted || empty (buffered (s .buffer))) ≡ true → Aimed wanted s card Target.Nothing
   unfolding flushingIf flushing choose
-  not-held e = rw (w, e) (refl, refl)
+  idle i = by-test wanted (λ w. let e : empty (buffered (s .buffer)) ≡ true = rw w at i in (rw (w, e), i)) (λ n. (rw n, i))
 
-  module _ (e : empty (buffered (s .buffer)) ≡ false) where
+  module _ (i : (not wanted || empty (buffered (s .buffer))) ≡ false) where
+    w : wanted ≡ true
+    w = not-false wanted (or-none (not wanted) _ i .0)
+
+    e : empty (buffered (s .buffer)) ≡ false
+    e = or-none (not wanted) _ i .1
+
     pub level-full : 16 ≤ ofLevel (λ (p : Partition). p .level) 0 (finished (s .partitions)) → Aimed wanted s card (Target.Refused LevelFull)
     unfolding flushingIf flushing choose refuseIf
     level-full h = rw (w, e, le-leb _ _ h)
@@ -90,21 +84,6 @@ not-wanted-only false t e f = refl
 pub record Aim (wanted : Bool) (s : State) (card : List ℕ) : Type 0 where
   pub target : Target
   pub aimed : Aimed wanted s card target
-
-pub aim : (wanted : Bool) (s : State) (card : List ℕ) → Aim wanted s card
-aim wanted s card =
-    let free = freeBlocks (words card) (blocks s) (s .taken) in
-    by-test wanted
-    (λ w. by-test (empty (buffered (s .buffer)))
-    (λ y. record { target = Target.Nothing; aimed = not-held s card wanted w y })
-    (λ e. by-test (leb 16 (ofLevel (λ (p : Partition). p .level) 0 (finished (s .partitions))))
-    (λ y. record { target = Target.Refused LevelFull; aimed = level-full s card wanted w e (leb-true _ _ y) })
-    (λ l. by-test (ltb (blocks s) (2 * suc (finishedBlocks s)))
-    (λ y. record { target = Target.Refused HalfFull; aimed = half-full s card wanted w e (leb-false _ _ l) (ltb-true _ _ y) })
-    (λ h. by-test (empty free)
-    (λ y. record { target = Target.Refused TooFewFree; aimed = none-free s card wanted w e (leb-false _ _ l) (ltb-false _ _ h) y })
-    (λ f. record { target = Target.Block (getD free 0 0); aimed = first-free s card wanted w e (leb-false _ _ l) (ltb-false _ _ h) f _ refl })))))
-    (λ n. record { target = Target.Nothing; aimed = not-wanted s card wanted n })
 
 -- ---- what follows a flush
 

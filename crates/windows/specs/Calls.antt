@@ -18,6 +18,7 @@ use Rattle.state.specs.Rules.{cardLength, registerLength, stateRule}
 use Rattle.state.specs.Probe.{Store, Probe, sameLength}
 use Rattle.identifiers.specs.Names.{Name, badLength, numberOf}
 use Rattle.identifiers.specs.Register.{names, registerRule, added}
+use Rattle.admission.specs.Admission.{sameLengths}
 use Rattle.windows.specs.Flush.{flushing, flushingIf}
 
 -- ---- start
@@ -72,7 +73,7 @@ closeOf s =
 abbrev pub once : State → ℕ → Posting
 once s i = record { id = i; window = s .windows .current; count = pos 1 }
 
--- an event flushes first exactly when its pair is new to a buffer of 128
+-- whether an event flushes first: the buffer is full, and does not hold the event's pair
 unfoldable pub eventFlushes : State → ℕ → Bool
 eventFlushes s i = eqb (length (buffered (s .buffer))) 128 && not (any (samePair (once s i)) (buffered (s .buffer)))
 
@@ -93,10 +94,6 @@ isNew register n = leb (length (names register)) (numberOf (names register) n)
 abbrev pub numberFor : Probe → Name → ℕ
 numberFor p n = numberOf (names (p .register)) n
 
--- both buffers have the length given at the start
-abbrev pub sameLengths : Probe → Bool
-sameLengths p = sameLength (p .card) (p .state .lengths .card) && sameLength (p .register) (p .state .lengths .register)
-
 -- a new identifier meets a register whose entries are all used
 abbrev pub registerFull : Probe → Name → Bool
 registerFull p n = isNew (p .register) n && leb (registerSize (p .state)) (length (names (p .register)))
@@ -114,7 +111,7 @@ unfoldable pub eventOf : Probe → Name → Outcome Probe
 eventOf p n =
     admit order.event
     (not (stateRule (p .state))
-    ∷ not (sameLengths p)
+    ∷ not (sameLengths (p .state .lengths) (p .card) (p .register))
     ∷ not (registerRule (p .register))
     ∷ badLength n
     ∷ not (isOpen (p .state))

@@ -2,4 +2,3 @@ pub mod Flush
 pub mod Calls
 pub mod Promises
 pub mod Targets
-pub mod Verdicts

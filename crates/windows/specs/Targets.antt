@@ -11,10 +11,12 @@ use Rattle.answers.specs.Numbers.{refusalNumber}
 use Rattle.state.specs.declared.Partition.{Partition}
 use Rattle.state.specs.declared.State.{State}
 use Rattle.state.specs.Views.{blocks, buffered, finished}
+use Rattle.state.specs.Rules.{stateRule}
 use Rattle.state.specs.Levels.{ofLevel}
 use Rattle.state.specs.Probe.{Store, storeOf}
 use Rattle.card.specs.Blocks.{freeBlocks}
 use Rattle.windows.specs.Flush.{finishedBlocks, flushedTo, flushedCard, flushingIf}
+use Rattle.windows.specs.Calls.{flushOf}
 use Rattle.windows.specs.declared.Target.{Target}
 
 -- a block to write to, where the flush is judged: something is buffered, level 0 and the card have room, and the block is the first free one
@@ -36,3 +38,14 @@ Aimed wanted s card (Target.Refused why) = flushingIf wanted s card written ≡ 
 Aimed wanted s card Target.Nothing = (flushingIf wanted s card written ≡ written s card) × ((not wanted || empty (buffered (s .buffer))) ≡ true)
 Aimed wanted s card (Target.Block b) =
     (flushingIf wanted s card written ≡ written (flushedTo s b) (bytes (flushedCard s (words card) b))) × Chosen s (words card) b
+
+-- a target tells what a flush that stands alone comes to, refusals 1 and 2 with it; a block is told only where the state and the card's length are
+-- as they should be
+abbrev pub Judged : State → List ℕ → Target → Type 0
+Judged s card (Target.Refused why) = flushOf (storeOf s card) ≡ refuse (refusalNumber why)
+Judged s card Target.Nothing = flushOf (storeOf s card) ≡ written s card
+Judged s card (Target.Block b) =
+    (flushOf (storeOf s card) ≡ written (flushedTo s b) (bytes (flushedCard s (words card) b)))
+    × (stateRule s ≡ true)
+    × (length card ≡ s .lengths .card)
+    × Chosen s (words card) b

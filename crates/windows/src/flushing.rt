@@ -1,5 +1,6 @@
 // A flush: judged first, and then written.
 use super::Target;
+use admission::Admission;
 use answers::Refusal;
 use card::Free;
 use state::Buffer;
@@ -7,36 +8,28 @@ use state::Partition;
 use state::Partitions;
 use state::State;
 ghost use mathlib.Core.Bool.{true};
-ghost use mathlib.Core.List.{[], _∷_, _++_};
 ghost use mathlib.Core.Path.{_≡_};
 ghost use Prim.Native.Nat.{_≤_, _<_};
 ghost use lib.ListN.{length};
 ghost use Rattle.lists.specs.Lists.{empty, totalBy};
 ghost use Rattle.words.specs.Words.{words as wordsOf, bytes};
-ghost use Rattle.state.specs.Views.{buffered, finished, partitionsOf};
+ghost use Rattle.state.specs.Views.{buffered, finished};
 ghost use Rattle.state.specs.Rules.{stateRule};
 ghost use Rattle.card.specs.Chains.{blocksFor};
 ghost use Rattle.windows.specs.Flush.{flushedTo, flushedCard};
-ghost use Rattle.windows.specs.Targets.{Aimed, Chosen};
-
-// How many blocks hold so many bytes.
-fn blocks_for(length: u32) -> u32
-    ensures { λ r. ⌜ (r ≤ 1049603) × (r ≡ blocksFor length) ⌝ }
-{
-    ((length as u64 + 4091) / 4092) as u32
-}
+ghost use Rattle.windows.specs.Targets.{Aimed, Chosen, Judged};
 
 // The blocks of finished partitions.
-fn finished_blocks(p: Partitions) -> u32
+fn finished_blocks(p: Partitions) -> u64
     requires { ⌜ p .used ≤ 51 ⌝ }
-    ensures { λ r. ⌜ (r ≤ 60000000) × (r ≡ totalBy (λ q. blocksFor (q .length)) (finished p)) ⌝ }
+    ensures { λ r. ⌜ (r ≤ 219043332045) × (r ≡ totalBy (λ q. blocksFor (q .length)) (finished p)) ⌝ }
 {
     let n = p.used as usize;
     let mut i: usize = 0;
-    let mut total: u32 = 0;
+    let mut total: u64 = 0;
     while i < n {
         let q = p.records[i];
-        total += blocks_for(q.length);
+        total += partitions::blocks_for(q.length) as u64;
         i += 1;
     }
     total
@@ -50,22 +43,19 @@ fn is_empty(b: Buffer) -> bool
     b.used == 0
 }
 
-// Judges a flush, and finds the block that it takes.
+// Judges the flush of a call that is admitted, where one is wanted, and finds the block that it takes.
 pub fn target_of(s: State, card: &[u8], wanted: bool) -> Target
     requires { ⌜ (stateRule s ≡ true) × (length (now card) ≡ s .lengths .card) ⌝ }
     ensures { λ r. ⌜ Aimed wanted s (now (card .entry)) r ⌝ }
 {
-    if !wanted {
-        return Target::Nothing;
-    }
-    if is_empty(s.buffer) {
+    if !wanted | is_empty(s.buffer) {
         return Target::Nothing;
     }
     if state::levels::of_level(s.partitions, 0) >= 16 {
         return Target::Refused(Refusal::LevelFull);
     }
     let blocks = s.lengths.card / 4096;
-    if 2 * finished_blocks(s.partitions) + 2 > blocks {
+    if 2 * finished_blocks(s.partitions) + 2 > blocks as u64 {
         return Target::Refused(Refusal::HalfFull);
     }
     let free = card::next_free(card, blocks, s.taken);
@@ -75,17 +65,15 @@ pub fn target_of(s: State, card: &[u8], wanted: bool) -> Target
     }
 }
 
-// The finished partitions with one of level 0 as the youngest.
-fn list_flush(p: Partitions, block: u16, size: u32) -> Partitions
-    requires { ⌜ (p .used ≤ 51) × (length (finished p) < 51) × (length (p .records) ≡ 51 → p ≡ partitionsOf (finished p)) ⌝ }
-    ensures { λ r. ⌜ r ≡ partitionsOf (finished p ++ (record { first = block; level = 0; length = size } ∷ [])) ⌝ }
+// Judges a flush that stands alone.
+pub fn judge_flush(s: State, card: &[u8]) -> Target
+    ensures { λ r. ⌜ Judged s (now (card .entry)) r ⌝ }
 {
-    let q = Partition {
-        first: block,
-        level: 0,
-        length: size,
-    };
-    state::partition_list::append(p, q)
+    let a = admission::judge_card(state::state_ok(s), s.lengths, card);
+    match a {
+        Admission::Refused(why) => Target::Refused(why),
+        Admission::Granted => target_of(s, card, true),
+    }
 }
 
 // Writes the buffer to the block that a flush takes. The buffer is empty then, and the partition the youngest.
@@ -93,9 +81,7 @@ pub fn flush_to(s: State, card: &mut [u8], block: u16) -> State
     requires { ⌜ (stateRule s ≡ true) × (length (now card) ≡ s .lengths .card) × Chosen s (wordsOf (now card)) block ⌝ }
     ensures { λ r. ⌜ (r ≡ flushedTo s block) × (now (card .exit) ≡ bytes (flushedCard s (wordsOf (now (card .entry))) block)) ⌝ }
 {
-    let size = flushes::flush_length(s.buffer);
-    flushes::write_flush(card, block, s.buffer);
-    let list = list_flush(s.partitions, block, size);
+    let list = flushes::flush(card, block, s.buffer, s.partitions);
     let empty = super::empty_buffer();
     let mut t = s;
     t.buffer = empty;

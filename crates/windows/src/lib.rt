@@ -1,4 +1,4 @@
-// Start, open, event, close and flush. Each promises its answer, the state and every buffer lent as its definition says, whatever it is given.
+// Start, open, close and flush. Each promises its answer, the state and every buffer lent as its definition says, whatever it is given.
 use answers::Opened;
 use answers::Refusal;
 use answers::Reply;
@@ -17,10 +17,8 @@ ghost use mathlib.Core.Path.{_≡_};
 ghost use lib.ListN.{length, replicate};
 ghost use Rattle.state.specs.Views.{bufferOf, emptyState};
 ghost use Rattle.state.specs.Rules.{cardLength, registerLength};
-ghost use Rattle.windows.specs.Verdicts.{Admitted};
-ghost use Rattle.windows.specs.Promises.{probeOf, Starts, Opens, Counts, Closes, Flushes};
+ghost use Rattle.windows.specs.Promises.{Starts, Opens, Closes, Flushes};
 
-pub mod counting; // judging and counting an event
 pub mod flushing; // judging and writing a flush
 
 // What a call that gives no value answers, and the state after it.
@@ -39,12 +37,6 @@ pub struct Opening {
 pub enum Target {
     Nothing,
     Block(u16),
-    Refused(Refusal),
-}
-
-// What an event comes to before anything is written: its identifier's number, or a refusal.
-pub enum Verdict {
-    Number(u16),
     Refused(Refusal),
 }
 
@@ -83,22 +75,8 @@ fn fill(bytes: &mut [u8], value: u8)
 fn lengths_ok(card: usize, register: usize) -> bool
     ensures { λ r. ⌜ r ≡ (cardLength card && registerLength register) ⌝ }
 {
-    if card % 4096 != 0 {
-        return false;
-    }
-    if card / 4096 < 4 {
-        return false;
-    }
-    if card / 4096 > 4096 {
-        return false;
-    }
-    if register % 65 != 0 {
-        return false;
-    }
-    if register / 65 < 1 {
-        return false;
-    }
-    register / 65 <= 1024
+    ((card % 4096 == 0) & ((card / 4096 >= 4) & (card / 4096 <= 4096)))
+        & ((register % 65 == 0) & ((register / 65 >= 1) & (register / 65 <= 1024)))
 }
 
 // A buffer without postings.
@@ -152,27 +130,6 @@ fn empty_state(card: u32, register: u32, taken: u16) -> State
             length: 0,
             steps: 0,
         },
-    }
-}
-
-// Counts an event that refusals 1 to 9 do not stop, with a flush first where its pair is new to a full buffer.
-fn count(s: State, card: &mut [u8], register: &mut [u8], id: &[u8], i: u16) -> Replied
-    requires { ⌜ Admitted (probeOf s (now card) (now register)) (now id) i ⌝ }
-    ensures { λ r. ⌜ Counts s (now (card .entry)) (now (register .entry)) (now (id .entry)) r (now (card .exit)) (now (register .exit)) ⌝ }
-{
-    let wanted = counting::must_flush(s.buffer, i, s.windows.current);
-    let target = flushing::target_of(s, card, wanted);
-    match target {
-        Target::Refused(why) => refuse(s, why),
-        Target::Block(b) => {
-            let t = flushing::flush_to(s, card, b);
-            counting::note(register, id, i);
-            done(counting::count_event(t, i))
-        }
-        Target::Nothing => {
-            counting::note(register, id, i);
-            done(counting::count_event(s, i))
-        }
     }
 }
 
@@ -259,28 +216,11 @@ pub fn close(s: State) -> Replied
     done(t)
 }
 
-// One event of an identifier in the open window. The register gets a new identifier only where the event is counted.
-pub fn event(s: State, card: &mut [u8], register: &mut [u8], id: &[u8]) -> Replied
-    ensures { λ r. ⌜ Counts s (now (card .entry)) (now (register .entry)) (now (id .entry)) r (now (card .exit)) (now (register .exit)) ⌝ }
-{
-    let verdict = counting::judge_event(s, card, register, id);
-    match verdict {
-        Verdict::Refused(why) => refuse(s, why),
-        Verdict::Number(i) => count(s, card, register, id, i),
-    }
-}
-
 // The buffer is written as one partition; an empty one writes nothing.
 pub fn flush(s: State, card: &mut [u8]) -> Replied
     ensures { λ r. ⌜ Flushes s (now (card .entry)) r (now (card .exit)) ⌝ }
 {
-    if !state::state_ok(s) {
-        return refuse(s, Refusal::BrokenState);
-    }
-    if card.len() != s.lengths.card as usize {
-        return refuse(s, Refusal::WrongLength);
-    }
-    let target = flushing::target_of(s, card, true);
+    let target = flushing::judge_flush(s, card);
     match target {
         Target::Refused(why) => refuse(s, why),
         Target::Block(b) => done(flushing::flush_to(s, card, b)),

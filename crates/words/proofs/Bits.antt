@@ -1,8 +1,5 @@
 -- Masks and shifts as plain arithmetic.
-use mathlib.Core.Path.{_≡_, _∙_}
-use Prim.Native.Nat.{ℕ, _+_, _*_, _/_, _%_, _^_, _<_, _≤_}
-use native.Mathlib.Omega.{arith}
-use lib.Dec.{lit≤}
+use Rattle.lists.proofs.Prelude.{_≡_, _∙_, ℕ, _+_, _*_, _/_, _%_, _^_, _<_, _≤_, arith, lit≤}
 use lib.Bits.{bitAnd, bitOr, or-shifted-r, and-high}
 use lib.Pow.{shl-exact}
 use Rattle.words.specs.Words.{joined4}

@@ -1,11 +1,5 @@
 -- A list of bytes and the list of its words: each is known by the other.
-use mathlib.Core.List.{List, [], _∷_, _++_}
-use mathlib.Core.Logic.{_⊎_, inl, inr, ⊎-elim}
-use mathlib.Core.Path.{_≡_, refl, sym, ap, _∙_}
-use Prim.Native.Nat.{ℕ, zero, suc, _+_, _*_, _/_, _%_, _^_, _<_}
-use native.Mathlib.Omega.{arith}
-use lib.ListN.{length, getD, take, drop, set, replicate}
-use lib.Seq.{drop-set-lt}
+use Rattle.lists.proofs.Prelude.{List, [], _∷_, _++_, _≡_, refl, sym, _∙_, ℕ, zero, suc, _+_, _*_, _/_, _%_, _^_, _<_, arith, length, getD, take, drop, set, replicate, drop-set-lt}
 use Rattle.words.specs.Words.{joined4, words, bytes, allOnes, Below}
 
 -- Lengths -----------------------------------------------------------------------------------------------------------
@@ -119,10 +113,6 @@ bytes-words (x ∷ y ∷ z ∷ w ∷ l) h m =
     let e = apart x y z w (h 0) (h 1) (h 2) (h 3) in
     rw (e .0, e .1, e .2, e .3, bytes-words l (λ j. h (suc (suc (suc (suc j))))) (omega arith))
 
--- the words say all of a list of whole words
-pub words-injective : (a b : List ℕ) → Below 256 a → Below 256 b → length a ≡ length b → length a % 4 ≡ 0 → words a ≡ words b → a ≡ b
-words-injective a b p q l m e = sym (bytes-words a p m) ∙ ap bytes e ∙ bytes-words b q (omega arith)
-
 -- Parts -------------------------------------------------------------------------------------------------------------
 
 -- the first n words are the words of the first 4 * n bytes
@@ -186,25 +176,3 @@ pub byte-at : (b : List ℕ) → Below 256 b → (k : ℕ) → k / 4 < length (w
 byte-at b h k l =
     let e : 4 * (k / 4) + k % 4 ≡ k = omega arith in
     rw e at (byte-in b (k / 4) (k % 4) h l (omega arith))
-
--- each byte of all ones is 255
-pub ones-byte : (j : ℕ) → j < 4 → byteOf allOnes j ≡ 255
-ones-byte zero t = refl
-ones-byte (suc zero) t = refl
-ones-byte (suc (suc zero)) t = refl
-ones-byte (suc (suc (suc zero))) t = refl
-ones-byte (suc (suc (suc (suc j)))) t = absurd (omega arith)
-
--- a word that stays, was all ones or goes to all ones has bytes that each stay, were 255 or go to 255
-pub byte-step : (a b : List ℕ) → Below 256 a → Below 256 b → length a ≡ length b → length a % 4 ≡ 0 → (k : ℕ) → k < length a
-    → (getD (words b) (k / 4) 0 ≡ getD (words a) (k / 4) 0) ⊎ (getD (words a) (k / 4) 0 ≡ allOnes) ⊎ (getD (words b) (k / 4) 0 ≡ allOnes)
-    → (getD b k 0 ≡ getD a k 0) ⊎ (getD a k 0 ≡ 255) ⊎ (getD b k 0 ≡ 255)
-byte-step a b p q e m k t s =
-    let la : k / 4 < length (words a) = rw (length-words a) (omega arith) in
-    let lb : k / 4 < length (words b) = rw (length-words b) (omega arith) in
-    let ones = ones-byte (k % 4) (omega arith) in
-    rw (byte-at a p k la, byte-at b q k lb)
-    (⊎-elim
-    (λ same. inl (rw same))
-    (λ r. inr (⊎-elim (λ was. inl (rw was ones)) (λ goes. inr (rw goes ones)) r))
-    s)

@@ -1,6 +1,6 @@
 //! The image of a state, by which engines exchange it: 614 little-endian words, one for each number.
 //!
-//! In this order: the lengths of card and register; the last window number given, N, the open window and its events; how many
+//! In this order: the lengths of card and register; the highest window number so far, N, which window is open and its events; how many
 //! identifiers that has, and their 64 places; how many postings are buffered, and their 128 places of identifier, window and count
 //! raised by 32,768; how many partitions are finished, and their 51 places of first block, level and length; the block last taken;
 //! the merge's first block, length and steps. All but lengths and steps are below 65,536.

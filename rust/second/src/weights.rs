@@ -1,4 +1,4 @@
-//! The weights of a score: logarithms to base 2 in quarters, rounded down.
+//! The weights of a score: binary logarithms, cut to quarters.
 //!
 //! A quarter of a logarithm is the whole logarithm of the fourth power, so both
 //! weights are places of a highest set bit.

@@ -1,8 +1,4 @@
-use mathlib.Core.Logic.{⊎-elim}
-use mathlib.Core.Path.{sym, _∙_}
-use native.Mathlib.Omega.{arith}
-use borrow.Author.Needs.{needs}
-use lib.Seq.{getD-take}
+use Rattle.lists.proofs.Prelude.{⊎-elim, sym, _∙_, arith, needs, getD-take}
 use Rattle.state.specs.Views.{buffered, noPosting}
 use Rattle.buffer.specs.Places.{pair}
 use Rattle.buffer.proofs.Canonical.{canonical-used}

@@ -1,10 +1,4 @@
-use mathlib.Core.Path.{_≡_, sym, _∙_}
-use Prim.Native.Nat.{_≤_, _+_, _-_, _/_}
-use native.Mathlib.Omega.{arith}
-use borrow.Author.Needs.{needs}
-use lib.ListN.{length}
-use lib.Seq.{getD-take}
-use Rattle.lists.proofs.Arrays.{unmapped}
+use Rattle.lists.proofs.Prelude.{_≡_, sym, _∙_, _≤_, _+_, _-_, _/_, arith, needs, length, getD-take, unmapped}
 use Rattle.state.specs.Views.{buffered, noPosting}
 use Rattle.buffer.specs.Places.{pair, placesBefore}
 use Rattle.buffer.proofs.Canonical.{canonical-used}

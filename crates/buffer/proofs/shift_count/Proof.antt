@@ -1,15 +1,7 @@
-use mathlib.Core.Bool.{false}
-use mathlib.Core.List.{List}
-use mathlib.Core.Path.{_≡_, sym, ap, _∙_}
-use Prim.Native.Nat.{ℕ, _<_, _≤_}
-use borrow.Author.Needs.{needs}
-use lib.IntN.{ℤ, natAbs, _+ℤ_}
-use lib.ListN.{getD, take, set}
-use lib.Seq.{getD-take}
+use Rattle.lists.proofs.Prelude.{false, List, _≡_, sym, ap, _∙_, ℕ, _<_, _≤_, needs, ℤ, natAbs, _+ℤ_, getD, take, set, getD-take, by-test}
 use mir.Syntax.{w16, w32}
 use mir.Val.{SFits, toZ, ofZ}
 use mir.Facts.{toZ-ofZ, sfits-widen}
-use Rattle.lists.proofs.Bools.{by-test}
 use Rattle.lists.proofs.Sizes.{small-fits}
 use Rattle.postings.specs.declared.Posting.{Posting}
 use Rattle.postings.specs.Merge.{counting, isZero}

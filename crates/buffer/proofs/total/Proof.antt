@@ -1,6 +1,4 @@
-use mathlib.Core.Path.{_≡_}
-use native.Mathlib.Omega.{arith}
-use lib.IntN.{ℤ, _+ℤ_}
+use Rattle.lists.proofs.Prelude.{_≡_, arith, ℤ, _+ℤ_}
 use mir.Syntax.{w16, w32}
 use mir.Val.{SFits, toZ, ofZ}
 use mir.Facts.{toZ-ofZ, sfits-widen}

@@ -1,15 +1,10 @@
 -- `capi::gemsilver_query` meets its contract.
-use mathlib.Core.Bool.{not}
-use mathlib.Core.List.{map}
-use mathlib.Core.Path.{sym, ap, _∙_}
-use native.Mathlib.Omega.{arith}
-use borrow.Author.Tests.{not-false}
+use Rattle.lists.proofs.Prelude.{not, map, sym, ap, _∙_, arith, not-false, needs}
 use denote.Ref.{now}
 use Rattle.windows.specs.Promises.{probeOf}
 use Rattle.capi.specs.Exports.{stateOn}
 use Rattle.capi.specs.Queries.{queryOn}
 use Rattle.capi.proofs.Places.{tells-stopped, tells-passed, on-query}
-use borrow.Author.Needs.{needs}
 use Rattle.capi.proofs.gemsilver_query.Statement.{statement}
 use Rattle.capi.proofs.gemsilver_query.Tie as tie
 

@@ -1,13 +1,5 @@
 -- `capi::gemsilver_register_ok` meets its contract: the length is judged first, then the register's rule.
-use mathlib.Core.Bool.{true}
-use mathlib.Core.Path.{_≡_, sym, _∙_}
-use Prim.Native.Nat.{ℕ, _/_, _%_, _≤_}
-use native.Mathlib.Omega.{arith}
-use lib.Dec.{leb, eqb}
-use lib.ListN.{length}
-use borrow.Author.Needs.{needs}
-use borrow.Author.Tests.{leb-true, eqb-true, not-true, not-false}
-use Rattle.lists.proofs.Bools.{and-left, and-right}
+use Rattle.lists.proofs.Prelude.{true, _≡_, sym, _∙_, ℕ, _/_, _%_, _≤_, arith, leb, eqb, needs, leb-true, eqb-true, not-true, not-false, and-left, and-right}
 use Rattle.state.specs.Rules.{registerLength}
 use Rattle.capi.proofs.gemsilver_register_ok.Statement.{statement}
 use Rattle.capi.proofs.gemsilver_register_ok.Tie as tie

@@ -1,13 +1,5 @@
 -- `capi::put_hits` meets its contract. The invariant: storing the hits that are left gives the whole, and no byte past the last word has moved.
-use mathlib.Core.List.{map}
-use mathlib.Core.Path.{_≡_, refl, sym, _∙_}
-use Prim.Native.Nat.{_-_, _*_, _≤_}
-use native.Mathlib.Omega.{arith}
-use borrow.Author.Needs.{needs}
-use lib.ListN.{length, getD, take, drop}
-use lib.Seq.{sets, getD-take, length-take-le}
-use Rattle.lists.specs.Lists.{joined}
-use Rattle.lists.proofs.Arrays.{unmapped}
+use Rattle.lists.proofs.Prelude.{map, _≡_, refl, sym, _∙_, _-_, _*_, _≤_, arith, needs, length, getD, take, drop, sets, getD-take, length-take-le, joined, unmapped}
 use Rattle.words.specs.Words.{words, Below}
 use Rattle.words.proofs.Views.{length-words}
 use Rattle.queries.specs.Top.{noHit, listedHits}

@@ -1,8 +1,7 @@
 -- `capi::settle` meets its contract.
-use mathlib.Core.Path.{refl}
+use Rattle.lists.proofs.Prelude.{refl, needs}
 use Rattle.capi.specs.Exports.{imaged}
 use Rattle.capi.proofs.Carried.{number-refused}
-use borrow.Author.Needs.{needs}
 use Rattle.capi.proofs.settle.Statement.{statement}
 use Rattle.capi.proofs.settle.Tie as tie
 

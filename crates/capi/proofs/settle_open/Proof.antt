@@ -1,9 +1,7 @@
 -- `capi::settle_open` meets its contract.
-use mathlib.Core.Path.{refl}
-use native.Mathlib.Omega.{arith}
+use Rattle.lists.proofs.Prelude.{refl, arith, needs}
 use Rattle.capi.specs.Exports.{imaged}
 use Rattle.capi.proofs.Carried.{number-small, opened-number, opened-refused}
-use borrow.Author.Needs.{needs}
 use Rattle.capi.proofs.settle_open.Statement.{statement}
 use Rattle.capi.proofs.settle_open.Tie as tie
 

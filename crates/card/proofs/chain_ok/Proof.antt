@@ -1,9 +1,6 @@
 -- `card::chain_ok` meets its contract. The invariant: the rule of the chain is the rule of the m blocks that are left from `next` on.
 --
-use mathlib.Core.Path.{_≡_, refl, sym, _∙_}
-use Prim.Native.Nat.{_≤_}
-use native.Mathlib.Omega.{arith}
-use borrow.Author.Tests.{le-ltb}
+use Rattle.lists.proofs.Prelude.{_≡_, refl, sym, _∙_, _≤_, arith, le-ltb}
 use Rattle.words.specs.Words.{words}
 use Rattle.card.proofs.Chains.{restRule, rule-rest, rule-none, rest-out, rest-on, rest-end}
 use Rattle.card.proofs.chain_ok.Statement.{statement}

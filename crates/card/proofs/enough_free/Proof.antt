@@ -1,13 +1,5 @@
 -- `card::enough_free` meets its contract. The invariant: enough are free where what is missing is free in the places from i on.
-use mathlib.Core.Logic.{⊎-elim}
-use mathlib.Core.Path.{_≡_, refl, sym, _∙_}
-use Prim.Native.Nat.{_+_, _-_, _<_, _≤_}
-use native.Mathlib.Omega.{arith}
-use lib.Dec.{leb}
-use lib.ListN.{length, drop}
-use borrow.Author.Tests.{ltb-true, ltb-false, le-leb, eq-eqb}
-use Rattle.lists.specs.Lists.{keep}
-use Rattle.lists.proofs.Runs.{leb-less, leb-none}
+use Rattle.lists.proofs.Prelude.{⊎-elim, _≡_, refl, sym, _∙_, _+_, _-_, _<_, _≤_, arith, leb, length, drop, ltb-true, ltb-false, le-leb, eq-eqb, keep, leb-less, leb-none}
 use Rattle.words.specs.Words.{words}
 use Rattle.card.specs.Blocks.{isFree, afterTaken, freeBlocks}
 use Rattle.card.proofs.Taking.{free-here, free-not-here, free-none}

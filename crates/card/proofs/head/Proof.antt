@@ -1,8 +1,7 @@
 -- `card::head` meets its contract: the word to come is in its block, and the block on the card.
-use native.Mathlib.Omega.{arith}
+use Rattle.lists.proofs.Prelude.{arith, needs}
 use Rattle.words.specs.Words.{words}
 use Rattle.card.proofs.Cursors.{in-block, in-card}
-use borrow.Author.Needs.{needs}
 use Rattle.card.proofs.head.Statement.{statement}
 use Rattle.card.proofs.head.Tie as tie
 

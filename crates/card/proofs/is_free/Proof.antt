@@ -1,10 +1,5 @@
 -- `card::is_free` meets its contract. The invariant: the block is free where its words from `at` on are all ones.
-use mathlib.Core.Path.{_≡_, refl, sym, _∙_}
-use Prim.Native.Nat.{_-_, _≤_}
-use native.Mathlib.Omega.{arith}
-use lib.Dec.{eqb}
-use lib.ListN.{drop}
-use Rattle.lists.specs.Lists.{every}
+use Rattle.lists.proofs.Prelude.{_≡_, refl, sym, _∙_, _-_, _≤_, arith, eqb, drop, every}
 use Rattle.words.specs.Words.{words, allOnes}
 use Rattle.card.specs.Blocks.{block as blockOf, isFree}
 use Rattle.card.proofs.Taking.{free-past, free-not, free-end}

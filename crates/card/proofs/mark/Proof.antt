@@ -1,11 +1,7 @@
 -- `card::mark` meets its contract: one bit is set in one word.
-use mathlib.Core.Path.{_≡_}
-use native.Mathlib.Omega.{arith}
-use lib.ListN.{length}
-use Prim.Native.Nat.{_%_}
+use Rattle.lists.proofs.Prelude.{_≡_, arith, length, _%_, needs}
 use Rattle.card.specs.Marks.{marked}
 use Rattle.card.proofs.Marking.{bits-set, one-at}
-use borrow.Author.Needs.{needs}
 use Rattle.card.proofs.mark.Statement.{statement}
 use Rattle.card.proofs.mark.Tie as tie
 

@@ -1,11 +1,6 @@
 -- `card::mark_chain` meets its contract. The invariant: what was asked of the chain and the first marks is what is to be asked of the blocks that
 -- are left and the marks by now.
-use mathlib.Core.Bool.{_||_, or-false}
-use mathlib.Core.Path.{_≡_, refl, sym, _∙_}
-use Prim.Native.Nat.{ℕ, _-_}
-use native.Mathlib.Omega.{arith}
-use Rattle.lists.specs.Lists.{elem}
-use Rattle.lists.proofs.Runs.{never, apart-hit, apart-more, union-more}
+use Rattle.lists.proofs.Prelude.{_||_, or-false, _≡_, refl, sym, _∙_, ℕ, _-_, arith, elem, never, apart-hit, apart-more, union-more}
 use Rattle.words.specs.Words.{words}
 use Rattle.card.specs.Blocks.{link}
 use Rattle.card.specs.Chains.{chain}

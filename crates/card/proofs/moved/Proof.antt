@@ -1,10 +1,7 @@
 -- `card::moved` meets its contract: a link is followed only where `Good` says that it names a block of the card.
-use mathlib.Core.Logic.{⊎-elim}
-use native.Mathlib.Omega.{arith}
-use borrow.Author.Tests.{ltb-true, eq-eqb, ne-eqb}
+use Rattle.lists.proofs.Prelude.{⊎-elim, arith, ltb-true, eq-eqb, ne-eqb, needs}
 use Rattle.words.specs.Words.{words}
 use Rattle.card.proofs.Cursors.{in-block, in-card, link-in}
-use borrow.Author.Needs.{needs}
 use Rattle.card.proofs.moved.Statement.{statement}
 use Rattle.card.proofs.moved.Tie as tie
 

@@ -1,9 +1,5 @@
 -- `card::next_free` meets its contract. The invariant: the free blocks are those in the places from i on.
-use mathlib.Core.Path.{_≡_, refl, sym, ap, _∙_}
-use Prim.Native.Nat.{_-_, _≤_}
-use native.Mathlib.Omega.{arith}
-use lib.ListN.{drop}
-use Rattle.lists.specs.Lists.{keep}
+use Rattle.lists.proofs.Prelude.{_≡_, refl, sym, ap, _∙_, _-_, _≤_, arith, drop, keep}
 use Rattle.words.specs.Words.{words}
 use Rattle.card.specs.Blocks.{isFree, afterTaken, freeBlocks}
 use Rattle.card.specs.Free.{firstOf}

@@ -1,14 +1,9 @@
 -- `card::release_block` meets its contract. The invariant: storing what is left of 1,024 words of all ones gives the freed block.
-use mathlib.Core.List.{[], _∷_}
-use mathlib.Core.Path.{_≡_, refl, sym, _∙_}
-use Prim.Native.Nat.{_+_, _-_, _*_, _≤_}
-use native.Mathlib.Omega.{arith}
-use lib.ListN.{length, replicate}
-use lib.Seq.{sets}
-use Rattle.words.specs.Words.{words, allOnes}
+use Rattle.lists.proofs.Prelude.{[], _∷_, _≡_, refl, sym, _∙_, _+_, _-_, _*_, _≤_, arith, length, sets}
+use Rattle.words.specs.Words.{words}
 use Rattle.words.proofs.Views.{length-words}
 use Rattle.card.specs.Writes.{release}
-use Rattle.card.proofs.Releasing.{ones-more, release-one}
+use Rattle.card.proofs.Releasing.{ones, ones-more, ones-none, release-one}
 use Rattle.card.proofs.release_block.Statement.{statement}
 use Rattle.card.proofs.release_block.Tie as tie
 
@@ -16,7 +11,7 @@ abbrev Inv-loop : tie.InvT-loop
 Inv-loop card₀ block i₀ card i =
     (i ≤ 1024)
     × (length card ≡ length card₀)
-    × (release (words card₀) (block ∷ []) ≡ sets (words card) (1024 * block + i) (replicate (1024 - i) allOnes))
+    × (release (words card₀) (block ∷ []) ≡ sets (words card) (1024 * block + i) (ones (1024 - i)))
 
 abbrev μ-loop : tie.MeasureT-loop
 μ-loop card₀ block i₀ card i = 1024 - i
@@ -48,9 +43,7 @@ same-length c = c .before .loop .inv .1
 returns : tie.Need-returns Inv-loop μ-loop
 returns c =
     let a = c .before in
-    let s = a .before .before in
-    let e : 1024 - a .loop .i ≡ 0 = omega arith in
-    sym (a .loop .inv .2 ∙ rw e)
+    sym (a .loop .inv .2 ∙ ones-none _ (1024 * a .before .before .args .block + a .loop .i) (1024 - a .loop .i) (omega arith))
 
 pub release-block-spec : {M : Type 1} → statement M
 release-block-spec =

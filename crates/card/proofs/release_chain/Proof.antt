@@ -1,10 +1,6 @@
 -- `card::release_chain` meets its contract. The invariant: freeing the blocks that are left gives the card with the whole chain freed; they are
 -- different blocks of the card.
-use mathlib.Core.Bool.{true}
-use mathlib.Core.Path.{_≡_, refl, sym, _∙_}
-use native.Mathlib.Omega.{arith}
-use lib.ListN.{length}
-use Rattle.lists.specs.Lists.{different}
+use Rattle.lists.proofs.Prelude.{true, _≡_, refl, sym, _∙_, arith, length, different}
 use Rattle.words.specs.Words.{words}
 use Rattle.card.specs.Chains.{chain}
 use Rattle.card.specs.Cursors.{Chained}

@@ -1,11 +1,6 @@
 -- `card::seek` meets its contract. The invariant: what is sought is the same number of words in the content of the blocks still to come, past `k`.
 -- Each turn passes over one block.
-use mathlib.Core.Logic.{inl, inr, ⊎-elim}
-use mathlib.Core.Path.{_≡_, refl, _∙_}
-use Prim.Native.Nat.{_≤_, _+_, _*_}
-use native.Mathlib.Omega.{arith}
-use lib.ListN.{take, drop}
-use borrow.Author.Tests.{ltb-true, ltb-false}
+use Rattle.lists.proofs.Prelude.{inl, inr, ⊎-elim, _≡_, refl, _∙_, _≤_, _+_, _*_, arith, take, drop, ltb-true, ltb-false}
 use Rattle.words.specs.Words.{words}
 use Rattle.card.specs.Chains.{chain, content}
 use Rattle.card.specs.Cursors.{Chained}

@@ -1,8 +1,6 @@
 -- `card::tried` meets its contract: upward after the block last taken, then from 0 on.
-use mathlib.Core.Path.{sym}
-use native.Mathlib.Omega.{arith}
+use Rattle.lists.proofs.Prelude.{sym, arith, needs}
 use Rattle.card.proofs.Taking.{after-up, after-round}
-use borrow.Author.Needs.{needs}
 use Rattle.card.proofs.tried.Statement.{statement}
 use Rattle.card.proofs.tried.Tie as tie
 

@@ -1,8 +1,6 @@
 -- `commands::order_of` meets its contract.
-use native.Mathlib.Omega.{arith}
-use mathlib.Core.Path.{refl}
+use Rattle.lists.proofs.Prelude.{arith, refl, needs}
 use Rattle.commands.proofs.Orders.{without-fields, without-letter, one-field, two-fields, more-fields, asks, unknown, none-more}
-use borrow.Author.Needs.{needs}
 use Rattle.commands.proofs.order_of.Statement.{statement}
 use Rattle.commands.proofs.order_of.Tie as tie
 

@@ -1,20 +1,13 @@
 -- `drafts::apart_from` meets its contract. The invariant: that all blocks are apart from the marks given is that those of the partitions from i on are
 -- apart from the marks so far.
-use mathlib.Core.Path.{_≡_, refl, sym, _∙_}
-use Prim.Native.Nat.{_-_, _≤_}
-use native.Mathlib.Omega.{arith}
-use lib.ListN.{length, getD, drop}
-use borrow.Author.Needs.{needs}
-use borrow.Author.Tests.{not-false}
-use Rattle.lists.proofs.Arrays.{unmapped, of-used}
-use Rattle.lists.proofs.Turns.{failed}
+use Rattle.lists.proofs.Prelude.{_≡_, refl, sym, _∙_, _-_, _≤_, arith, length, getD, drop, needs, not-false, unmapped, of-used, failed}
 use Rattle.words.specs.Words.{words}
 use Rattle.state.specs.Views.{noPartition, finished}
 use Rattle.card.specs.Chains.{blocksFor, chain}
 use Rattle.card.specs.Cursors.{Chained}
 use Rattle.card.specs.Marks.{unmarked}
 use Rattle.partitions.specs.Formed.{chainsOf}
-use Rattle.partitions.proofs.Apart.{apart-fails, apart-step, apart-end}
+use Rattle.drafts.proofs.Apart.{apart-fails, apart-step, apart-end}
 use Rattle.drafts.proofs.apart_from.Statement.{statement}
 use Rattle.drafts.proofs.apart_from.Tie as tie
 

@@ -1,8 +1,6 @@
 -- `drafts::first_batch` meets its contract.
-use mathlib.Core.Path.{ap, _∙_}
-use lib.ListN.{length, take}
+use Rattle.lists.proofs.Prelude.{ap, _∙_, length, take, needs}
 use Rattle.postings.specs.Merge.{nonzero}
-use borrow.Author.Needs.{needs}
 use Rattle.drafts.proofs.first_batch.Statement.{statement}
 use Rattle.drafts.proofs.first_batch.Tie as tie
 

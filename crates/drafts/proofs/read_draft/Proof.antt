@@ -1,9 +1,5 @@
 -- `drafts::read_draft` meets its contract.
-use mathlib.Core.Path.{refl, sym, ap, ap₂, _∙_}
-use mathlib.Core.Bool.{_&&_}
-use Prim.Native.Nat.{_-_, _*_, _≤_}
-use native.Mathlib.Omega.{arith}
-use lib.ListN.{length, take, drop}
+use Rattle.lists.proofs.Prelude.{refl, sym, ap, ap₂, _∙_, _&&_, _-_, _*_, _≤_, arith, length, take, drop, needs}
 use Rattle.words.specs.Words.{words}
 use Rattle.postings.specs.Merge.{nonzero, pairs}
 use Rattle.state.specs.Views.{finished}
@@ -12,7 +8,6 @@ use Rattle.card.proofs.Cursors.{length-ahead}
 use Rattle.partitions.specs.Reading.{inPartitions}
 use Rattle.inputs.specs.Ahead.{outWords}
 use Rattle.drafts.proofs.Comparing.{words-room, draft-left, draft-read, draft-written}
-use borrow.Author.Needs.{needs}
 use Rattle.drafts.proofs.read_draft.Statement.{statement}
 use Rattle.drafts.proofs.read_draft.Tie as tie
 

@@ -1,10 +1,5 @@
 -- `drafts::stands_apart` meets its contract.
-use mathlib.Core.Bool.{Bool, _&&_}
-use mathlib.Core.List.{_++_}
-use mathlib.Core.Path.{sym, ap, _∙_}
-use borrow.Author.Needs.{needs}
-use borrow.Author.Tests.{not-false}
-use Rattle.lists.proofs.Turns.{failed}
+use Rattle.lists.proofs.Prelude.{Bool, _&&_, _++_, sym, ap, _∙_, needs, not-false, failed}
 use Rattle.words.specs.Words.{words}
 use Rattle.state.specs.Views.{finished}
 use Rattle.card.specs.Chains.{chain}

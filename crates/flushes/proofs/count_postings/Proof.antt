@@ -1,12 +1,5 @@
 -- `flushes::count_postings` meets its contract. The invariant: the postings before place i are counted.
-use mathlib.Core.Logic.{⊎-elim}
-use mathlib.Core.Path.{_≡_, sym, ap, _∙_}
-use Prim.Native.Nat.{ℕ, _-_}
-use native.Mathlib.Omega.{arith}
-use borrow.Author.Needs.{needs}
-use borrow.Author.Tests.{eq-eqb, ne-eqb}
-use lib.ListN.{length, length-set, length-replicate}
-use Rattle.lists.proofs.Arrays.{unmapped}
+use Rattle.lists.proofs.Prelude.{⊎-elim, _≡_, sym, ap, _∙_, ℕ, _-_, arith, needs, eq-eqb, ne-eqb, length, length-set, length-replicate, unmapped}
 use Rattle.flushes.proofs.Counting.{Counting, counting-start, counting-terms, counting-id, counting-few, counting-on}
 use Rattle.flushes.proofs.count_postings.Statement.{statement}
 use Rattle.flushes.proofs.count_postings.Tie as tie

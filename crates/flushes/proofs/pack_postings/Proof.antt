@@ -1,15 +1,8 @@
 -- `flushes::pack_postings` meets its contract. The invariant: storing the words of the postings that are left gives the whole.
-use mathlib.Core.List.{map}
-use mathlib.Core.Path.{_≡_, refl, sym, _∙_}
-use Prim.Native.Nat.{_-_, _≤_}
-use native.Mathlib.Omega.{arith}
-use borrow.Author.Needs.{needs}
-use lib.ListN.{length, getD, drop, length-map, length-set}
-use lib.Seq.{sets, length-take-le}
+use Rattle.lists.proofs.Prelude.{map, _≡_, refl, sym, _∙_, _-_, _≤_, arith, needs, length, getD, drop, length-map, length-set, sets, length-take-le, unmapped}
 use mir.Syntax.{w16}
 use mir.Val.{SFits}
 use mir.Facts.{toZ-ofZ}
-use Rattle.lists.proofs.Arrays.{unmapped}
 use Rattle.lists.proofs.Stores.{sets-end}
 use Rattle.state.specs.Views.{buffered, noPosting}
 use Rattle.partitions.specs.Layout.{wordOf}

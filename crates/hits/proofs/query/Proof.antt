@@ -1,12 +1,7 @@
 -- `hits::query` meets its contract: a walk of its MIR, by hand. The count of the lent list is read off the slice reference and passed to `queries::search` with copies of the other references; the hits that it returned are passed to `fill_by` with the borrow of the list, which is given up for good.
 -- All that the proof knows of the two is that each meets its contract.
 --
-use mathlib.Core.Path.{_≡_, refl, sym, ap, subst}
-use Prim.Native.Nat.{ℕ}
-use mathlib.Core.List.{[], _∷_, List}
-use lib.ListN.{length}
-use Prim.Native.Nat.{_≤_}
-use mathlib.Core.List.{map}
+use Rattle.lists.proofs.Prelude.{_≡_, refl, sym, ap, subst, ℕ, [], _∷_, List, length, _≤_, map}
 use denote.Ref.{now}
 use Rattle.windows.specs.Promises.{probeOf}
 use Rattle.queries.specs.Query.{fill}
@@ -55,7 +50,6 @@ use Rattle.state.proofs.State as State′
 use Rattle.state.proofs.State.Laws as State″
 use Rattle.answers.specs.declared.Hit.{Hit}
 use Rattle.answers.proofs.Hit as Hit′
-use Rattle.answers.proofs.Hit.Laws as Hit″
 use Rattle.answers.proofs.Found as Found′
 use Rattle.answers.proofs.Found.Laws as Found″
 use Rattle.queries.specs.declared.Answered.{Answered}

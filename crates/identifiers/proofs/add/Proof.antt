@@ -1,12 +1,5 @@
 -- `identifiers::add` meets its contract. The loop's invariant: the bytes to come, stored after those that are, are the whole run of stores.
-use mathlib.Core.List.{[]}
-use mathlib.Core.Path.{_≡_, refl, sym, _∙_}
-use Prim.Native.Nat.{ℕ, suc, _+_, _*_, _-_, _<_, _≤_, zero-le}
-use native.Mathlib.Nat.{add-zero}
-use native.Mathlib.Numerals.{add-one}
-use native.Mathlib.Omega.{arith}
-use lib.ListN.{length, drop, set, length-set, drop-of-length-le}
-use lib.Seq.{sets, drop-cons}
+use Rattle.lists.proofs.Prelude.{[], _≡_, refl, sym, _∙_, ℕ, suc, _+_, _*_, _-_, _<_, _≤_, zero-le, add-zero, add-one, arith, length, drop, set, length-set, drop-of-length-le, sets, drop-cons}
 use Rattle.identifiers.specs.Register.{added}
 use Rattle.identifiers.proofs.Added.{good-length}
 use Rattle.identifiers.proofs.add.Statement.{statement}

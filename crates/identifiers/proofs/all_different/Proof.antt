@@ -1,6 +1,4 @@
-use mathlib.Core.Path.{sym}
-use native.Mathlib.Omega.{arith}
-use borrow.Author.Needs.{needs}
+use Rattle.lists.proofs.Prelude.{sym, arith, needs}
 use Rattle.identifiers.proofs.all_different.Statement.{statement}
 use Rattle.identifiers.proofs.all_different.Tie as tie
 

@@ -1,13 +1,5 @@
-use mathlib.Core.Path.{_≡_, sym, ap, _∙_}
-use Prim.Native.Nat.{suc, _-_, _≤_}
-use native.Mathlib.Omega.{arith}
-use lib.ListN.{length, getD}
+use Rattle.lists.proofs.Prelude.{_≡_, sym, ap, _∙_, suc, _-_, _≤_, arith, length, getD, true, eqb, eqb-true, eqb-false, not-false, by-test, never}
 use Rattle.identifiers.proofs.Entries.{length-entry}
-use mathlib.Core.Bool.{true}
-use lib.Dec.{eqb}
-use borrow.Author.Tests.{eqb-true, eqb-false, not-false}
-use Rattle.lists.proofs.Bools.{by-test}
-use Rattle.lists.proofs.Runs.{never}
 use Rattle.identifiers.specs.Order.{before, Ascending}
 use Rattle.identifiers.proofs.ascending.Statement.{statement}
 use Rattle.identifiers.proofs.ascending.Tie as tie

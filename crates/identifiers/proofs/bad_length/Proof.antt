@@ -1,10 +1,4 @@
-use mathlib.Core.Bool.{_||_}
-use mathlib.Core.List.{[], _∷_}
-use mathlib.Core.Path.{_≡_, refl}
-use lib.Dec.{eqb, ltb}
-use native.Mathlib.Omega.{arith}
-use borrow.Author.Tests.{ne-eqb}
-use lib.ListN.{length}
+use Rattle.lists.proofs.Prelude.{_||_, [], _∷_, _≡_, refl, eqb, ltb, arith, ne-eqb, length}
 use Rattle.identifiers.specs.Names.{Name, badLength}
 use Rattle.identifiers.proofs.bad_length.Statement.{statement}
 use Rattle.identifiers.proofs.bad_length.Tie as tie

@@ -1,14 +1,5 @@
 -- `identifiers::chained_apart` meets its contract. The loop's invariant: the identifiers passed differ, and the two arrays chain their places.
-use mathlib.Core.Bool.{true, false}
-use mathlib.Core.List.{[]}
-use mathlib.Core.Path.{_≡_, refl, sym, ap, _∙_}
-use Prim.Native.Nat.{suc, _-_, _<_, _≤_, zero-le}
-use native.Mathlib.Numerals.{add-one}
-use native.Mathlib.Omega.{arith}
-use borrow.Author.Needs.{needs}
-use lib.ListN.{length, getD, take, length-set}
-use lib.Seq.{take-all}
-use Rattle.lists.proofs.Runs.{never}
+use Rattle.lists.proofs.Prelude.{true, false, [], _≡_, refl, sym, ap, _∙_, suc, _-_, _<_, _≤_, zero-le, add-one, arith, needs, length, getD, take, length-set, take-all, never}
 use Rattle.identifiers.specs.Names.{among, distinct}
 use Rattle.identifiers.specs.Register.{names}
 use Rattle.identifiers.specs.Chains.{hashOf, lastWith, Heads, Links}

@@ -1,7 +1,4 @@
-use mathlib.Core.Path.{refl, ap, _∙_}
-use Prim.Native.Nat.{_-_}
-use native.Mathlib.Omega.{arith}
-use lib.ListN.{length}
+use Rattle.lists.proofs.Prelude.{refl, ap, _∙_, _-_, arith, length}
 use Rattle.identifiers.proofs.Entries.{length-entry}
 use Rattle.identifiers.proofs.choose.Statement.{statement}
 use Rattle.identifiers.proofs.choose.Tie as tie

@@ -1,13 +1,5 @@
 -- `identifiers::count_used` meets its contract. The loop's invariant: the used entries are those passed and those to come, of which used ones come first.
-use mathlib.Core.Bool.{true, false}
-use mathlib.Core.List.{List, []}
-use mathlib.Core.Path.{_≡_, ap}
-use Prim.Native.Nat.{ℕ, _+_, _-_, _<_, _≤_, zero-le}
-use native.Mathlib.Numerals.{add-one}
-use native.Mathlib.Omega.{arith}
-use borrow.Author.Tests.{lt-ltb, le-ltb}
-use lib.ListN.{length, getD, drop, drop-of-length-le}
-use Rattle.lists.specs.Lists.{keep}
+use Rattle.lists.proofs.Prelude.{true, false, List, [], _≡_, ap, ℕ, _+_, _-_, _<_, _≤_, zero-le, add-one, arith, lt-ltb, le-ltb, length, getD, drop, drop-of-length-le, keep}
 use Rattle.identifiers.specs.Register.{entries, size, used, usedFirst, names}
 use Rattle.identifiers.proofs.Entries.{length-entries, size-at, formed-first, count-names, used-stopped, used-on}
 use Rattle.identifiers.proofs.count_used.Statement.{statement}

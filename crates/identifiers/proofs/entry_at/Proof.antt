@@ -1,8 +1,5 @@
 -- `identifiers::entry_at` meets its contract: an entry lies whole within the register.
-use mathlib.Core.Path.{_≡_, sym}
-use Prim.Native.Nat.{_+_, _*_, _-_}
-use native.Mathlib.Omega.{arith}
-use borrow.Author.Needs.{needs}
+use Rattle.lists.proofs.Prelude.{_≡_, sym, _+_, _*_, _-_, arith, needs}
 use Rattle.identifiers.proofs.Entries.{entry-room, entry-at}
 use Rattle.identifiers.proofs.entry_at.Statement.{statement}
 use Rattle.identifiers.proofs.entry_at.Tie as tie

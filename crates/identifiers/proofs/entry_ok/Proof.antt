@@ -1,15 +1,5 @@
 -- `identifiers::entry_ok` meets its contract, test by test.
-use mathlib.Core.Bool.{true, false, _&&_, and-true, and-false}
-use mathlib.Core.Logic.{⊎-elim}
-use mathlib.Core.Path.{_≡_, sym, ap, _∙_}
-use Prim.Native.Nat.{_+_, _-_, _≤_}
-use native.Mathlib.Omega.{arith}
-use borrow.Author.Needs.{needs}
-use borrow.Author.Tests.{le-leb, lt-leb, lt-ltb, le-ltb}
-use lib.Dec.{eqb}
-use lib.ListN.{length, take, drop, length-drop}
-use lib.Seq.{take-all}
-use Rattle.lists.specs.Lists.{every}
+use Rattle.lists.proofs.Prelude.{true, false, _&&_, and-true, and-false, ⊎-elim, _≡_, sym, ap, _∙_, _+_, _-_, _≤_, arith, needs, le-leb, lt-leb, lt-ltb, le-ltb, eqb, length, take, drop, length-drop, take-all, every}
 use Rattle.identifiers.specs.Register.{size, used, entryRule}
 use Rattle.identifiers.proofs.entry_ok.Statement.{statement}
 use Rattle.identifiers.proofs.entry_ok.Tie as tie

@@ -1,12 +1,5 @@
 -- `identifiers::equal` meets its contract. The loop's invariant: the slices are as long, and the answer is that for what is left of both.
-use mathlib.Core.Path.{_≡_, refl, sym, _∙_}
-use Prim.Native.Nat.{_-_, _≤_, zero-le}
-use native.Mathlib.Numerals.{add-one}
-use native.Mathlib.Omega.{arith}
-use borrow.Author.Tests.{eq-eqb, ne-eqb}
-use lib.ListN.{length, drop, drop-of-length-le}
-use Rattle.lists.specs.Lists.{same}
-use Rattle.lists.proofs.Same.{same-length, same-step}
+use Rattle.lists.proofs.Prelude.{_≡_, refl, sym, _∙_, _-_, _≤_, zero-le, add-one, arith, eq-eqb, ne-eqb, length, drop, drop-of-length-le, same, same-length, same-step}
 use Rattle.identifiers.proofs.equal.Statement.{statement}
 use Rattle.identifiers.proofs.equal.Tie as tie
 

@@ -1,5 +1,4 @@
-use Prim.Native.Nat.{_-_, _≤_}
-use native.Mathlib.Omega.{arith}
+use Rattle.lists.proofs.Prelude.{_-_, _≤_, arith}
 use Rattle.words.specs.Words.{Below}
 use Rattle.identifiers.proofs.Sorted.{below-set}
 use Rattle.identifiers.proofs.fill.Statement.{statement}

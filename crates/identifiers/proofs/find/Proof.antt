@@ -1,13 +1,5 @@
 -- `identifiers::find` meets its contract. The loop's invariant: the number is that of the place reached and that among the identifiers to come.
-use mathlib.Core.Bool.{true, false}
-use mathlib.Core.List.{List, []}
-use mathlib.Core.Path.{_≡_, sym, ap, _∙_}
-use Prim.Native.Nat.{zero, suc, _+_, _-_, _<_, _≤_, zero-le}
-use native.Mathlib.Numerals.{add-one}
-use native.Mathlib.Omega.{arith}
-use borrow.Author.Needs.{needs}
-use lib.ListN.{length, getD, drop, drop-of-length-le}
-use Rattle.lists.specs.Lists.{same}
+use Rattle.lists.proofs.Prelude.{true, false, List, [], _≡_, sym, ap, _∙_, zero, suc, _+_, _-_, _<_, _≤_, zero-le, add-one, arith, needs, length, getD, drop, drop-of-length-le, same}
 use Rattle.identifiers.specs.Names.{Name, numberOf}
 use Rattle.identifiers.specs.Register.{names}
 use Rattle.identifiers.proofs.Names.{number-step}

@@ -1,12 +1,5 @@
 -- `identifiers::formed` meets its contract. The loop's invariant: the answer is that for the entries to come.
-use mathlib.Core.Bool.{Bool, true, false, _&&_, not}
-use mathlib.Core.List.{[]}
-use mathlib.Core.Path.{_≡_, refl, sym, ap, _∙_}
-use Prim.Native.Nat.{suc, _-_, _<_, _≤_, zero-le}
-use native.Mathlib.Numerals.{add-one}
-use native.Mathlib.Omega.{arith}
-use borrow.Author.Tests.{not-true, not-false}
-use lib.ListN.{length, getD, drop, drop-of-length-le}
+use Rattle.lists.proofs.Prelude.{Bool, true, false, _&&_, not, [], _≡_, refl, sym, ap, _∙_, suc, _-_, _<_, _≤_, zero-le, add-one, arith, not-true, not-false, length, getD, drop, drop-of-length-le}
 use Rattle.identifiers.specs.Register.{entries, used, entryRule}
 use Rattle.identifiers.specs.Formed.{formedFrom, formed}
 use Rattle.identifiers.proofs.Entries.{length-entries, length-entry, formed-at, formed-end, unused-flag}

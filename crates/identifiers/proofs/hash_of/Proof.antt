@@ -1,9 +1,5 @@
 -- `identifiers::hash_of` meets its contract. The loop's invariant: the hash so far, taken on over the bytes to come, is that of the whole.
-use mathlib.Core.Path.{_≡_, refl, sym, _∙_}
-use Prim.Native.Nat.{_-_, _<_, _≤_, zero-le}
-use native.Mathlib.Numerals.{add-one}
-use native.Mathlib.Omega.{arith}
-use lib.ListN.{length, drop, drop-of-length-le}
+use Rattle.lists.proofs.Prelude.{_≡_, refl, sym, _∙_, _-_, _<_, _≤_, zero-le, add-one, arith, length, drop, drop-of-length-le}
 use Rattle.identifiers.specs.Chains.{hashFrom, hashOf}
 use Rattle.identifiers.proofs.Chains.{hash-step}
 use Rattle.identifiers.proofs.hash_of.Statement.{statement}

@@ -1,10 +1,4 @@
-use Prim.Native.Nat.{_-_, _≤_}
-use native.Mathlib.Omega.{arith}
-use lib.ListN.{getD}
-use lib.Dec.{eqb}
-use borrow.Author.Tests.{eqb-true, eqb-false}
-use Rattle.lists.proofs.Bools.{by-test}
-use Rattle.lists.proofs.Runs.{never}
+use Rattle.lists.proofs.Prelude.{_-_, _≤_, arith, getD, eqb, eqb-true, eqb-false, by-test, never}
 use Rattle.identifiers.specs.Order.{Inverse}
 use Rattle.identifiers.proofs.inverse.Statement.{statement}
 use Rattle.identifiers.proofs.inverse.Tie as tie

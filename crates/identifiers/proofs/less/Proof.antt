@@ -1,10 +1,5 @@
 -- `identifiers::less` meets its contract. The loop's invariant: the words passed are equal.
-use mathlib.Core.Path.{_≡_, refl, sym, _∙_}
-use Prim.Native.Nat.{_-_, _≤_}
-use native.Mathlib.Numerals.{add-one}
-use native.Mathlib.Omega.{arith}
-use lib.ListN.{getD, drop}
-use Rattle.words.specs.Words.{words}
+use Rattle.lists.proofs.Prelude.{_≡_, refl, sym, _∙_, _-_, _≤_, add-one, arith, getD, drop}
 use Rattle.words.proofs.Views.{length-words}
 use Rattle.identifiers.specs.Order.{lower, key}
 use Rattle.identifiers.proofs.Sorted.{lower-same, lower-apart, lower-last, key-length, key-word, key-last}

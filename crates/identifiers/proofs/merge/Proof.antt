@@ -1,7 +1,4 @@
-use Prim.Native.Nat.{_+_, _-_, _≤_}
-use native.Mathlib.Omega.{arith}
-use lib.ListN.{getD}
-use mathlib.Core.Logic.{⊎-elim}
+use Rattle.lists.proofs.Prelude.{_+_, _-_, _≤_, arith, getD, ⊎-elim}
 use Rattle.words.specs.Words.{Below}
 use Rattle.identifiers.proofs.Sorted.{below-set}
 use Rattle.identifiers.proofs.merge.Statement.{statement}

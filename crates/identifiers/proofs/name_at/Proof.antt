@@ -1,10 +1,5 @@
 -- `identifiers::name_at` meets its contract: the entry at that place is used, and holds its identifier after its length byte.
-use mathlib.Core.List.{[]}
-use mathlib.Core.Path.{_≡_, sym}
-use Prim.Native.Nat.{_+_, _-_}
-use native.Mathlib.Omega.{arith}
-use borrow.Author.Needs.{needs}
-use lib.ListN.{getD}
+use Rattle.lists.proofs.Prelude.{[], _≡_, sym, _+_, _-_, arith, needs, getD}
 use Rattle.identifiers.specs.Register.{entries, size}
 use Rattle.identifiers.proofs.Entries.{length-entry, name-inside, name-entry, name-size}
 use Rattle.identifiers.proofs.name_at.Statement.{statement}

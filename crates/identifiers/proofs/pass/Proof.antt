@@ -1,6 +1,4 @@
-use Prim.Native.Nat.{suc, _-_, _≤_}
-use native.Mathlib.Omega.{arith}
-use borrow.Author.Needs.{needs}
+use Rattle.lists.proofs.Prelude.{suc, _-_, _≤_, arith, needs}
 use Rattle.words.specs.Words.{Below}
 use Rattle.identifiers.proofs.pass.Statement.{statement}
 use Rattle.identifiers.proofs.pass.Tie as tie

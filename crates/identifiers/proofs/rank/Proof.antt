@@ -1,8 +1,6 @@
-use Prim.Native.Nat.{_-_, _≤_}
-use native.Mathlib.Omega.{arith}
+use Rattle.lists.proofs.Prelude.{_-_, _≤_, arith, getD}
 use Rattle.words.specs.Words.{Below}
 use Rattle.identifiers.proofs.Sorted.{below-set}
-use lib.ListN.{getD}
 use Rattle.identifiers.proofs.rank.Statement.{statement}
 use Rattle.identifiers.proofs.rank.Tie as tie
 

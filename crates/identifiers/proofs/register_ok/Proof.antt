@@ -1,8 +1,5 @@
 -- `identifiers::register_ok` meets its contract: the rule is that of a formed register whose identifiers differ.
-use mathlib.Core.Bool.{true, false}
-use mathlib.Core.Path.{_≡_, sym, _∙_}
-use borrow.Author.Needs.{needs}
-use borrow.Author.Tests.{not-true, not-false}
+use Rattle.lists.proofs.Prelude.{true, false, _≡_, sym, _∙_, needs, not-true, not-false}
 use Rattle.identifiers.specs.Formed.{formed}
 use Rattle.identifiers.proofs.Entries.{rule-parts}
 use Rattle.identifiers.proofs.register_ok.Statement.{statement}

@@ -1,14 +1,6 @@
 -- `identifiers::repeated` meets its contract. The loop's invariant: the answer is that for the identifiers that are left, the last of them has the
 -- hash that is looked for, and there were no more steps than places passed.
-use mathlib.Core.Bool.{true, false, _||_}
-use mathlib.Core.List.{[]}
-use mathlib.Core.Path.{_≡_, sym, ap, ap₂, _∙_}
-use Prim.Native.Nat.{ℕ, suc, _+_, _-_, _<_, _≤_}
-use native.Mathlib.Omega.{arith}
-use borrow.Author.Needs.{needs}
-use lib.ListN.{length, getD, take}
-use Rattle.lists.specs.Lists.{same}
-use Rattle.lists.proofs.Runs.{never}
+use Rattle.lists.proofs.Prelude.{true, false, _||_, [], _≡_, sym, ap, ap₂, _∙_, ℕ, suc, _+_, _-_, _<_, _≤_, arith, needs, length, getD, take, same, never}
 use Rattle.identifiers.specs.Names.{among}
 use Rattle.identifiers.specs.Register.{names}
 use Rattle.identifiers.specs.Chains.{hashOf, lastWith}

@@ -1,8 +1,5 @@
 -- `identifiers::sorted_apart` meets its contract. The loop's invariant: both arrays hold places.
-use Prim.Native.Nat.{_-_, _≤_}
-use native.Mathlib.Omega.{arith}
-use borrow.Author.Tests.{not-false}
-use Rattle.lists.proofs.Runs.{never}
+use Rattle.lists.proofs.Prelude.{_-_, _≤_, arith, not-false, never}
 use Rattle.words.specs.Words.{Below}
 use Rattle.identifiers.specs.Register.{names}
 use Rattle.identifiers.proofs.Entries.{names-bound, names-within}

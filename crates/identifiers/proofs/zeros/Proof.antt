@@ -1,13 +1,5 @@
 -- `identifiers::zeros` meets its contract. The loop's invariant: the answer is that for what is left.
-use mathlib.Core.Path.{_≡_, refl, sym, _∙_}
-use Prim.Native.Nat.{_-_, _≤_, zero-le}
-use native.Mathlib.Numerals.{add-one}
-use native.Mathlib.Omega.{arith}
-use borrow.Author.Tests.{eq-eqb, ne-eqb}
-use lib.Dec.{eqb}
-use lib.ListN.{length, drop, drop-of-length-le}
-use Rattle.lists.specs.Lists.{every}
-use Rattle.lists.proofs.Same.{every-step}
+use Rattle.lists.proofs.Prelude.{_≡_, refl, sym, _∙_, _-_, _≤_, zero-le, add-one, arith, eq-eqb, ne-eqb, eqb, length, drop, drop-of-length-le, every, every-step}
 use Rattle.identifiers.proofs.zeros.Statement.{statement}
 use Rattle.identifiers.proofs.zeros.Tie as tie
 

@@ -1,6 +1,5 @@
 -- `images::narrow` meets its contract.
-use native.Mathlib.Omega.{arith}
-use borrow.Author.Needs.{needs}
+use Rattle.lists.proofs.Prelude.{arith, needs}
 use Rattle.images.proofs.Fits.{image-words, image-below}
 use Rattle.images.proofs.narrow.Statement.{statement}
 use Rattle.images.proofs.narrow.Tie as tie

@@ -1,11 +1,5 @@
 -- `images::put_listed` meets its contract. The invariant: storing the numbers that are left gives the whole.
-use mathlib.Core.Path.{_≡_, refl, sym, _∙_}
-use Prim.Native.Nat.{_+_, _-_, _≤_}
-use native.Mathlib.Omega.{arith}
-use borrow.Author.Needs.{needs}
-use lib.ListN.{length, drop}
-use lib.Seq.{sets}
-use Rattle.lists.proofs.Arrays.{unmapped}
+use Rattle.lists.proofs.Prelude.{_≡_, refl, sym, _∙_, _+_, _-_, _≤_, arith, needs, length, drop, sets, unmapped}
 use Rattle.lists.proofs.Stores.{sets-turn, sets-end}
 use Rattle.words.specs.Words.{words}
 use Rattle.words.proofs.Views.{length-words}

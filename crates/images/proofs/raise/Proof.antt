@@ -1,76 +1,30 @@
--- `images::raise` meets its contract: a count below 0 is negsuc n, and n is what is taken from 32,767.
-use Prim.Native.Nat.{_-_}
+-- `images::raise` meets its contract: with 32,768 more the count is its raised number.
 use native.Mathlib.Omega.{arith}
-use lib.IntN.{negsuc}
-use mir.Facts.{toZ-ofZ}
-use Rattle.images.proofs.Signs.{zero-sub, neg-fits, up-one, twice, below-zero, from-zero, under-small, over-small, over-fits}
+use mir.Syntax.{w32}
+use mir.Facts.{toZ-ofZ, sfits-widen}
+use Rattle.images.proofs.Signs.{raised-sum, raised-below, over-fits}
 use Rattle.images.proofs.raise.Statement.{statement}
 use Rattle.images.proofs.raise.Tie as tie
 
+cast-result : tie.Need-cast-result
+cast-result c = rw (toZ-ofZ (c .fits .count)) (sfits-widen tt (c .fits .count))
+
 add-result : tie.Need-add-result
 add-result c =
-    let back = toZ-ofZ (c .before .fits .count) in
-    let z = below-zero (c .before .args .count) (rw back at (c .if1 .taken)) in
-    let h = under-small (z .0) (rw (z .1) at (c .before .fits .count)) in
-    rw (back, z .1, up-one (z .0)) (neg-fits (z .0) h)
-
-sub-result : tie.Need-sub-result
-sub-result c =
-    let back = toZ-ofZ (c .before .fits .count) in
-    let z = below-zero (c .before .args .count) (rw back at (c .if1 .taken)) in
-    let h = under-small (z .0) (rw (z .1) at (c .before .fits .count)) in
-    rw (back, z .1, up-one (z .0), toZ-ofZ (neg-fits (z .0) h), zero-sub, twice (z .0)) (over-fits (z .0) h)
-
-cast-result : tie.Need-cast-result
-cast-result c =
-    let back = toZ-ofZ (c .before .fits .count) in
-    let z = below-zero (c .before .args .count) (rw back at (c .if1 .taken)) in
-    let h = under-small (z .0) (rw (z .1) at (c .before .fits .count)) in
-    rw (back, z .1, up-one (z .0), toZ-ofZ (neg-fits (z .0) h), zero-sub, twice (z .0), toZ-ofZ (over-fits (z .0) h)) (tt, record { fits = omega arith })
-
-sub-result-2 : tie.Need-sub-result-2
-sub-result-2 c =
-    let back = toZ-ofZ (c .before .fits .count) in
-    let z = below-zero (c .before .args .count) (rw back at (c .if1 .taken)) in
-    let h = under-small (z .0) (rw (z .1) at (c .before .fits .count)) in
-    rw (back, z .1, up-one (z .0), toZ-ofZ (neg-fits (z .0) h), zero-sub, twice (z .0), toZ-ofZ (over-fits (z .0) h)) (omega arith)
+    let f = c .fits .count in
+    let h = raised-below (c .args .count) f in
+    rw (toZ-ofZ f, toZ-ofZ (sfits-widen {w′ = w32} tt f), raised-sum (c .args .count) f) (record { sfits = omega arith })
 
 cast-result-2 : tie.Need-cast-result-2
 cast-result-2 c =
-    let back = toZ-ofZ (c .before .fits .count) in
-    let z = from-zero (c .before .args .count) (rw back at (c .if1 .left)) in
-    let h = over-small (z .0) (rw (z .1) at (c .before .fits .count)) in
-    rw (back, z .1) (tt, record { fits = omega arith })
-
-add-result-2 : tie.Need-add-result-2
-add-result-2 c =
-    let back = toZ-ofZ (c .before .fits .count) in
-    let z = from-zero (c .before .args .count) (rw back at (c .if1 .left)) in
-    let h = over-small (z .0) (rw (z .1) at (c .before .fits .count)) in
-    rw (back, z .1) (record { fits = omega arith })
+    let f = c .fits .count in
+    let h = raised-below (c .args .count) f in
+    rw (toZ-ofZ f, toZ-ofZ (sfits-widen {w′ = w32} tt f), raised-sum (c .args .count) f, toZ-ofZ (over-fits _ h)) (tt, record { fits = h })
 
 returns : tie.Need-returns
 returns c =
-    let back = toZ-ofZ (c .before .fits .count) in
-    let z = below-zero (c .before .args .count) (rw back at (c .if1 .taken)) in
-    let h = under-small (z .0) (rw (z .1) at (c .before .fits .count)) in
-    rw (back, z .1, up-one (z .0), toZ-ofZ (neg-fits (z .0) h), zero-sub, twice (z .0), toZ-ofZ (over-fits (z .0) h))
-
-returns-2 : tie.Need-returns-2
-returns-2 c =
-    let back = toZ-ofZ (c .before .fits .count) in
-    let z = from-zero (c .before .args .count) (rw back at (c .if1 .left)) in
-    rw (back, z .1)
+    let f = c .fits .count in
+    rw (toZ-ofZ f, toZ-ofZ (sfits-widen {w′ = w32} tt f), raised-sum (c .args .count) f, toZ-ofZ (over-fits _ (raised-below (c .args .count) f)))
 
 pub raise-spec : {M : Type 1} → statement M
-raise-spec =
-    tie.close
-    (tie.spec
-    add-result
-    sub-result
-    cast-result
-    sub-result-2
-    cast-result-2
-    add-result-2
-    returns
-    returns-2)
+raise-spec = tie.close (tie.spec cast-result add-result cast-result-2 returns)

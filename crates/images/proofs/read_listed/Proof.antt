@@ -1,8 +1,5 @@
 -- `images::read_listed` meets its contract. The invariant: the first i places are built.
-use mathlib.Core.Path.{refl}
-use Prim.Native.Nat.{_+_, _-_}
-use native.Mathlib.Omega.{arith}
-use lib.ListN.{getD}
+use Rattle.lists.proofs.Prelude.{refl, _+_, _-_, arith, getD}
 use Rattle.lists.proofs.Built.{Built, built-none, built-more, built-all}
 use Rattle.words.specs.Words.{words}
 use Rattle.images.proofs.Fits.{narrow-front}

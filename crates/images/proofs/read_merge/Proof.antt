@@ -1,7 +1,6 @@
 -- `images::read_merge` meets its contract.
-use native.Mathlib.Omega.{arith}
+use Rattle.lists.proofs.Prelude.{arith, needs}
 use Rattle.images.proofs.Fits.{image-words}
-use borrow.Author.Needs.{needs}
 use Rattle.images.proofs.read_merge.Statement.{statement}
 use Rattle.images.proofs.read_merge.Tie as tie
 

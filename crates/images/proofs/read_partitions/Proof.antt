@@ -1,8 +1,5 @@
 -- `images::read_partitions` meets its contract. The invariant: the first i places are built.
-use Prim.Native.Nat.{_-_}
-use native.Mathlib.Omega.{arith}
-use borrow.Author.Needs.{needs}
-use Rattle.lists.proofs.Arrays.{unmapped}
+use Rattle.lists.proofs.Prelude.{_-_, arith, needs, unmapped}
 use Rattle.lists.proofs.Built.{Built, built-none, built-more, built-all}
 use Rattle.words.specs.Words.{words}
 use Rattle.images.specs.Images.{recordIn}

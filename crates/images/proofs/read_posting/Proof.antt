@@ -1,8 +1,6 @@
 -- `images::read_posting` meets its contract.
-use native.Mathlib.Omega.{arith}
-use Prim.Native.Nat.{_+_, _*_}
+use Rattle.lists.proofs.Prelude.{arith, _+_, _*_, needs}
 use mir.Facts.{toZ-ofZ}
-use borrow.Author.Needs.{needs}
 use Rattle.images.proofs.Fits.{narrow-front, image-below}
 use Rattle.images.proofs.Signs.{lowered-fits}
 use Rattle.images.proofs.read_posting.Statement.{statement}

@@ -1,6 +1,5 @@
 -- `images::read_record` meets its contract.
-use native.Mathlib.Omega.{arith}
-use borrow.Author.Needs.{needs}
+use Rattle.lists.proofs.Prelude.{arith, needs}
 use Rattle.images.proofs.Fits.{narrow-first, narrow-level, image-words}
 use Rattle.images.proofs.read_record.Statement.{statement}
 use Rattle.images.proofs.read_record.Tie as tie

@@ -1,13 +1,9 @@
 -- `images::write_state` meets its contract: the parts are the whole.
-use mathlib.Core.Path.{_≡_, sym, ap, _∙_}
-use Prim.Native.Nat.{_%_}
-use native.Mathlib.Omega.{arith}
-use lib.ListN.{length}
+use Rattle.lists.proofs.Prelude.{_≡_, sym, ap, _∙_, _%_, arith, length, needs}
 use Rattle.words.specs.Words.{words, bytes}
 use Rattle.words.proofs.Views.{length-words, bytes-words}
 use Rattle.images.specs.Images.{imageOf}
 use Rattle.images.proofs.Whole.{Sized, parts-whole}
-use borrow.Author.Needs.{needs}
 use Rattle.images.proofs.write_state.Statement.{statement}
 use Rattle.images.proofs.write_state.Tie as tie
 

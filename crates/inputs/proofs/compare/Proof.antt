@@ -2,12 +2,7 @@
 use mir.Facts.{toZ-ofZ}
 use mir.Syntax.{w16}
 use mir.Val.{SFits}
-use mathlib.Core.Bool.{true, false, and-true}
-use mathlib.Core.Path.{_≡_, refl, sym, _∙_}
-use Prim.Native.Nat.{_≤_}
-use borrow.Author.Needs.{needs}
-use lib.Dec.{eqb}
-use Rattle.lists.proofs.Runs.{eqb-swap}
+use Rattle.lists.proofs.Prelude.{true, false, and-true, _≡_, refl, sym, _∙_, _≤_, needs, eqb, eqb-swap}
 use Rattle.words.specs.Words.{words}
 use Rattle.postings.specs.Merge.{isZero, nonzero}
 use Rattle.card.specs.Cursors.{headOf}

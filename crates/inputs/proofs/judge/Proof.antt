@@ -1,10 +1,9 @@
 -- `inputs::judge` meets its contract: the walk over the opened heads tells what is told of the inputs.
-use native.Mathlib.Omega.{arith}
+use Rattle.lists.proofs.Prelude.{arith, needs}
 use Rattle.words.specs.Words.{words}
 use Rattle.words.proofs.Views.{words-below}
 use Rattle.state.specs.Views.{finished}
 use Rattle.inputs.proofs.Judged.{told-totals, told-counts}
-use borrow.Author.Needs.{needs}
 use Rattle.inputs.proofs.judge.Statement.{statement}
 use Rattle.inputs.proofs.judge.Tie as tie
 

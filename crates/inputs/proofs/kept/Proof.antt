@@ -1,13 +1,5 @@
 -- `inputs::kept` meets its contract: a sum of 0, and another at the next place.
-use mathlib.Core.Bool.{true, false}
-use mathlib.Core.List.{append-nil}
-use mathlib.Core.Path.{_≡_, sym, _∙_}
-use native.Mathlib.Numerals.{add-one}
-use native.Mathlib.Omega.{arith}
-use borrow.Author.Needs.{needs}
-use lib.ListN.{length}
-use lib.Seq.{take-suc-set}
-use Rattle.lists.proofs.Arrays.{unmapped}
+use Rattle.lists.proofs.Prelude.{true, false, append-nil, _≡_, sym, _∙_, add-one, arith, needs, length, take-suc-set, unmapped}
 use Rattle.postings.specs.Merge.{isZero, nonzero}
 use Rattle.inputs.specs.Ahead.{batched}
 use Rattle.inputs.proofs.kept.Statement.{statement}

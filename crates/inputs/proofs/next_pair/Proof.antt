@@ -2,10 +2,7 @@
 use mir.Facts.{toZ-ofZ}
 use mir.Syntax.{w32}
 use mir.Val.{SFits}
-use mathlib.Core.Path.{_≡_, sym, ap, _∙_}
-use mathlib.Core.List.{_∷_}
-use Prim.Native.Nat.{suc, _-_}
-use native.Mathlib.Omega.{arith}
+use Rattle.lists.proofs.Prelude.{_≡_, sym, ap, _∙_, _∷_, suc, _-_, arith, needs}
 use Rattle.keyed.specs.Keys.{headVals}
 use Rattle.words.specs.Words.{words}
 use Rattle.words.proofs.Views.{words-below}
@@ -14,7 +11,6 @@ use Rattle.scans.specs.Keys.{postingOf}
 use Rattle.scans.specs.Heads.{views}
 use Rattle.inputs.specs.Ahead.{pairsAhead, Ready}
 use Rattle.inputs.proofs.Taking.{top-low, first-range, ahead-more, formed-more}
-use borrow.Author.Needs.{needs}
 use Rattle.inputs.proofs.next_pair.Statement.{statement}
 use Rattle.inputs.proofs.next_pair.Tie as tie
 

@@ -1,10 +1,9 @@
 -- `inputs::open_inputs` meets its contract.
-use native.Mathlib.Omega.{arith}
+use Rattle.lists.proofs.Prelude.{arith, needs}
 use Rattle.words.specs.Words.{words}
 use Rattle.words.proofs.Views.{words-below}
 use Rattle.state.specs.Views.{finished}
 use Rattle.inputs.proofs.Judged.{opened-ahead, opened-formed}
-use borrow.Author.Needs.{needs}
 use Rattle.inputs.proofs.open_inputs.Statement.{statement}
 use Rattle.inputs.proofs.open_inputs.Tie as tie
 

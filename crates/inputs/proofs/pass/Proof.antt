@@ -1,13 +1,5 @@
 -- `inputs::pass` meets its contract. The invariant: what is told of all words is what is told of those compared and of those still to compare.
-use mathlib.Core.List.{[], _∷_}
-use mathlib.Core.Path.{_≡_, refl, sym, ap, _∙_}
-use Prim.Native.Nat.{_+_, _-_, _<_, _≤_}
-use native.Mathlib.Omega.{arith}
-use borrow.Author.Needs.{needs}
-use borrow.Author.Tests.{leb-true}
-use lib.ListN.{length, take, drop, length-append, length-map}
-use Rattle.lists.specs.Lists.{same as sameOf}
-use Rattle.lists.proofs.Bools.{and-left}
+use Rattle.lists.proofs.Prelude.{[], _∷_, _≡_, refl, sym, ap, _∙_, _+_, _-_, _<_, _≤_, arith, needs, leb-true, length, take, drop, length-append, length-map, same as sameOf, and-left}
 use Rattle.words.specs.Words.{words}
 use Rattle.words.proofs.Views.{words-below}
 use Rattle.postings.specs.Merge.{nonzero}

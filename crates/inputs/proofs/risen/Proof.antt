@@ -1,6 +1,5 @@
 -- `inputs::risen` meets its contract: one identifier more, where it had no posting.
-use borrow.Author.Needs.{needs}
-use borrow.Author.Tests.{eq-eqb, ne-eqb}
+use Rattle.lists.proofs.Prelude.{needs, eq-eqb, ne-eqb}
 use Rattle.inputs.proofs.risen.Statement.{statement}
 use Rattle.inputs.proofs.risen.Tie as tie
 

@@ -1,9 +1,5 @@
 -- `inputs::sixteen` meets its contract. The invariant: what is kept, and what is kept of the pairs still to take, is what is kept of all.
-use mathlib.Core.List.{[], _++_}
-use mathlib.Core.Path.{_≡_, refl, sym, ap, _∙_}
-use Prim.Native.Nat.{_+_, _-_, _<_, _≤_}
-use native.Mathlib.Omega.{arith}
-use lib.ListN.{length, take, drop}
+use Rattle.lists.proofs.Prelude.{[], _++_, _≡_, refl, sym, ap, _∙_, _+_, _-_, _<_, _≤_, arith, length, take, drop}
 use Rattle.words.specs.Words.{words}
 use Rattle.words.proofs.Views.{words-below}
 use Rattle.postings.specs.Merge.{nonzero}

@@ -1,9 +1,7 @@
 -- `inputs::tally` meets its contract: a sum of 0, and another.
-use mathlib.Core.Path.{_≡_, sym, _∙_}
-use mathlib.Core.Bool.{true, false}
+use Rattle.lists.proofs.Prelude.{_≡_, sym, _∙_, true, false, needs}
 use Rattle.postings.specs.Merge.{isZero}
 use Rattle.inputs.specs.Judging.{totalsMore, countsMore}
-use borrow.Author.Needs.{needs}
 use Rattle.inputs.proofs.tally.Statement.{statement}
 use Rattle.inputs.proofs.tally.Tie as tie
 

@@ -3,13 +3,7 @@
 use mir.Facts.{toZ-ofZ}
 use mir.Syntax.{w32}
 use mir.Val.{SFits}
-use mathlib.Core.Bool.{true, false}
-use mathlib.Core.Path.{_≡_, refl, sym, ap, ap₂, subst, _∙_}
-use Prim.Native.Nat.{suc, _<_, _-_}
-use native.Mathlib.Omega.{arith}
-use borrow.Author.Needs.{needs}
-use borrow.Author.Tests.{leb-true, not-true, not-false}
-use lib.ListN.{length}
+use Rattle.lists.proofs.Prelude.{true, false, _≡_, refl, sym, ap, ap₂, subst, _∙_, suc, _<_, _-_, arith, needs, leb-true, not-true, not-false, length}
 use Rattle.keyed.specs.Keys.{topFrom, headVals, headsFine}
 use Rattle.words.specs.Words.{words}
 use Rattle.words.proofs.Views.{words-below}

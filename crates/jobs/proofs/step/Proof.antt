@@ -1,10 +1,7 @@
 -- `jobs::step` meets its contract: a walk of its MIR, by hand. The lent record is copied out and passed to `step_beside` with the state and the card, which is given up for good, and the record that it returned is stored back.
 -- All that the proof knows of `step_beside` is that it meets its contract.
 --
-use mathlib.Core.Path.{_≡_, refl, ap}
-use Prim.Native.Nat.{ℕ}
-use mathlib.Core.List.{[], _∷_, List}
-use lib.ListN.{length}
+use Rattle.lists.proofs.Prelude.{_≡_, refl, ap, ℕ, [], _∷_, List, length}
 use Rattle.answers.specs.Numbers.{replied}
 use Rattle.windows.specs.Promises.{Gives as Promised}
 use Rattle.jobs.specs.Lent.{lentOf, lentStepOf}
@@ -36,7 +33,6 @@ use denote.Signature.{plain}
 use denote.Steps.{only, opens, closes, owned, peeks, heard, nothing}
 use denote.Struct.Steps.{spelt}
 use denote.Struct.Laws as LL
-use denote.Enum.Laws as EL
 use denote.Triple.Entry.{onEntry}
 use denote.Triple.Spec.{Meets, tripleOf}
 use denote.Triple.Statement.{Contract, Triple}

@@ -1,8 +1,5 @@
 -- `jobs::step_beside` meets its contract: another record than the state's own is refused; with its own the step is that of state and card.
-use mathlib.Core.Bool.{not}
-use mathlib.Core.Path.{sym, ap, _∙_}
-use borrow.Author.Needs.{needs}
-use borrow.Author.Tests.{not-false}
+use Rattle.lists.proofs.Prelude.{not, sym, ap, _∙_, needs, not-false}
 use Rattle.windows.specs.Promises.{storeOf}
 use Rattle.windows.proofs.Outcomes.{stopped}
 use Rattle.jobs.specs.Lent.{lentStepOf}

@@ -3,11 +3,8 @@ use Rattle.lists.proofs.Sizes.{mag-sum}
 use mir.Facts.{toZ-ofZ, sfits-widen}
 use mir.Val.{SFits, toZ, ofZ}
 use mir.Syntax.{w16, w32}
-use Prim.Native.Nat.{_≤_}
+use Rattle.lists.proofs.Prelude.{_≤_, ℤ, _+ℤ_, arith, _≡_}
 use lib.Signed.{mag}
-use lib.IntN.{ℤ, _+ℤ_}
-use native.Mathlib.Omega.{arith}
-use mathlib.Core.Path.{_≡_}
 use Rattle.kway.proofs.added.Statement.{statement}
 use Rattle.kway.proofs.added.Tie as tie
 

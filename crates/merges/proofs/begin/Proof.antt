@@ -1,11 +1,5 @@
 -- `merges::begin` meets its contract.
-use mathlib.Core.Bool.{not}
-use mathlib.Core.Path.{refl, sym, ap, _∙_}
-use Prim.Native.Nat.{suc}
-use native.Mathlib.Omega.{arith}
-use borrow.Author.Needs.{needs}
-use borrow.Author.Tests.{not-true, not-false, eq-eqb, leb-true}
-use lib.ListN.{length, take}
+use Rattle.lists.proofs.Prelude.{not, refl, sym, ap, _∙_, suc, arith, needs, not-true, not-false, eq-eqb, leb-true, length, take}
 use Rattle.words.specs.Words.{words, bytes}
 use Rattle.postings.specs.Merge.{nonzero}
 use Rattle.state.specs.Views.{blocks, finished}

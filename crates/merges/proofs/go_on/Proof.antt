@@ -1,14 +1,10 @@
 -- `merges::go_on` meets its contract.
-use mathlib.Core.Bool.{not}
-use mathlib.Core.Path.{refl, sym, ap, _∙_}
-use native.Mathlib.Omega.{arith}
-use borrow.Author.Tests.{not-false, ne-eqb}
+use Rattle.lists.proofs.Prelude.{not, refl, sym, ap, _∙_, arith, not-false, ne-eqb, needs}
 use Rattle.words.specs.Words.{words}
 use Rattle.card.specs.Chains.{blocksFor}
 use Rattle.windows.proofs.Outcomes.{stopped, passed}
 use Rattle.merges.proofs.Stepping.{rule-early, go-done, state-told, first-told}
 use Rattle.merges.proofs.Planning.{planned-stop, planned-go}
-use borrow.Author.Needs.{needs}
 use Rattle.merges.proofs.go_on.Statement.{statement}
 use Rattle.merges.proofs.go_on.Tie as tie
 

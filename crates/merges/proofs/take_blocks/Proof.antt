@@ -1,10 +1,5 @@
 -- `merges::take_blocks` meets its contract.
-use mathlib.Core.Path.{_≡_, refl, sym, ap, _∙_}
-use Prim.Native.Nat.{ℕ, _-_, _≤_}
-use native.Mathlib.Omega.{arith}
-use borrow.Author.Needs.{needs}
-use lib.ListN.{length, getD, take}
-use lib.Seq.{length-take-le}
+use Rattle.lists.proofs.Prelude.{_≡_, refl, sym, ap, _∙_, ℕ, _-_, _≤_, arith, needs, length, getD, take, length-take-le}
 use Rattle.words.specs.Words.{words}
 use Rattle.card.specs.Blocks.{freeBlocks}
 use Rattle.card.specs.Writes.{store}

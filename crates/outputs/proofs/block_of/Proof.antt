@@ -1,8 +1,5 @@
 -- `outputs::block_of` meets its contract.
-use mathlib.Core.Logic.{⊎-elim}
-use native.Mathlib.Omega.{arith}
-use borrow.Author.Needs.{needs}
-use borrow.Author.Tests.{lt-ltb, le-ltb}
+use Rattle.lists.proofs.Prelude.{⊎-elim, arith, needs, lt-ltb, le-ltb}
 use Rattle.outputs.proofs.block_of.Statement.{statement}
 use Rattle.outputs.proofs.block_of.Tie as tie
 

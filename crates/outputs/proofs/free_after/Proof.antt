@@ -1,7 +1,6 @@
 -- `outputs::free_after` meets its contract: as some block is free, one is found.
 use denote.Enum.Declared.{tagOf}
-use mathlib.Core.Path.{refl, sym, ap, _∙_}
-use borrow.Author.Needs.{needs}
+use Rattle.lists.proofs.Prelude.{refl, sym, ap, _∙_, needs}
 use Rattle.words.specs.Words.{words}
 use Rattle.card.specs.Blocks.{freeBlocks}
 use Rattle.card.proofs.Free.{the-type}

@@ -1,10 +1,5 @@
 -- `outputs::link_free` meets its contract. The invariant: so many of the wanted blocks are found, and linking the others gives the whole.
-use mathlib.Core.Path.{_≡_, refl, sym, _∙_}
-use Prim.Native.Nat.{_-_}
-use native.Mathlib.Omega.{arith}
-use borrow.Author.Needs.{needs}
-use lib.ListN.{length}
-use lib.Seq.{getD-take}
+use Rattle.lists.proofs.Prelude.{_≡_, refl, sym, _∙_, _-_, arith, needs, length, getD-take}
 use Rattle.words.specs.Words.{words}
 use Rattle.card.specs.Blocks.{freeBlocks}
 use Rattle.outputs.proofs.Linking.{Linking, linking-start, linking-some, linking-in, linking-on, linking-end}

@@ -1,11 +1,6 @@
 -- `outputs::release_inputs` meets its contract. The invariant: freeing the blocks of the partitions from i on gives the whole; they are different
 -- blocks of the card.
-use mathlib.Core.Path.{_≡_, refl, _∙_}
-use Prim.Native.Nat.{_-_}
-use native.Mathlib.Omega.{arith}
-use borrow.Author.Needs.{needs}
-use lib.ListN.{length}
-use Rattle.lists.proofs.Arrays.{unmapped}
+use Rattle.lists.proofs.Prelude.{_≡_, refl, _∙_, _-_, arith, needs, length, unmapped}
 use Rattle.words.specs.Words.{words}
 use Rattle.state.specs.Views.{noPartition}
 use Rattle.outputs.proofs.Freeing.{Freeing, freeing-end, freeing-chained, freeing-different, freeing-on}

@@ -1,10 +1,5 @@
 -- `outputs::rest_free` meets its contract. The invariant: the answer is that for the words still to come.
-use mathlib.Core.Path.{_≡_, refl, sym, _∙_}
-use Prim.Native.Nat.{_-_}
-use native.Mathlib.Omega.{arith}
-use borrow.Author.Tests.{eq-eqb, ne-eqb}
-use lib.Dec.{eqb}
-use Rattle.lists.specs.Lists.{every}
+use Rattle.lists.proofs.Prelude.{_≡_, refl, sym, _∙_, _-_, arith, eq-eqb, ne-eqb, eqb, every}
 use Rattle.words.specs.Words.{words, allOnes}
 use Rattle.card.specs.Cursors.{Good, ahead}
 use Rattle.card.proofs.Cursors.{ahead-more, good-moved}

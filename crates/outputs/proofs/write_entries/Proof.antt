@@ -1,10 +1,5 @@
 -- `outputs::write_entries` meets its contract. The invariant: writing the entries of the identifiers from i on gives the whole.
-use mathlib.Core.Logic.{⊎-elim}
-use mathlib.Core.Path.{_≡_, refl, _∙_}
-use Prim.Native.Nat.{_-_, _<_}
-use native.Mathlib.Omega.{arith}
-use borrow.Author.Needs.{needs}
-use lib.ListN.{length, getD}
+use Rattle.lists.proofs.Prelude.{⊎-elim, _≡_, refl, _∙_, _-_, _<_, arith, needs, length, getD}
 use Rattle.words.specs.Words.{words}
 use Rattle.outputs.proofs.Entering.{Entering, entering-start, entering-end, entering-past, entering-room, entering-on}
 use Rattle.outputs.proofs.write_entries.Statement.{statement}

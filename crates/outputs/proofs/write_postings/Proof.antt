@@ -1,15 +1,8 @@
 -- `outputs::write_postings` meets its contract. The invariant: storing the words of the postings that are left gives the whole array.
-use mathlib.Core.List.{map}
-use mathlib.Core.Path.{_≡_, refl, sym, ap, _∙_}
-use Prim.Native.Nat.{_-_, _≤_}
-use native.Mathlib.Omega.{arith}
-use borrow.Author.Needs.{needs}
-use lib.ListN.{length, getD, take, drop, length-map, length-set, length-take}
-use lib.Seq.{sets, length-take-le}
+use Rattle.lists.proofs.Prelude.{map, _≡_, refl, sym, ap, _∙_, _-_, _≤_, arith, needs, length, getD, take, drop, length-map, length-set, length-take, sets, length-take-le, unmapped}
 use mir.Syntax.{w16}
 use mir.Val.{SFits}
 use mir.Facts.{toZ-ofZ}
-use Rattle.lists.proofs.Arrays.{unmapped}
 use Rattle.lists.proofs.Stores.{sets-end}
 use Rattle.state.specs.Views.{noPosting}
 use Rattle.partitions.specs.Layout.{wordOf}

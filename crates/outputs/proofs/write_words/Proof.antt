@@ -1,9 +1,5 @@
 -- `outputs::write_words` meets its contract. The invariant: writing the words that are left gives the whole, and the links are as they were.
-use mathlib.Core.Path.{_≡_, refl, _∙_}
-use Prim.Native.Nat.{_+_, _-_, _%_, _<_}
-use native.Mathlib.Omega.{arith}
-use borrow.Author.Needs.{needs}
-use lib.ListN.{length}
+use Rattle.lists.proofs.Prelude.{_≡_, refl, _∙_, _+_, _-_, _%_, _<_, arith, needs, length}
 use Rattle.words.specs.Words.{words}
 use Rattle.outputs.proofs.Writing.{Writing, writing-start, writing-needs, writing-on, writing-end}
 use Rattle.outputs.proofs.write_words.Statement.{statement}

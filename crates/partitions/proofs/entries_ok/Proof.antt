@@ -1,16 +1,12 @@
 -- `partitions::entries_ok` meets its contract. The invariant: the answer for all entries is the answer resumed at the entry that comes next. A first
 -- index is of 32 bits and equals the sum before it, so that the sum stays small.
-use mathlib.Core.Path.{_≡_, refl, sym, ap, _∙_}
-use Prim.Native.Nat.{_%_, _≤_}
-use native.Mathlib.Omega.{arith}
-use Rattle.lists.proofs.Turns.{passed, failed}
+use Rattle.lists.proofs.Prelude.{_≡_, refl, sym, ap, _∙_, _%_, _≤_, arith, passed, failed, needs}
 use Rattle.words.specs.Words.{words}
 use Rattle.card.specs.Chains.{blocksFor}
 use Rattle.card.specs.Cursors.{ahead, Good}
 use Rattle.partitions.proofs.Headers.{first-block, header-room}
 use Rattle.partitions.proofs.Listed.{resumed, term-facts, resumed-fails, resumed-step, resumed-done, ahead-none, entry-passed}
 use Rattle.partitions.proofs.Starts.{entries-start}
-use borrow.Author.Needs.{needs}
 use Rattle.partitions.proofs.entries_ok.Statement.{statement}
 use Rattle.partitions.proofs.entries_ok.Tie as tie
 

@@ -1,9 +1,8 @@
 -- `partitions::entry_at` meets its contract: three words are to come, so each cursor on the way is good.
-use mathlib.Core.Path.{ap, _∙_}
+use Rattle.lists.proofs.Prelude.{ap, _∙_, needs}
 use Rattle.words.specs.Words.{words}
 use Rattle.card.specs.Cursors.{movedOf}
 use Rattle.partitions.proofs.Listed.{second-word, third-word}
-use borrow.Author.Needs.{needs}
 use Rattle.partitions.proofs.entry_at.Statement.{statement}
 use Rattle.partitions.proofs.entry_at.Tie as tie
 

@@ -1,8 +1,5 @@
 -- `partitions::find_list` meets its contract. The invariant: the postings under the identifier are those that the entries to come lead to.
-use mathlib.Core.List.{List, map}
-use mathlib.Core.Path.{_≡_, sym, ap, _∙_}
-use Prim.Native.Nat.{ℕ, _%_}
-use native.Mathlib.Omega.{arith}
+use Rattle.lists.proofs.Prelude.{List, map, _≡_, sym, ap, _∙_, ℕ, _%_, arith, needs}
 use Rattle.words.specs.Words.{words}
 use Rattle.postings.specs.Pack.{posted}
 use Rattle.postings.specs.Sums.{under}
@@ -12,7 +9,6 @@ use Rattle.partitions.specs.Reading.{field, chainOf, postingWords, posti
 use Rattle.partitions.proofs.Headers.{first-block, header-room}
 use Rattle.partitions.proofs.Listed.{Resumes, listsBy, under-passed, resumes-more, resumes-at, lists-none, ahead-none, entry-passed}
 use Rattle.partitions.proofs.Starts.{header-word, resumes-start, under-start, list-room, list-found}
-use borrow.Author.Needs.{needs}
 use Rattle.partitions.proofs.find_list.Statement.{statement}
 use Rattle.partitions.proofs.find_list.Tie as tie
 

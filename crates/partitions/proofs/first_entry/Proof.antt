@@ -1,10 +1,9 @@
 -- `partitions::first_entry` meets its contract: header and entries lie within the chain.
-use native.Mathlib.Omega.{arith}
+use Rattle.lists.proofs.Prelude.{arith, needs}
 use Rattle.words.specs.Words.{words}
 use Rattle.card.specs.Chains.{blocksFor}
 use Rattle.partitions.proofs.Headers.{first-block, header-room}
 use Rattle.partitions.proofs.Starts.{header-word, entries-at}
-use borrow.Author.Needs.{needs}
 use Rattle.partitions.proofs.first_entry.Statement.{statement}
 use Rattle.partitions.proofs.first_entry.Tie as tie
 

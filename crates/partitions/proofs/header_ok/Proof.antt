@@ -1,12 +1,11 @@
 -- `partitions::header_ok` meets its contract: the header lies in the first block, which is on the card.
-use mathlib.Core.Path.{ap, _∙_}
+use Rattle.lists.proofs.Prelude.{ap, _∙_, needs}
 use Rattle.words.specs.Words.{words}
 use Rattle.card.specs.Chains.{blocksFor}
 use Rattle.partitions.specs.declared.Header.{Header}
 use Rattle.partitions.specs.Formed.{headerRule}
 use Rattle.partitions.specs.Headers.{headerWords}
 use Rattle.partitions.proofs.Headers.{first-block, header-in}
-use borrow.Author.Needs.{needs}
 use Rattle.partitions.proofs.header_ok.Statement.{statement}
 use Rattle.partitions.proofs.header_ok.Tie as tie
 

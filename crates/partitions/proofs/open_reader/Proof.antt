@@ -1,12 +1,10 @@
 -- `partitions::open_reader` meets its contract: the entries after the first lie ahead of one cursor, all postings ahead of the other.
-use mathlib.Core.Path.{refl}
-use native.Mathlib.Omega.{arith}
+use Rattle.lists.proofs.Prelude.{refl, arith, needs}
 use Rattle.words.specs.Words.{words}
 use Rattle.card.specs.Chains.{blocksFor}
 use Rattle.partitions.proofs.Headers.{first-block, header-room}
 use Rattle.partitions.proofs.Listed.{entry-passed}
 use Rattle.partitions.proofs.Starts.{header-word, first-small, reader-opened}
-use borrow.Author.Needs.{needs}
 use Rattle.partitions.proofs.open_reader.Statement.{statement}
 use Rattle.partitions.proofs.open_reader.Tie as tie
 

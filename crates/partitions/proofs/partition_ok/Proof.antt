@@ -1,11 +1,9 @@
 -- `partitions::partition_ok` meets its contract: the parts of the rule in their order.
-use mathlib.Core.Path.{sym, ap, _∙_}
-use Rattle.lists.proofs.Turns.{passed, failed}
+use Rattle.lists.proofs.Prelude.{sym, ap, _∙_, passed, failed, needs}
 use Rattle.words.specs.Words.{words}
 use Rattle.card.specs.Chains.{blocksFor, chainRule}
 use Rattle.card.proofs.Seeking.{rule-chained}
 use Rattle.partitions.proofs.Starts.{rule-some, fails-chain, fails-header, leaves-entries}
-use borrow.Author.Needs.{needs}
 use Rattle.partitions.proofs.partition_ok.Statement.{statement}
 use Rattle.partitions.proofs.partition_ok.Tie as tie
 

@@ -1,10 +1,8 @@
 -- `partitions::reader_moved` meets its contract: past the last posting of an identifier comes the next entry.
-use native.Mathlib.Omega.{arith}
-use borrow.Author.Tests.{lt-ltb, le-ltb}
+use Rattle.lists.proofs.Prelude.{arith, lt-ltb, le-ltb, needs}
 use Rattle.words.specs.Words.{words}
 use Rattle.partitions.specs.Readers.{movedReader}
 use Rattle.partitions.proofs.Readers.{numbered-more, reader-step}
-use borrow.Author.Needs.{needs}
 use Rattle.partitions.proofs.reader_moved.Statement.{statement}
 use Rattle.partitions.proofs.reader_moved.Tie as tie
 

@@ -1,9 +1,4 @@
-use mathlib.Core.Path.{_≡_}
-use Prim.Native.Nat.{_/_, _%_, _<_}
-use native.Mathlib.Nat.{mod-lt}
-use native.Mathlib.Omega.{arith}
-use lib.Dec.{lit<}
-use lib.IntN.{pos}
+use Rattle.lists.proofs.Prelude.{_≡_, _/_, _%_, _<_, mod-lt, arith, lit<, pos}
 use lib.Bits.{and-mask, mask-lt}
 use mir.Syntax.{w16}
 use mir.Facts.{toZ-ofZ, toZ-pos}

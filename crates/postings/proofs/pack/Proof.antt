@@ -1,9 +1,7 @@
-use native.Mathlib.Omega.{arith}
-use lib.Dec.{lit≤}
+use Rattle.lists.proofs.Prelude.{arith, lit≤, needs}
 use mir.Facts.{toZ-ofZ}
 use Rattle.words.proofs.Bits.{beside}
 use Rattle.postings.proofs.Trips.{half-lt}
-use borrow.Author.Needs.{needs}
 use Rattle.postings.proofs.pack.Statement.{statement}
 use Rattle.postings.proofs.pack.Tie as tie
 

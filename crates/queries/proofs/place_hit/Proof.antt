@@ -1,9 +1,4 @@
-use mathlib.Core.List.{_∷_, _++_}
-use mathlib.Core.Path.{_≡_, sym, ap, _∙_}
-use Prim.Native.Nat.{ℕ, _+_, _-_, min}
-use native.Mathlib.Omega.{arith}
-use borrow.Author.Needs.{needs}
-use lib.ListN.{length, take, drop}
+use Rattle.lists.proofs.Prelude.{_∷_, _++_, _≡_, sym, ap, _∙_, ℕ, _+_, _-_, min, arith, needs, length, take, drop}
 use Rattle.queries.specs.Top.{listedHits, topOf}
 use Rattle.queries.proofs.Tops.{clean-used, rank-le, place-out, place-in}
 use Rattle.queries.proofs.place_hit.Statement.{statement}

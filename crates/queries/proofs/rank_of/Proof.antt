@@ -1,9 +1,4 @@
-use mathlib.Core.Path.{_≡_, sym, _∙_}
-use Prim.Native.Nat.{_≤_, _+_, _-_}
-use native.Mathlib.Omega.{arith}
-use borrow.Author.Needs.{needs}
-use lib.ListN.{length, take, drop}
-use Rattle.lists.proofs.Arrays.{unmapped}
+use Rattle.lists.proofs.Prelude.{_≡_, sym, _∙_, _≤_, _+_, _-_, arith, needs, length, take, drop, unmapped}
 use Rattle.queries.specs.Top.{rank}
 use Rattle.queries.proofs.Tops.{rank-here, rank-on, rank-end}
 use Rattle.queries.proofs.rank_of.Statement.{statement}

@@ -1,14 +1,9 @@
 -- `queries::search_sound` meets its contract: what is lent is packed and large enough.
-use mathlib.Core.Path.{sym}
-use Prim.Native.Nat.{_+_, _*_}
-use native.Mathlib.Omega.{arith}
-use lib.ListN.{replicate}
-use lib.Seq.{length-take-le}
+use Rattle.lists.proofs.Prelude.{sym, _+_, _*_, arith, replicate, length-take-le, needs}
 use Rattle.state.specs.Views.{buffered}
 use Rattle.state.proofs.Kept.{state-kept}
 use Rattle.terms.proofs.Opened.{rule-sizes}
 use Rattle.queries.proofs.Tested.{sound-words}
-use borrow.Author.Needs.{needs}
 use Rattle.queries.proofs.search_sound.Statement.{statement}
 use Rattle.queries.proofs.search_sound.Tie as tie
 

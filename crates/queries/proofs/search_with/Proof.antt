@@ -1,16 +1,10 @@
 -- `queries::search_with` meets its contract: the refusals in order, and then the best hits of the second pass.
-use borrow.Author.Tests.{not-true, not-false}
-use mathlib.Core.Bool.{false}
-use mathlib.Core.List.{map}
-use mathlib.Core.Path.{_≡_, sym, _∙_}
-use native.Mathlib.Omega.{arith}
-use lib.ListN.{length}
+use Rattle.lists.proofs.Prelude.{not-true, not-false, false, map, _≡_, sym, _∙_, arith, length, needs}
 use denote.Ref.{now}
 use Rattle.answers.specs.declared.Refusal.the-variants.{Malformed, BadIdentifier, BadQuery}
 use Rattle.queries.specs.Query.{badQuery}
 use Rattle.queries.specs.Finds.{probeOf}
 use Rattle.queries.proofs.Outcomes.{proper, refused-as, finds-malformed, finds-identifier, finds-bad, terms-walkable, finds-walked}
-use borrow.Author.Needs.{needs}
 use Rattle.queries.proofs.search_with.Statement.{statement}
 use Rattle.queries.proofs.search_with.Tie as tie
 

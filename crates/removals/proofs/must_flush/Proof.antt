@@ -1,9 +1,4 @@
-use mathlib.Core.Path.{_≡_}
-use native.Mathlib.Omega.{arith}
-use lib.ListN.{length}
-use lib.Seq.{length-take-le}
-use Rattle.lists.proofs.Arrays.{unmapped}
-use borrow.Author.Needs.{needs}
+use Rattle.lists.proofs.Prelude.{_≡_, arith, length, length-take-le, unmapped, needs}
 use Rattle.removals.proofs.must_flush.Statement.{statement}
 use Rattle.removals.proofs.must_flush.Tie as tie
 

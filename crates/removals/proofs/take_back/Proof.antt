@@ -1,13 +1,8 @@
-use Prim.Native.Nat.{_-_, _≤_}
-use lib.ListN.{length, getD}
+use Rattle.lists.proofs.Prelude.{_-_, _≤_, length, getD, unmapped, _≡_, _∙_, arith, needs}
 use mir.Facts.{toZ-ofZ}
-use Rattle.lists.proofs.Arrays.{unmapped}
 use Rattle.lists.proofs.Sizes.{small-fits}
 use Rattle.postings.proofs.Signs.{neg-fits}
 use Rattle.removals.proofs.Takes.{start-buffer, end-buffer, small-count, next-addable, next-buffer, buffer-canonical}
-use mathlib.Core.Path.{_≡_, _∙_}
-use native.Mathlib.Omega.{arith}
-use borrow.Author.Needs.{needs}
 use Rattle.state.specs.Views.{buffered, bufferOf, noPosting}
 use Rattle.sums.specs.Views.{countsIn}
 use Rattle.removals.specs.Taking.{takenBack}

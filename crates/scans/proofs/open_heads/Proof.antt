@@ -1,12 +1,6 @@
 -- `scans::open_heads` meets its contract. The invariant: the first i heads are those of the first i partitions.
-use mathlib.Core.Path.{_≡_, _∙_}
-use Prim.Native.Nat.{_≤_, _+_, _*_, _-_}
-use native.Mathlib.Omega.{arith}
-use borrow.Author.Needs.{needs}
+use Rattle.lists.proofs.Prelude.{_≡_, _∙_, _≤_, _+_, _*_, _-_, arith, needs, [], length, unmapped, of-used}
 use borrow.Rule.Slice.PartMut.{mid-len}
-use mathlib.Core.List.{[]}
-use lib.ListN.{length}
-use Rattle.lists.proofs.Arrays.{unmapped, of-used}
 use Rattle.keyed.specs.Keys.{topFrom}
 use Rattle.words.specs.Words.{words}
 use Rattle.state.specs.Views.{noPartition}

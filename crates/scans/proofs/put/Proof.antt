@@ -1,13 +1,9 @@
 -- `scans::put` meets its contract: a spent reader, and another.
-use mathlib.Core.Path.{sym, _∙_}
-use Prim.Native.Nat.{_-_}
-use native.Mathlib.Omega.{arith}
+use Rattle.lists.proofs.Prelude.{sym, _∙_, _-_, arith, length-set, needs}
 use mir.Syntax.{w16}
 use mir.Val.{Fits}
-use lib.ListN.{length-set}
 use Rattle.words.specs.Words.{words}
 use Rattle.scans.proofs.Placed.{Narrow, put-none, put-some}
-use borrow.Author.Needs.{needs}
 use Rattle.scans.proofs.put.Statement.{statement}
 use Rattle.scans.proofs.put.Tie as tie
 

@@ -2,10 +2,7 @@
 use mir.Facts.{toZ-ofZ}
 use mir.Syntax.{w16, w32}
 use mir.Val.{SFits, toZ}
-use mathlib.Core.Path.{_≡_}
-use Prim.Native.Nat.{_≤_, _+_, _*_, _-_}
-use native.Mathlib.Omega.{arith}
-use borrow.Author.Needs.{needs}
+use Rattle.lists.proofs.Prelude.{_≡_, _≤_, _+_, _*_, _-_, arith, needs}
 use Rattle.words.specs.Words.{words}
 use Rattle.scans.specs.Heads.{view, Kept}
 use Rattle.kway.proofs.Parts.{all-at}

@@ -1,5 +1,5 @@
 -- `scans::take_one` meets its contract: another head, and one with the key.
-use mathlib.Core.Path.{sym, ap, _∙_}
+use Rattle.lists.proofs.Prelude.{sym, ap, _∙_, needs}
 use mir.Syntax.{w16}
 use mir.Val.{SFits}
 use mir.Facts.{toZ-ofZ}
@@ -10,7 +10,6 @@ use Rattle.scans.specs.Items.{items}
 use Rattle.kway.proofs.Turns.{missed}
 use Rattle.scans.specs.Heads.{view}
 use Rattle.scans.proofs.Placed.{some, hit}
-use borrow.Author.Needs.{needs}
 use Rattle.scans.proofs.take_one.Statement.{statement}
 use Rattle.scans.proofs.take_one.Tie as tie
 

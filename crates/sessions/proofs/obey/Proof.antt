@@ -1,10 +1,7 @@
 -- `sessions::obey` meets its contract.
-use mathlib.Core.Path.{sym, ap}
-use native.Mathlib.Omega.{arith}
-use lib.Seq.{length-take-le}
+use Rattle.lists.proofs.Prelude.{sym, ap, arith, length-take-le, needs}
 use Rattle.commands.specs.Commands.{callIn}
-use Rattle.sessions.proofs.Fields.{obeys-as}
-use borrow.Author.Needs.{needs}
+use Rattle.sessions.proofs.Carried.{obeys-as}
 use Rattle.sessions.proofs.obey.Statement.{statement}
 use Rattle.sessions.proofs.obey.Tie as tie
 

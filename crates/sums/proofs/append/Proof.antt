@@ -1,12 +1,4 @@
-use mathlib.Core.List.{[], _∷_, _++_}
-use mathlib.Core.Path.{_≡_}
-use Prim.Native.Nat.{_+_}
-use native.Mathlib.Numerals.{add-one}
-use native.Mathlib.Omega.{arith}
-use lib.ListN.{length, take, set, length-append}
-use lib.Seq.{take-suc-set, length-take-le}
-use Rattle.lists.proofs.Arrays.{unmapped}
-use borrow.Author.Needs.{needs}
+use Rattle.lists.proofs.Prelude.{[], _∷_, _++_, _≡_, _+_, add-one, arith, length, take, set, length-append, take-suc-set, length-take-le, unmapped, needs}
 use Rattle.sums.proofs.append.Statement.{statement}
 use Rattle.sums.proofs.append.Tie as tie
 

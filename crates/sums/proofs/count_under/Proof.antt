@@ -1,8 +1,7 @@
 use mir.Syntax.{w16}
 use mir.Val.{SFits}
 use mir.Facts.{toZ-ofZ}
-use borrow.Author.Tests.{eq-eqb, ne-eqb}
-use borrow.Author.Needs.{needs}
+use Rattle.lists.proofs.Prelude.{eq-eqb, ne-eqb, needs}
 use Rattle.sums.proofs.count_under.Statement.{statement}
 use Rattle.sums.proofs.count_under.Tie as tie
 

@@ -1,8 +1,5 @@
-use mathlib.Core.Bool.{_&&_}
-use mathlib.Core.Path.{_≡_, sym, _∙_}
+use Rattle.lists.proofs.Prelude.{_&&_, _≡_, sym, _∙_, not-true, not-false, needs}
 use mir.Facts.{toZ-ofZ}
-use borrow.Author.Tests.{not-true, not-false}
-use borrow.Author.Needs.{needs}
 use Rattle.partitions.specs.Formed.{inRange}
 use Rattle.sums.proofs.Keeps.{kept-out, kept-zero, kept-full, kept-more, total-fits, zero-word, nonzero-word}
 use Rattle.sums.proofs.keep_total.Statement.{statement}

@@ -1,5 +1,4 @@
-use borrow.Author.Tests.{eq-eqb, ne-eqb}
-use borrow.Author.Needs.{needs}
+use Rattle.lists.proofs.Prelude.{eq-eqb, ne-eqb, needs}
 use Rattle.sums.proofs.past.Statement.{statement}
 use Rattle.sums.proofs.past.Tie as tie
 

@@ -1,6 +1,4 @@
-use mathlib.Core.Path.{refl}
-use native.Mathlib.Omega.{arith}
-use borrow.Author.Needs.{needs}
+use Rattle.lists.proofs.Prelude.{refl, arith, needs}
 use Rattle.words.specs.Words.{words}
 use Rattle.state.specs.Views.{blocks, finished}
 use Rattle.state.proofs.Kept.{state-kept}
@@ -10,14 +8,14 @@ use Rattle.sums.proofs.read.Tie as tie
 
 open-heads-requires : tie.Need-open-heads-requires
 open-heads-requires c κs =
-    let s = c .before .before in
+    let s = c .before .before .before in
     let q = s .args .s in
     let k = state-kept q (s .pre .0) in
     (k .partitions .used, omega (arith, k .partitions .used), omega arith, all-readable (words (s .args .card .now)) (blocks q) (finished (q .partitions)) (s .pre .1) (k .lengths .mostBlocks) (s .pre .2))
 
 walk-requires : tie.Need-walk-requires
 walk-requires c κs =
-    let s = c .before .before .before .before .before in
+    let s = c .before .before .before .before .before .before in
     let k = state-kept (s .args .s) (s .pre .0) in
     let o = c .before .before .open-heads .ensures in
     record { rule = s .pre .0; buffer = refl; room = omega (arith, k .partitions .used, o .0); kept = o .1; lists = o .2; top = o .3 }

@@ -1,15 +1,7 @@
-use mathlib.Core.Logic.{⊎-elim}
-use mathlib.Core.Path.{_≡_, refl, sym, _∙_}
-use Prim.Native.Nat.{suc, _-_, _+_}
-use native.Mathlib.Omega.{arith}
-use lib.IntN.{_+ℤ_}
-use lib.ListN.{length}
+use Rattle.lists.proofs.Prelude.{⊎-elim, _≡_, refl, sym, _∙_, suc, _-_, _+_, arith, _+ℤ_, length, needs, not-true, not-false, unmapped}
 use mir.Syntax.{w16, w32}
 use mir.Val.{Fits, SFits}
 use mir.Facts.{toZ-ofZ}
-use borrow.Author.Needs.{needs}
-use borrow.Author.Tests.{not-true, not-false}
-use Rattle.lists.proofs.Arrays.{unmapped}
 use Rattle.keyed.specs.Keys.{headVal}
 use Rattle.words.specs.Words.{words}
 use Rattle.words.proofs.Views.{words-below}

@@ -1,11 +1,5 @@
 -- `texts::split` meets its contract. Each field has a byte at least and a space after it, so that 512 bytes have at most 256.
-use mathlib.Core.Logic.{⊎-elim}
-use mathlib.Core.Path.{refl, sym}
-use Prim.Native.Nat.{_≤_, _<_, _-_}
-use native.Mathlib.Omega.{arith}
-use borrow.Author.Needs.{needs}
-use lib.ListN.{length, length-set}
-use borrow.Author.Tests.{eq-eqb, ne-eqb}
+use Rattle.lists.proofs.Prelude.{⊎-elim, refl, sym, _≤_, _<_, _-_, arith, needs, length, length-set, eq-eqb, ne-eqb}
 use Rattle.texts.proofs.Splitting.{Splitting, start-split, on-byte, on-space, on-gap, on-nothing, on-last, too-long}
 use Rattle.texts.proofs.split.Statement.{statement}
 use Rattle.texts.proofs.split.Tie as tie

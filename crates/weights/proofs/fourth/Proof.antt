@@ -1,8 +1,5 @@
 -- `weights::fourth` meets its contract: neither the square nor its square goes past 64 bits.
-use mathlib.Core.Path.{sym}
-use Prim.Native.Nat.{_*_, _≤_}
-use native.Mathlib.Nat.{mul-le-mul}
-use native.Mathlib.Omega.{arith}
+use Rattle.lists.proofs.Prelude.{sym, _*_, _≤_, mul-le-mul, arith}
 use Rattle.weights.proofs.Powers.{fourth, fourth-fits}
 use Rattle.weights.proofs.fourth.Statement.{statement}
 use Rattle.weights.proofs.fourth.Tie as tie

@@ -1,7 +1,5 @@
 -- `weights::idf_weight` meets its contract: the highest set bit of the quotient is the weight.
-use mathlib.Core.Path.{_≡_, sym, ap, _∙_}
-use native.Mathlib.Omega.{arith}
-use borrow.Author.Needs.{needs}
+use Rattle.lists.proofs.Prelude.{_≡_, sym, ap, _∙_, arith, needs}
 use Rattle.weights.specs.Weights.{idfWeight}
 use Rattle.weights.proofs.Laws.{idf-none, idf-past, idf-bit}
 use Rattle.weights.proofs.Powers.{fourth-positive, leading-fits, quotient-positive, quotient-fits}

@@ -1,8 +1,5 @@
 -- `weights::tf_weight` meets its contract: the highest set bit of a fourth power is the weight.
-use mathlib.Core.Path.{refl}
-use Prim.Native.Nat.{_≤_}
-use native.Mathlib.Omega.{arith}
-use borrow.Author.Needs.{needs}
+use Rattle.lists.proofs.Prelude.{refl, _≤_, arith, needs}
 use Rattle.weights.proofs.Laws.{tf-bit, tf-highest}
 use Rattle.weights.proofs.Powers.{fourth-fits, fourth-positive, leading-fits}
 use Rattle.weights.proofs.tf_weight.Statement.{statement}

@@ -1,11 +1,4 @@
-use mathlib.Core.Bool.{not, cond}
-use mathlib.Core.Logic.{⊎-elim}
-use mathlib.Core.Path.{_≡_, refl, sym, ap, _∙_}
-use Prim.Native.Nat.{_-_}
-use native.Mathlib.Omega.{arith}
-use lib.Dec.{eqb}
-use borrow.Author.Needs.{needs}
-use borrow.Author.Tests.{eq-eqb, ne-eqb, not-false}
+use Rattle.lists.proofs.Prelude.{not, cond, ⊎-elim, _≡_, refl, sym, ap, _∙_, _-_, arith, eqb, needs, eq-eqb, ne-eqb, not-false}
 use Rattle.state.proofs.Kept.{state-kept, Shut, Opened}
 use Rattle.windows.specs.Calls.{closeOf, closed}
 use Rattle.windows.proofs.Outcomes.{stopped, passed, given}

@@ -1,11 +1,5 @@
 -- `windows::fill` meets its contract. The invariant: the places passed hold the value.
-use mathlib.Core.List.{List, [], _∷_, _++_}
-use mathlib.Core.Path.{_≡_, refl, sym, ap, _∙_}
-use Prim.Native.Nat.{ℕ, _+_, _-_, _≤_}
-use native.Mathlib.Numerals.{add-one}
-use native.Mathlib.Omega.{arith}
-use lib.ListN.{length, take, set, length-set, replicate, replicate-append-replicate}
-use lib.Seq.{take-suc-set, take-all}
+use Rattle.lists.proofs.Prelude.{List, [], _∷_, _++_, _≡_, refl, sym, ap, _∙_, ℕ, _+_, _-_, _≤_, add-one, arith, length, take, set, length-set, replicate, replicate-append-replicate, take-suc-set, take-all}
 use Rattle.windows.proofs.fill.Statement.{statement}
 use Rattle.windows.proofs.fill.Tie as tie
 

@@ -1,9 +1,4 @@
-use mathlib.Core.Bool.{not}
-use mathlib.Core.Path.{refl, sym, ap, _∙_}
-use native.Mathlib.Numerals.{add-one}
-use native.Mathlib.Omega.{arith}
-use borrow.Author.Needs.{needs}
-use borrow.Author.Tests.{eq-eqb, ne-eqb, le-leb, lt-leb}
+use Rattle.lists.proofs.Prelude.{not, refl, sym, ap, _∙_, add-one, arith, needs, eq-eqb, ne-eqb, le-leb, lt-leb}
 use Rattle.windows.specs.Calls.{openOf, opened}
 use Rattle.windows.proofs.Outcomes.{stopped, passed, given}
 use Rattle.windows.proofs.open.Statement.{statement}

@@ -1,9 +1,4 @@
-use mathlib.Core.Bool.{not}
-use mathlib.Core.Path.{refl, sym, ap, _∙_}
-use native.Mathlib.Omega.{arith}
-use lib.ListN.{length}
-use borrow.Author.Needs.{needs}
-use borrow.Author.Tests.{not-false}
+use Rattle.lists.proofs.Prelude.{not, refl, sym, ap, _∙_, arith, length, needs, not-false}
 use Rattle.windows.specs.Calls.{startOf, unstarted, fresh}
 use Rattle.windows.proofs.Outcomes.{stopped, passed, given}
 use Rattle.windows.proofs.Lengths.{lengths-started}

@@ -1,12 +1,8 @@
 -- `words::put_word` meets its contract: the four bytes that it writes join to the value, and none is past the last word.
 --
-use mathlib.Core.Path.{_≡_, ap, _∙_}
-use Prim.Native.Nat.{_/_, _%_}
-use native.Mathlib.Omega.{arith}
-use lib.ListN.{set, length-set}
+use Rattle.lists.proofs.Prelude.{_≡_, ap, _∙_, _/_, _%_, arith, set, length-set, needs}
 use Rattle.words.specs.Words.{joined4, words}
 use Rattle.words.proofs.Views.{room, words-set, rest-set}
-use borrow.Author.Needs.{needs}
 use Rattle.words.proofs.put_word.Statement.{statement}
 use Rattle.words.proofs.put_word.Tie as tie
 

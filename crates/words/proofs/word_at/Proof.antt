@@ -1,8 +1,6 @@
 -- `words::word_at` meets its contract: a word has room for its four bytes, and is those four joined.
-use mathlib.Core.Path.{sym, _∙_}
-use native.Mathlib.Omega.{arith}
+use Rattle.lists.proofs.Prelude.{sym, _∙_, arith, needs}
 use Rattle.words.proofs.Views.{room, word-at}
-use borrow.Author.Needs.{needs}
 use Rattle.words.proofs.word_at.Statement.{statement}
 use Rattle.words.proofs.word_at.Tie as tie
 

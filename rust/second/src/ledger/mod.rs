@@ -1,6 +1,6 @@
 //! What the calls must answer, kept without bytes.
 //!
-//! The ledger maps each live window to its counts and answers from that alone.
+//! The ledger has the counts of every live window, and answers from them alone.
 //! Beside it runs an account of the card: how many postings lie where, which
 //! decides when there is no room and what a query takes up. Neither uses any
 //! code or type of the engine, so that an error is not made twice.

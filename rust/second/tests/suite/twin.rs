@@ -305,8 +305,8 @@ impl Twin {
     }
 }
 
-/// Every byte stays, or was 255, or goes to 255 with its whole block. Gives the
-/// blocks that changed.
+/// A byte that changes was 255, or becomes 255 as all of its block does. Gives
+/// the blocks that changed.
 pub fn check_byte_rule(before: &[u8], after: &[u8]) -> Vec<usize> {
     let pairs = before.chunks_exact(BLOCK).zip(after.chunks_exact(BLOCK));
     let mut changed = Vec::new();

@@ -1,11 +1,6 @@
 -- `merges::listing::inputs_of` meets its contract.
 use denote.Enum.Declared.{tagOf}
-use mathlib.Core.Path.{_≡_, refl, sym, ap, _∙_}
-use native.Mathlib.Omega.{arith}
-use lib.ListN.{length}
-use lib.Seq.{length-take-le}
-use borrow.Author.Needs.{needs}
-use Rattle.lists.proofs.Arrays.{unmapped}
+use Rattle.lists.proofs.Prelude.{_≡_, refl, sym, ap, _∙_, arith, length, length-take-le, needs, unmapped}
 use Rattle.state.specs.Views.{finished, partitionsOf}
 use Rattle.state.specs.Levels.{dueLevels}
 use Rattle.state.proofs.Due.{the-type}

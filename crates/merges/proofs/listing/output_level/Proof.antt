@@ -1,9 +1,6 @@
 -- `merges::listing::output_level` meets its contract.
 use denote.Enum.Declared.{tagOf}
-use mathlib.Core.Path.{refl, sym, ap, _∙_}
-use native.Mathlib.Omega.{arith}
-use borrow.Author.Needs.{needs}
-use borrow.Author.Tests.{eq-eqb, ne-eqb}
+use Rattle.lists.proofs.Prelude.{refl, sym, ap, _∙_, arith, needs, eq-eqb, ne-eqb}
 use Rattle.state.specs.Views.{finished}
 use Rattle.state.specs.Levels.{dueLevels}
 use Rattle.state.proofs.Due.{the-type}

@@ -1,11 +1,5 @@
 -- `merges::listing::run_of` meets its contract.
-use mathlib.Core.Path.{_≡_, sym, ap, _∙_}
-use Prim.Native.Nat.{_+_, _-_}
-use native.Mathlib.Omega.{arith}
-use lib.ListN.{length, take, drop}
-use lib.Seq.{length-take-le}
-use borrow.Author.Needs.{needs}
-use Rattle.lists.proofs.Arrays.{unmapped}
+use Rattle.lists.proofs.Prelude.{_≡_, sym, ap, _∙_, _+_, _-_, arith, length, take, drop, length-take-le, needs, unmapped}
 use Rattle.state.specs.Views.{finished, partitionsOf}
 use Rattle.merges.proofs.Choosing.{finished-of, front-cut, part-cut}
 use Rattle.merges.proofs.listing.run_of.Statement.{statement}

@@ -1,10 +1,5 @@
 -- `merges::writing::add_batch` meets its contract.
-use mathlib.Core.Path.{_≡_}
-use native.Mathlib.Omega.{arith}
-use borrow.Author.Needs.{needs}
-use lib.ListN.{length}
-use lib.Seq.{length-take-le}
-use Rattle.lists.proofs.Arrays.{unmapped}
+use Rattle.lists.proofs.Prelude.{_≡_, arith, needs, length, length-take-le, unmapped}
 use Rattle.merges.proofs.writing.add_batch.Statement.{statement}
 use Rattle.merges.proofs.writing.add_batch.Tie as tie
 

@@ -1,7 +1,5 @@
 -- `merges::writing::complete` meets its contract.
-use mathlib.Core.Path.{_∙_}
-use native.Mathlib.Omega.{arith}
-use borrow.Author.Needs.{needs}
+use Rattle.lists.proofs.Prelude.{_∙_, arith, needs}
 use Rattle.words.specs.Words.{words}
 use Rattle.card.specs.Chains.{chain}
 use Rattle.partitions.specs.Layout.{header}

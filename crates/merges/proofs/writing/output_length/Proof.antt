@@ -1,6 +1,5 @@
 -- `merges::writing::output_length` meets its contract.
-use borrow.Author.Needs.{needs}
-use borrow.Author.Tests.{eq-eqb, ne-eqb}
+use Rattle.lists.proofs.Prelude.{needs, eq-eqb, ne-eqb}
 use Rattle.merges.proofs.writing.output_length.Statement.{statement}
 use Rattle.merges.proofs.writing.output_length.Tie as tie
 

@@ -1,12 +1,10 @@
 -- `merges::writing::put_output` meets its contract.
-use mathlib.Core.List.{map}
-use native.Mathlib.Omega.{arith}
+use Rattle.lists.proofs.Prelude.{map, arith, needs}
 use Rattle.words.specs.Words.{words}
 use Rattle.card.specs.Chains.{chain}
 use Rattle.partitions.specs.Layout.{wordOf}
 use Rattle.inputs.specs.Ahead.{batched}
 use Rattle.outputs.proofs.Writing.{chained-written}
-use borrow.Author.Needs.{needs}
 use Rattle.merges.proofs.writing.put_output.Statement.{statement}
 use Rattle.merges.proofs.writing.put_output.Tie as tie
 

@@ -1,10 +1,5 @@
 -- `queries::judging::all_differ` meets its contract. The invariant: the first i differ.
-use mathlib.Core.Bool.{true}
-use mathlib.Core.Path.{_≡_, refl}
-use mathlib.Core.List.{map}
-use Prim.Native.Nat.{_≤_, _-_}
-use native.Mathlib.Omega.{arith}
-use lib.ListN.{length, take}
+use Rattle.lists.proofs.Prelude.{true, _≡_, refl, map, _≤_, _-_, arith, length, take}
 use denote.Ref.{now}
 use Rattle.identifiers.specs.Names.{distinct}
 use Rattle.queries.proofs.Tested.{differ-stopped, differ-on, differ-end}

@@ -1,12 +1,6 @@
 -- `queries::judging::any_bad` meets its contract. The invariant: the answer for all is the answer for those from i on.
-use mathlib.Core.Path.{_≡_, refl}
-use mathlib.Core.List.{map}
-use Prim.Native.Nat.{_≤_, _-_}
-use native.Mathlib.Omega.{arith}
-use borrow.Author.Needs.{needs}
-use lib.ListN.{length, drop}
+use Rattle.lists.proofs.Prelude.{_≡_, refl, map, _≤_, _-_, arith, needs, length, drop, any}
 use denote.Ref.{now}
-use Rattle.lists.specs.Lists.{any}
 use Rattle.identifiers.specs.Names.{badLength}
 use Rattle.queries.proofs.Tested.{bad-found, bad-on, bad-end}
 use Rattle.queries.proofs.judging.any_bad.Statement.{statement}

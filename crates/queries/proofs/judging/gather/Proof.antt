@@ -1,11 +1,5 @@
 -- `queries::judging::gather` meets its contract. The invariant: the first i identifiers are gathered, and the rest decide.
-use borrow.Author.Tests.{not-true, not-false}
-use mathlib.Core.Path.{_≡_, refl, sym, ap, _∙_, subst}
-use mathlib.Core.List.{[], map}
-use mathlib.Core.Logic.{⊎-elim}
-use Prim.Native.Nat.{ℕ, _≤_, _<_, _-_}
-use native.Mathlib.Omega.{arith}
-use lib.ListN.{length, getD, length-map}
+use Rattle.lists.proofs.Prelude.{not-true, not-false, _≡_, refl, sym, ap, _∙_, subst, [], map, ⊎-elim, ℕ, _≤_, _<_, _-_, arith, length, getD, length-map, needs}
 use denote.Ref.{now}
 use Rattle.words.specs.Words.{words}
 use Rattle.identifiers.specs.Names.{numberOf}
@@ -13,7 +7,6 @@ use Rattle.identifiers.specs.Register.{names}
 use Rattle.queries.specs.Gathered.{KeptOf}
 use Rattle.queries.proofs.Gathering.{lent-at, Gathering, gathering-none, gathered-all, gathering-unknown, gathered-fault, gathering-more}
 use Rattle.queries.proofs.Tested.{sound-names}
-use borrow.Author.Needs.{needs}
 use Rattle.queries.proofs.judging.gather.Statement.{statement}
 use Rattle.queries.proofs.judging.gather.Tie as tie
 

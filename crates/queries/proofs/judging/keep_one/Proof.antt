@@ -1,13 +1,8 @@
 -- `queries::judging::keep_one` meets its contract: five are kept, and one more.
-use mathlib.Core.Path.{refl, _∙_}
-use Prim.Native.Nat.{_+_, _*_, _≤_}
-use native.Mathlib.Omega.{arith}
-use lib.ListN.{drop, length-drop}
-use lib.Seq.{length-take-le}
+use Rattle.lists.proofs.Prelude.{refl, _∙_, _+_, _*_, _≤_, arith, drop, length-drop, length-take-le, needs}
 use Rattle.words.specs.Words.{words}
 use Rattle.kway.proofs.Parts.{ends, width}
 use Rattle.queries.proofs.Gathering.{keeps-room, keeps-full}
-use borrow.Author.Needs.{needs}
 use Rattle.queries.proofs.judging.keep_one.Statement.{statement}
 use Rattle.queries.proofs.judging.keep_one.Tie as tie
 
@@ -25,47 +20,47 @@ mul-at : tie.Need-mul-at
 mul-at c =
     let s = c .before .before .before .before .before .before .before .before in
     let n = s .args .s .partitions .used in
-    let e = ends (4 * (n + 1) + 2) (s .args .k .used) 5 (omega (arith, c .before .before .if1 .left)) in
+    let e = ends (4 * (n + 1) + 4) (s .args .k .used) 5 (omega (arith, c .before .before .if1 .left)) in
     omega (arith, e, s .pre .0 .room, s .pre .0 .most)
 
 add-end : tie.Need-add-end
 add-end c =
     let s = c .before .before .before .before .before .before .before .before in
     let n = s .args .s .partitions .used in
-    let e = ends (4 * (n + 1) + 2) (s .args .k .used) 5 (omega (arith, c .before .before .if1 .left)) in
+    let e = ends (4 * (n + 1) + 4) (s .args .k .used) 5 (omega (arith, c .before .before .if1 .left)) in
     omega (arith, e, s .pre .0 .room, s .pre .0 .most)
 
 mul-keep-term : tie.Need-mul-keep-term
 mul-keep-term c =
     let s = c .before .before .before .before .before .before .before .before in
     let n = s .args .s .partitions .used in
-    let e = ends (4 * (n + 1) + 2) (s .args .k .used) 5 (omega (arith, c .before .before .if1 .left)) in
+    let e = ends (4 * (n + 1) + 4) (s .args .k .used) 5 (omega (arith, c .before .before .if1 .left)) in
     omega (arith, e, s .pre .0 .room, s .pre .0 .most)
 
 part-keep-term-end : tie.Need-part-keep-term-end
 part-keep-term-end c =
     let s = c .before .before .before .before .before .before .before .before in
     let n = s .args .s .partitions .used in
-    let e = ends (4 * (n + 1) + 2) (s .args .k .used) 5 (omega (arith, c .before .before .if1 .left)) in
+    let e = ends (4 * (n + 1) + 4) (s .args .k .used) 5 (omega (arith, c .before .before .if1 .left)) in
     omega (arith, e, s .pre .0 .room, s .pre .0 .most)
 
 keep-term-requires : tie.Need-keep-term-requires
 keep-term-requires c κs =
     let s = c .before .before .before .before .before .before .before .before .before .before in
     let n = s .args .s .partitions .used in
-    let e = ends (4 * (n + 1) + 2) (s .args .k .used) 5 (omega (arith, c .before .before .before .before .if1 .left)) in
+    let e = ends (4 * (n + 1) + 4) (s .args .k .used) 5 (omega (arith, c .before .before .before .before .if1 .left)) in
     let u = s .args .k .used in
-    let w = width (4 * (n + 1) + 2) u in
+    let w = width (4 * (n + 1) + 4) u in
     let r = s .pre .0 in
     let H = s .args .heads .now in
-    let l = length-take-le (4 * (n + 1) + 2) (drop ((4 * (n + 1) + 2) * u) H) (omega (arith, length-drop ((4 * (n + 1) + 2) * u) H, e, r .room)) in
+    let l = length-take-le (4 * (n + 1) + 4) (drop ((4 * (n + 1) + 4) * u) H) (omega (arith, length-drop ((4 * (n + 1) + 4) * u) H, e, r .room)) in
     (r .rule, r .long, r .partitions, r .packed, r .one, rw w (l ∙ omega arith))
 
 returns-2 : tie.Need-returns-2
 returns-2 c =
     let s = c .before .before .before .before .before .before .before .before .before .before .before .before .before .before .before .before .before .before in
     let n = s .args .s .partitions .used in
-    let e = ends (4 * (n + 1) + 2) (s .args .k .used) 5 (omega (arith, c .before .before .before .before .before .before .before .before .before .before .before .before .if1 .left)) in
+    let e = ends (4 * (n + 1) + 4) (s .args .k .used) 5 (omega (arith, c .before .before .before .before .before .before .before .before .before .before .before .before .if1 .left)) in
     let o = c .before .before .before .before .before .before .before .keep-term in
     let five : s .args .k .used + 1 ≤ 5 = omega (arith, c .before .before .before .before .before .before .before .before .before .before .before .before .if1 .left) in
     record {

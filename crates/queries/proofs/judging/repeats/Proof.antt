@@ -1,10 +1,5 @@
 -- `queries::judging::repeats` meets its contract. The invariant: the answer is the answer for those from j on.
-use mathlib.Core.Path.{_≡_, refl}
-use mathlib.Core.List.{[], map}
-use Prim.Native.Nat.{_≤_, _-_}
-use native.Mathlib.Omega.{arith}
-use borrow.Author.Needs.{needs}
-use lib.ListN.{getD, take, drop}
+use Rattle.lists.proofs.Prelude.{_≡_, refl, [], map, _≤_, _-_, arith, needs, getD, take, drop}
 use denote.Ref.{now}
 use Rattle.identifiers.specs.Names.{among}
 use Rattle.queries.proofs.Tested.{again-found, again-on, again-end}

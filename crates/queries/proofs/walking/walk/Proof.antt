@@ -1,11 +1,8 @@
 -- `queries::walking::walk` meets its contract. The invariant: the best so far and what is left give the best of all. The measure is the reach of what is left.
-use mathlib.Core.Path.{_≡_, refl, sym, _∙_}
-use Prim.Native.Nat.{suc, _-_}
-use native.Mathlib.Omega.{arith}
+use Rattle.lists.proofs.Prelude.{_≡_, refl, sym, _∙_, suc, _-_, arith, needs}
 use Rattle.words.specs.Words.{words}
 use Rattle.queries.proofs.Tops.{held-length}
 use Rattle.queries.proofs.Walked.{Walking, walk-begun, walk-ended, walk-window, walk-top, walk-ranges, walk-lower, walk-placed, walk-out, walk-passed}
-use borrow.Author.Needs.{needs}
 use Rattle.queries.proofs.walking.walk.Statement.{statement}
 use Rattle.queries.proofs.walking.walk.Tie as tie
 

@@ -1,12 +1,11 @@
 -- `sessions::lines::answer` meets its contract.
-use native.Mathlib.Omega.{arith}
+use Rattle.lists.proofs.Prelude.{arith, needs}
 use Rattle.sessions.proofs.Taking.{answered}
-use borrow.Author.Needs.{needs}
 use Rattle.sessions.proofs.lines.answer.Statement.{statement}
 use Rattle.sessions.proofs.lines.answer.Tie as tie
 
-add-t15 : tie.Need-add-t15
-add-t15 c = omega (arith, c .before .before .before .before .before .before .before .obey .ensures .says .fits, c .before .before .out .given, c .before .before .before .before .before .before .before .before .before .before .before .before .before .before .before .good .1 .1 .1 .1 .0)
+add-d : tie.Need-add-d
+add-d c = omega (arith, c .before .before .before .before .before .before .before .obey .ensures .says .fits, c .before .before .out .given, c .before .before .before .before .before .before .before .before .before .before .before .before .before .before .before .good .1 .1 .1 .1 .0)
 
 returns : tie.Need-returns
 returns c = answered _ _ (omega arith) (c .before .before .before .before .before .before .before .obey .ensures)
@@ -19,7 +18,7 @@ answer-spec =
     (λ c. search needs)
     (λ c. search needs)
     (λ c κs. search needs)
-    add-t15
+    add-d
     (λ c. search needs)
     (λ c. search needs)
     (λ c. search needs)

@@ -1,9 +1,5 @@
 -- `sessions::lines::keep_some` meets its contract: byte by byte, what is kept is what is in hand.
-use mathlib.Core.Logic.{⊎-elim}
-use Prim.Native.Nat.{_-_}
-use native.Mathlib.Omega.{arith}
-use lib.ListN.{length}
-use borrow.Author.Needs.{needs}
+use Rattle.lists.proofs.Prelude.{⊎-elim, _-_, arith, length, needs}
 use Rattle.sessions.proofs.Taking.{Keeping, keep-none, keep-more, keep-past, keep-stopped, keep-as}
 use Rattle.sessions.proofs.lines.keep_some.Statement.{statement}
 use Rattle.sessions.proofs.lines.keep_some.Tie as tie

@@ -1,9 +1,6 @@
 -- `sessions::lines::take_end` meets its contract.
-use mathlib.Core.Path.{sym}
-use native.Mathlib.Omega.{arith}
-use lib.Seq.{length-take-le}
+use Rattle.lists.proofs.Prelude.{sym, arith, length-take-le, needs}
 use Rattle.sessions.proofs.Taking.{end-none, end-line}
-use borrow.Author.Needs.{needs}
 use Rattle.sessions.proofs.lines.take_end.Statement.{statement}
 use Rattle.sessions.proofs.lines.take_end.Tie as tie
 

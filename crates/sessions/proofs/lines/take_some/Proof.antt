@@ -1,11 +1,5 @@
 -- `sessions::lines::take_some` meets its contract: a turn obeys a line and takes in the bytes of the next one.
-use mathlib.Core.List.{[]}
-use mathlib.Core.Path.{_≡_, refl, sym}
-use Prim.Native.Nat.{_+_, _-_, _≤_}
-use native.Mathlib.Omega.{arith}
-use lib.ListN.{length, take, drop}
-use lib.Seq.{length-take-le}
-use borrow.Author.Needs.{needs}
+use Rattle.lists.proofs.Prelude.{[], _≡_, refl, sym, _+_, _-_, _≤_, arith, length, take, drop, length-take-le, needs}
 use Rattle.sessions.specs.Lines.{handOf}
 use Rattle.sessions.proofs.Taking.{Batch, rest-length, batch-none, batch-more, batch-ended}
 use Rattle.sessions.proofs.lines.take_some.Statement.{statement}

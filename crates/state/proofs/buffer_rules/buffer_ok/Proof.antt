@@ -1,52 +1,54 @@
-use borrow.Author.Needs.{needs}
-use borrow.Author.Tests.{le-leb, lt-leb}
-use Rattle.lists.proofs.Turns.{passed, failed}
-use Rattle.state.specs.Rules.{bufferRule}
+use Rattle.lists.proofs.Prelude.{_&&_, _≡_, refl, _-_, arith, leb, length, drop, needs, unmapped}
+use Rattle.postings.specs.Order.{precedes, ordered}
+use Rattle.postings.proofs.Order.{ordered-next}
+use Rattle.state.specs.Views.{noPosting}
+use Rattle.state.specs.Rules.{postingRule, unusedPosting, bufferRule}
+use Rattle.state.proofs.Places.{rest, rest-begin, rest-turn, rest-end}
 use Rattle.state.proofs.buffer_rules.buffer_ok.Statement.{statement}
 use Rattle.state.proofs.buffer_rules.buffer_ok.Tie as tie
 
-returns : tie.Need-returns
-unfolding bufferRule
-returns c = rw (lt-leb _ _ (c .if1 .taken))
+abbrev Inv-loop : tie.InvT-loop
+Inv-loop w b n last₀ ok₀ i₀ last ok i = (length (b .postings) ≡ 128) × (bufferRule w b ≡ (ok && rest ordered precedes (postingRule w) unusedPosting ((b .used) - i) last (drop i (b .postings))))
 
-returns-2 : tie.Need-returns-2
-unfolding bufferRule
-returns-2 c =
-    let a1 = c .before .before in
-    rw (le-leb _ _ (a1 .if1 .left), failed (c .before .postings-ordered .ensures) (c .if2 .taken))
+abbrev μ-loop : tie.MeasureT-loop
+μ-loop w b n last₀ ok₀ i₀ last ok i = 128 - i
 
-returns-3 : tie.Need-returns-3
+loop-holds : tie.Need-loop-holds Inv-loop μ-loop
 unfolding bufferRule
-returns-3 c =
-    let a2 = c .before .before in
-    let a1 = a2 .before .before in
-    rw (
-      le-leb _ _ (a1 .if1 .left),
-      passed (a2 .before .postings-ordered .ensures) (a2 .if2 .left),
-      failed (c .before .postings-ok .ensures) (c .if3 .taken),
-    )
+loop-holds c =
+    let s = c .before .before .args in
+    let len : length (s .t2 .postings) ≡ 128 = search (unmapped, needs) in
+    (len, rest-begin ordered precedes (postingRule (s .w)) unusedPosting refl (λ x. refl) ordered-next noPosting (leb (s .t2 .used) 128) (c .place-ok .result) (s .t2 .used) (s .t2 .postings) (omega arith) (c .place-ok .ensures))
 
-returns-4 : tie.Need-returns-4
-unfolding bufferRule
-returns-4 c =
-    let a3 = c .before in
-    let a2 = a3 .before .before in
-    let a1 = a2 .before .before in
-    rw (
-      le-leb _ _ (a1 .if1 .left),
-      passed (a2 .before .postings-ordered .ensures) (a2 .if2 .left),
-      passed (a3 .before .postings-ok .ensures) (a3 .if3 .left),
-    )
-    (c .postings-end .ensures)
+loop-again : tie.Need-loop-again Inv-loop μ-loop
+loop-again c =
+    let a = c .before .before .before .before in
+    let s = a .before .before .before .args in
+    let len = a .loop .inv .0 in
+    (len, rw (c .precedes .ensures, c .before .place-ok2 .ensures) (rest-turn ordered precedes (postingRule (s .w)) unusedPosting refl (λ x. refl) ordered-next noPosting (a .loop .ok) (s .t2 .used) (a .loop .last) (s .t2 .postings) (a .loop .i) (omega arith) (a .loop .inv .1)))
+
+returns : tie.Need-returns Inv-loop μ-loop
+returns c =
+    let a = c .before in
+    let s = a .before .before .before .args in
+    let len = a .loop .inv .0 in
+    rest-end ordered precedes (postingRule (s .w)) unusedPosting refl (λ x. refl) ordered-next noPosting (a .loop .ok) (s .t2 .used) (a .loop .last) (s .t2 .postings) (a .loop .i) (omega arith) (a .loop .inv .1)
 
 pub buffer-ok-spec : {M : Type 1} → statement M
 buffer-ok-spec =
     tie.close
     (tie.spec
-    returns
+    Inv-loop
+    μ-loop
+    (λ c. search needs)
+    (λ c. search needs)
     (λ c κs. search needs)
-    returns-2
+    loop-holds
+    (λ c. search needs)
+    (λ c. search needs)
     (λ c κs. search needs)
-    returns-3
     (λ c κs. search needs)
-    returns-4)
+    (λ c. search needs)
+    (λ c. search needs)
+    loop-again
+    returns)

@@ -1,11 +1,4 @@
-use mathlib.Core.Path.{_≡_, refl, sym, _∙_}
-use Prim.Native.Nat.{_-_}
-use native.Mathlib.Omega.{arith}
-use lib.ListN.{length, drop}
-use borrow.Author.Needs.{needs}
-use borrow.Author.Tests.{eq-eqb, ne-eqb}
-use Rattle.lists.specs.Lists.{elem}
-use Rattle.lists.proofs.Turns.{used-turn, used-end}
+use Rattle.lists.proofs.Prelude.{_≡_, refl, sym, _∙_, _-_, arith, length, drop, needs, eq-eqb, ne-eqb, elem, used-turn, used-end}
 use Rattle.state.specs.Views.{listed}
 use Rattle.state.proofs.ids.found_from.Statement.{statement}
 use Rattle.state.proofs.ids.found_from.Tie as tie

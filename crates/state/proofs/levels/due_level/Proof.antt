@@ -1,11 +1,4 @@
-use mathlib.Core.Bool.{true, false}
-use mathlib.Core.Path.{_≡_, refl, _∙_}
-use Prim.Native.Nat.{_-_, _≤_}
-use native.Mathlib.Omega.{arith}
-use lib.Dec.{leb}
-use borrow.Author.Needs.{needs}
-use borrow.Author.Tests.{le-leb, lt-leb}
-use Rattle.lists.specs.Lists.{keep, below}
+use Rattle.lists.proofs.Prelude.{true, false, _≡_, refl, _∙_, _-_, _≤_, arith, leb, needs, le-leb, lt-leb, keep, below}
 use Rattle.state.specs.Views.{finished}
 use Rattle.state.specs.Levels.{ofLevel, dueLevels, dueAt}
 use Rattle.state.proofs.Counts.{below-pred, below-zero}

@@ -1,12 +1,6 @@
-use mathlib.Core.List.{List}
-use mathlib.Core.Path.{_≡_, sym, ap, _∙_}
-use Prim.Native.Nat.{_+_, _-_, _≤_}
-use native.Mathlib.Omega.{arith}
-use lib.ListN.{length, getD}
-use borrow.Author.Needs.{needs}
+use Rattle.lists.proofs.Prelude.{List, _≡_, sym, ap, _∙_, _+_, _-_, _≤_, arith, length, getD, needs, unmapped}
 use Rattle.state.specs.Views.{finished, noPartition, padded}
 use Rattle.state.specs.declared.Partition.{Partition}
-use Rattle.lists.proofs.Arrays.{unmapped}
 use Rattle.lists.proofs.Padding.{closing, closing-none, closing-more, closing-done, length-without}
 use Rattle.state.proofs.Rows.{used-fits, used-form, records-form, same-parts}
 use Rattle.state.proofs.partition_list.cut.Statement.{statement}

@@ -1,8 +1,4 @@
-use mathlib.Core.Path.{_≡_, sym}
-use native.Mathlib.Omega.{arith}
-use lib.ListN.{length, List·getD-eq-default}
-use borrow.Author.Needs.{needs}
-use Rattle.lists.proofs.Arrays.{unmapped}
+use Rattle.lists.proofs.Prelude.{_≡_, sym, arith, length, List·getD-eq-default, needs, unmapped}
 use Rattle.state.specs.Views.{noPartition}
 use Rattle.state.proofs.partition_list.record_at.Statement.{statement}
 use Rattle.state.proofs.partition_list.record_at.Tie as tie

@@ -1,10 +1,5 @@
-use mathlib.Core.Path.{_≡_, ap, _∙_}
-use Prim.Native.Nat.{_+_, _-_}
-use native.Mathlib.Omega.{arith}
-use lib.ListN.{length}
-use borrow.Author.Needs.{needs}
+use Rattle.lists.proofs.Prelude.{_≡_, ap, _∙_, _+_, _-_, arith, length, needs, unmapped}
 use Rattle.state.specs.Views.{finished, partitionsOf}
-use Rattle.lists.proofs.Arrays.{unmapped}
 use Rattle.lists.proofs.Padding.{without, without-rest}
 use Rattle.state.proofs.Rows.{used-fits, used-form, finished-set, form-set}
 use Rattle.state.proofs.partition_list.replace.Statement.{statement}

@@ -1,8 +1,5 @@
 -- `terms::counting::copy` meets its contract. The invariant: the numbers before i are copied.
-use mathlib.Core.Path.{_≡_, refl}
-use Prim.Native.Nat.{_≤_, _-_}
-use native.Mathlib.Omega.{arith}
-use lib.ListN.{length, take, length-set}
+use Rattle.lists.proofs.Prelude.{_≡_, refl, _≤_, _-_, arith, length, take, length-set}
 use Rattle.terms.proofs.Counts.{copy-more, copy-done}
 use Rattle.terms.proofs.counting.copy.Statement.{statement}
 use Rattle.terms.proofs.counting.copy.Tie as tie

@@ -1,13 +1,11 @@
 -- `terms::counting::judge_term` meets its contract: what is told of the opened heads is what is read of the identifier.
-use mathlib.Core.Path.{sym, _∙_}
-use native.Mathlib.Omega.{arith}
+use Rattle.lists.proofs.Prelude.{sym, _∙_, arith, needs}
 use Rattle.words.specs.Words.{words, Below}
 use Rattle.words.proofs.Views.{words-below}
 use Rattle.state.specs.Views.{blocks, buffered, finished}
 use Rattle.state.proofs.Kept.{state-kept}
 use Rattle.terms.proofs.Opened.{all-readable, rule-sizes, rule-each}
 use Rattle.terms.proofs.Serving.{judged-bad, judged-good}
-use borrow.Author.Needs.{needs}
 use Rattle.terms.proofs.counting.judge_term.Statement.{statement}
 use Rattle.terms.proofs.counting.judge_term.Tie as tie
 

@@ -1,12 +1,8 @@
 -- `terms::counting::total_left` meets its contract. The invariant: `total` is what the heads before i have to come.
-use mathlib.Core.Path.{_≡_, refl}
-use Prim.Native.Nat.{_≤_, _-_, _*_}
-use native.Mathlib.Omega.{arith}
-use lib.ListN.{length}
-use Rattle.lists.specs.Lists.{totalBy}
+use Rattle.lists.proofs.Prelude.{_≡_, refl, _≤_, _-_, _*_, arith, length, totalBy}
 use Rattle.words.specs.Words.{words}
 use Rattle.kway.specs.Parts.{parts}
-use Rattle.terms.specs.Heads.{views}
+use Rattle.heads.specs.Heads.{views}
 use Rattle.terms.proofs.Counts.{left-few, left-more}
 use Rattle.terms.proofs.counting.total_left.Statement.{statement}
 use Rattle.terms.proofs.counting.total_left.Tie as tie

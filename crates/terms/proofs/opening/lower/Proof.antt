@@ -1,10 +1,5 @@
 -- `terms::opening::lower` meets its contract. The invariant: the postings before i have a lower identifier.
-use mathlib.Core.Path.{_≡_}
-use Prim.Native.Nat.{_≤_, _+_, _-_}
-use native.Mathlib.Omega.{arith}
-use borrow.Author.Needs.{needs}
-use lib.ListN.{length, drop}
-use Rattle.lists.proofs.Arrays.{unmapped}
+use Rattle.lists.proofs.Prelude.{_≡_, _≤_, _+_, _-_, arith, needs, length, drop, unmapped}
 use Rattle.state.specs.Views.{buffered}
 use Rattle.terms.specs.Opening.{lower}
 use Rattle.terms.proofs.Runs.{lower-here, lower-on, lower-end}

@@ -1,10 +1,7 @@
 -- `terms::opening::open_heads` meets its contract: the lists' heads, and the run's after them.
-use mathlib.Core.Path.{_≡_, _∙_}
-use Prim.Native.Nat.{_+_, _-_, _*_}
-use native.Mathlib.Omega.{arith}
+use Rattle.lists.proofs.Prelude.{_≡_, _∙_, _+_, _-_, _*_, arith, needs}
 use Rattle.words.specs.Words.{words}
 use Rattle.terms.proofs.Puts.{opened}
-use borrow.Author.Needs.{needs}
 use Rattle.terms.proofs.opening.open_heads.Statement.{statement}
 use Rattle.terms.proofs.opening.open_heads.Tie as tie
 

@@ -1,11 +1,5 @@
 -- `terms::opening::open_lists` meets its contract. The invariant: the first i heads are those of the identifier's lists in the first i partitions.
-use mathlib.Core.List.{map}
-use mathlib.Core.Path.{_≡_, refl, ap, _∙_}
-use Prim.Native.Nat.{_≤_, _-_, _+_, _*_}
-use native.Mathlib.Omega.{arith}
-use lib.ListN.{length, drop, length-drop}
-use lib.Seq.{length-take-le}
-use Rattle.lists.proofs.Arrays.{unmapped, of-used}
+use Rattle.lists.proofs.Prelude.{map, _≡_, refl, ap, _∙_, _≤_, _-_, _+_, _*_, arith, length, drop, length-drop, length-take-le, unmapped, of-used, needs}
 use Rattle.words.specs.Words.{words}
 use Rattle.postings.specs.Pack.{posted}
 use Rattle.postings.specs.Sums.{under}
@@ -13,10 +7,9 @@ use Rattle.state.specs.Views.{noPartition}
 use Rattle.partitions.specs.Reading.{postingsOf}
 use Rattle.partitions.specs.Terms.{Readable}
 use Rattle.kway.proofs.Parts.{put-length}
-use Rattle.terms.specs.Heads.{Kept}
+use Rattle.heads.specs.Heads.{Kept}
 use Rattle.terms.specs.Opening.{listed}
 use Rattle.terms.proofs.Puts.{place-lies, place-comes, Put, put-first, put-next}
-use borrow.Author.Needs.{needs}
 use Rattle.terms.proofs.opening.open_lists.Statement.{statement}
 use Rattle.terms.proofs.opening.open_lists.Tie as tie
 

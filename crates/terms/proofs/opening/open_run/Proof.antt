@@ -1,13 +1,8 @@
 -- `terms::opening::open_run` meets its contract: in an ordered list the postings of an identifier lie between two lower bounds.
-use mathlib.Core.List.{map}
-use mathlib.Core.Path.{_≡_, ap, _∙_}
-use native.Mathlib.Omega.{arith}
-use lib.ListN.{length}
-use Rattle.lists.proofs.Arrays.{unmapped}
+use Rattle.lists.proofs.Prelude.{map, _≡_, ap, _∙_, arith, length, unmapped, needs}
 use Rattle.words.specs.Words.{words}
 use Rattle.postings.specs.Pack.{posted}
 use Rattle.terms.proofs.Runs.{run-lies, run-lies-in, run-under}
-use borrow.Author.Needs.{needs}
 use Rattle.terms.proofs.opening.open_run.Statement.{statement}
 use Rattle.terms.proofs.opening.open_run.Tie as tie
 

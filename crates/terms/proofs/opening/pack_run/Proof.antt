@@ -1,17 +1,11 @@
 -- `terms::opening::pack_run` meets its contract. The invariant: the words before i are those of the postings before i.
-use mathlib.Core.List.{map}
-use mathlib.Core.Path.{_≡_, refl}
-use Prim.Native.Nat.{_≤_, _-_}
-use native.Mathlib.Omega.{arith}
+use Rattle.lists.proofs.Prelude.{map, _≡_, refl, _≤_, _-_, arith, length, getD, take, length-set, unmapped, needs}
 use mir.Facts.{toZ-ofZ}
 use mir.Syntax.{w16}
 use mir.Val.{SFits}
-use lib.ListN.{length, getD, take, length-set}
-use Rattle.lists.proofs.Arrays.{unmapped}
 use Rattle.state.specs.Views.{noPosting}
 use Rattle.terms.specs.Opening.{wordFor}
 use Rattle.terms.proofs.Runs.{size-fits, pack-more}
-use borrow.Author.Needs.{needs}
 use Rattle.terms.proofs.opening.pack_run.Statement.{statement}
 use Rattle.terms.proofs.opening.pack_run.Tie as tie
 

@@ -1,8 +1,6 @@
 -- `terms::scoring::count_of` meets its contract: below 0 nothing, else the number itself.
 use mir.Facts.{toZ-ofZ}
-use native.Mathlib.Omega.{arith}
-use lib.IntN.{natAbs}
-use borrow.Author.Tests.{leb-true}
+use Rattle.lists.proofs.Prelude.{arith, natAbs, leb-true}
 use Rattle.postings.proofs.Signs.{pos-cast}
 use Rattle.state.proofs.Signs.{above-neg, above-pos}
 use Rattle.terms.proofs.scoring.count_of.Statement.{statement}

@@ -1,13 +1,10 @@
 -- `terms::scoring::take_terms` meets its contract. The invariant: the terms before j are moved, those from j on are as they were.
-use mathlib.Core.Path.{_≡_}
-use Prim.Native.Nat.{_≤_, _+_, _*_, _-_}
-use native.Mathlib.Omega.{arith}
+use Rattle.lists.proofs.Prelude.{_≡_, _≤_, _+_, _*_, _-_, arith, needs}
 use Rattle.words.specs.Words.{words}
 use Rattle.kway.specs.Parts.{parts}
 use Rattle.kway.proofs.Parts.{ends, width, all-at}
 use Rattle.terms.specs.Terms.{KeptGroup}
 use Rattle.terms.proofs.Joined.{Joined, joined-none, joined-more, Due, due-all}
-use borrow.Author.Needs.{needs}
 use Rattle.terms.proofs.scoring.take_terms.Statement.{statement}
 use Rattle.terms.proofs.scoring.take_terms.Tie as tie
 
@@ -29,25 +26,25 @@ loop-holds c = (omega arith, joined-none _ _ _ _ _)
 mul-at : tie.Need-mul-at Inv-loop μ-loop
 mul-at c =
     let s = c .before .before .before .before .before in
-    let e = ends (4 * s .args .m + 2) (c .before .loop .j) (s .args .g) (c .loop-test .taken) in
+    let e = ends (4 * s .args .m + 4) (c .before .loop .j) (s .args .g) (c .loop-test .taken) in
     omega (arith, e, s .pre .0, s .pre .1, s .pre .2)
 
 add-end : tie.Need-add-end Inv-loop μ-loop
 add-end c =
     let s = c .before .before .before .before .before in
-    let e = ends (4 * s .args .m + 2) (c .before .loop .j) (s .args .g) (c .loop-test .taken) in
+    let e = ends (4 * s .args .m + 4) (c .before .loop .j) (s .args .g) (c .loop-test .taken) in
     omega (arith, e, s .pre .0, s .pre .1, s .pre .2)
 
 mul-take-term : tie.Need-mul-take-term Inv-loop μ-loop
 mul-take-term c =
     let s = c .before .before .before .before .before in
-    let e = ends (4 * s .args .m + 2) (c .before .loop .j) (s .args .g) (c .loop-test .taken) in
+    let e = ends (4 * s .args .m + 4) (c .before .loop .j) (s .args .g) (c .loop-test .taken) in
     omega (arith, e, s .pre .0, s .pre .1, s .pre .2)
 
 part-take-term-end : tie.Need-part-take-term-end Inv-loop μ-loop
 part-take-term-end c =
     let s = c .before .before .before .before .before in
-    let e = ends (4 * s .args .m + 2) (c .before .loop .j) (s .args .g) (c .loop-test .taken) in
+    let e = ends (4 * s .args .m + 4) (c .before .loop .j) (s .args .g) (c .loop-test .taken) in
     omega (arith, e, c .before .loop .inv .1 .heads .long, s .pre .0)
 
 take-term-requires : tie.Need-take-term-requires Inv-loop μ-loop
@@ -59,9 +56,9 @@ take-term-requires c κs =
     let m = s .args .m in
     let j = a .loop .j in
     let H = s .args .heads .now in
-    let k = all-at (KeptGroup W R m) (4 * m + 2) (s .args .g) H (s .pre .5) j (c .before .loop-test .taken) in
-    let d = all-at (Due W R m (s .args .key)) (4 * m + 2) (s .args .g) H (due-all W R m (s .args .key) 0 (parts (4 * m + 2) (s .args .g) H) (s .pre .6) (s .pre .7)) j (c .before .loop-test .taken) in
-    rw (width (4 * m + 2) j, a .loop .inv .1 .heads .later j (omega arith)) (k, s .pre .2, s .pre .4, d .0, d .1)
+    let k = all-at (KeptGroup W R m) (4 * m + 4) (s .args .g) H (s .pre .5) j (c .before .loop-test .taken) in
+    let d = all-at (Due W R m (s .args .key)) (4 * m + 4) (s .args .g) H (due-all W R m (s .args .key) 0 (parts (4 * m + 4) (s .args .g) H) (s .pre .6) (s .pre .7)) j (c .before .loop-test .taken) in
+    rw (width (4 * m + 4) j, a .loop .inv .1 .heads .later j (omega arith)) (k, s .pre .2, s .pre .4, d .0, d .1)
 
 add-score : tie.Need-add-score Inv-loop μ-loop
 add-score c = omega (arith, c .before .before .before .take-term .ensures .1 .1, c .before .before .before .before .before .before .loop .inv .1 .few, c .before .before .before .before .before .before .loop .inv .0, c .before .before .before .before .before .before .before .before .before .before .pre .3)
@@ -75,9 +72,9 @@ loop-again c =
     let m = s .args .m in
     let j = a .loop .j in
     let test = c .before .before .before .before .before .before .before .loop-test .taken in
-    let e = ends (4 * m + 2) j (s .args .g) test in
+    let e = ends (4 * m + 4) j (s .args .g) test in
     let t = c .before .before .before .before .before .take-term in
-    let u = rw (width (4 * m + 2) j) at (t .ensures) in (
+    let u = rw (width (4 * m + 4) j) at (t .ensures) in (
       omega (arith, test),
       rw (c .before .either .ensures, c .larger .ensures)
           (joined-more W R m (s .args .key) (s .args .heads .now) j (a .loop .heads) _ _ _ (a .loop .inv .1) (omega (arith, e, s .pre .0))

@@ -1,7 +1,5 @@
 -- `terms::scoring::top_terms` meets its contract. The invariant: `top` is that of the terms before j.
-use mathlib.Core.Path.{_≡_, refl, _∙_}
-use Prim.Native.Nat.{_≤_, _+_, _*_, _-_}
-use native.Mathlib.Omega.{arith}
+use Rattle.lists.proofs.Prelude.{_≡_, refl, _∙_, _≤_, _+_, _*_, _-_, arith, needs}
 use Rattle.words.specs.Words.{words}
 use Rattle.keyed.specs.Groups.{topAll}
 use Rattle.kway.specs.Parts.{parts}
@@ -9,7 +7,6 @@ use Rattle.kway.proofs.Parts.{ends, all-at}
 use Rattle.terms.specs.Terms.{KeptGroup, termsOf}
 use Rattle.terms.specs.Scores.{groupsIn}
 use Rattle.terms.proofs.Joined.{terms-turn, group-reach}
-use borrow.Author.Needs.{needs}
 use Rattle.terms.proofs.scoring.top_terms.Statement.{statement}
 use Rattle.terms.proofs.scoring.top_terms.Tie as tie
 
@@ -32,19 +29,19 @@ loop-holds c = (omega arith, refl)
 mul-at : tie.Need-mul-at Inv-loop μ-loop
 mul-at c =
     let s = c .before .before .before .before .before in
-    let e = ends (4 * s .args .m + 2) (c .before .loop .j) (s .args .g) (c .loop-test .taken) in
+    let e = ends (4 * s .args .m + 4) (c .before .loop .j) (s .args .g) (c .loop-test .taken) in
     omega (arith, e, s .pre .0, s .pre .1, s .pre .2)
 
 mul-larger : tie.Need-mul-larger Inv-loop μ-loop
 mul-larger c =
     let s = c .before .before .before .before .before in
-    let e = ends (4 * s .args .m + 2) (c .before .loop .j) (s .args .g) (c .loop-test .taken) in
+    let e = ends (4 * s .args .m + 4) (c .before .loop .j) (s .args .g) (c .loop-test .taken) in
     omega (arith, e, s .pre .0, s .pre .1, s .pre .2)
 
 shared-slice-read-larger : tie.Need-shared-slice-read-larger Inv-loop μ-loop
 shared-slice-read-larger c =
     let s = c .before .before .before .before .before .before in
-    let e = ends (4 * s .args .m + 2) (c .before .before .loop .j) (s .args .g) (c .before .loop-test .taken) in
+    let e = ends (4 * s .args .m + 4) (c .before .before .loop .j) (s .args .g) (c .before .loop-test .taken) in
     omega (arith, e, s .pre .0, s .pre .1, s .pre .2)
 
 loop-again : tie.Need-loop-again Inv-loop μ-loop
@@ -57,7 +54,7 @@ loop-again c =
     let j = a .loop .j in
     let H = s .args .heads .now in
     let test = c .before .before .loop-test .taken in
-    (omega (arith, test), c .larger .ensures ∙ terms-turn W R m H j (a .loop .top) _ (group-reach W R m H j (all-at (KeptGroup W R m) (4 * m + 2) (s .args .g) H (s .pre .3) j test)) (a .loop .inv .1))
+    (omega (arith, test), c .larger .ensures ∙ terms-turn W R m H j (a .loop .top) _ (group-reach W R m H j (all-at (KeptGroup W R m) (4 * m + 4) (s .args .g) H (s .pre .3) j test)) (a .loop .inv .1))
 
 returns : tie.Need-returns Inv-loop μ-loop
 returns c = let e : c .before .loop .j ≡ c .before .before .before .before .before .args .g = omega arith in rw e at (c .before .loop .inv .1)

@@ -1,8 +1,5 @@
 -- `texts::writing::put_bytes` meets its contract.
-use Prim.Native.Nat.{_+_, _≤_, _-_}
-use borrow.Author.Needs.{needs}
-use native.Mathlib.Omega.{arith}
-use lib.ListN.{length}
+use Rattle.lists.proofs.Prelude.{_+_, _≤_, _-_, needs, arith, length}
 use Rattle.texts.proofs.Appending.{Copying, copy-none, copy-more, copy-all}
 use Rattle.texts.proofs.writing.put_bytes.Statement.{statement}
 use Rattle.texts.proofs.writing.put_bytes.Tie as tie

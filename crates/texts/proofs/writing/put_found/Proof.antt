@@ -1,12 +1,7 @@
 -- `texts::writing::put_found` meets its contract.
-use mathlib.Core.Path.{_≡_}
-use native.Mathlib.Omega.{arith}
-use lib.ListN.{length, take}
-use lib.Seq.{length-take-le}
-use Rattle.lists.proofs.Arrays.{unmapped}
+use Rattle.lists.proofs.Prelude.{_≡_, arith, length, take, length-take-le, unmapped, needs}
 use Rattle.texts.specs.Texts.{answerText}
 use Rattle.texts.proofs.Appending.{wrote-then, says-all}
-use borrow.Author.Needs.{needs}
 use Rattle.texts.proofs.writing.put_found.Statement.{statement}
 use Rattle.texts.proofs.writing.put_found.Tie as tie
 

@@ -1,9 +1,5 @@
 -- `texts::writing::put_hits` meets its contract.
-use mathlib.Core.Path.{_≡_}
-use Prim.Native.Nat.{_-_}
-use native.Mathlib.Omega.{arith}
-use borrow.Author.Needs.{needs}
-use Rattle.lists.proofs.Arrays.{unmapped}
+use Rattle.lists.proofs.Prelude.{_≡_, _-_, arith, needs, unmapped}
 use Rattle.texts.proofs.Hits.{Listing, list-none, list-more}
 use Rattle.texts.proofs.writing.put_hits.Statement.{statement}
 use Rattle.texts.proofs.writing.put_hits.Tie as tie

@@ -1,7 +1,6 @@
 -- `texts::writing::put_line` meets its contract.
-use native.Mathlib.Omega.{arith}
+use Rattle.lists.proofs.Prelude.{arith, needs}
 use Rattle.texts.proofs.Appending.{wrote-then, says-all}
-use borrow.Author.Needs.{needs}
 use Rattle.texts.proofs.writing.put_line.Statement.{statement}
 use Rattle.texts.proofs.writing.put_line.Tie as tie
 

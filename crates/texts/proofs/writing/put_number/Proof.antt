@@ -1,9 +1,7 @@
 -- `texts::writing::put_number` meets its contract.
-use mathlib.Core.Path.{_∙_}
-use native.Mathlib.Omega.{arith}
+use Rattle.lists.proofs.Prelude.{_∙_, arith, needs}
 use Rattle.texts.proofs.Decimals.{fewest-decimal, few-digits}
 use Rattle.texts.proofs.Appending.{wrote-as}
-use borrow.Author.Needs.{needs}
 use Rattle.texts.proofs.writing.put_number.Statement.{statement}
 use Rattle.texts.proofs.writing.put_number.Tie as tie
 

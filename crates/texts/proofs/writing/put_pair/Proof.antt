@@ -1,7 +1,6 @@
 -- `texts::writing::put_pair` meets its contract.
-use native.Mathlib.Omega.{arith}
+use Rattle.lists.proofs.Prelude.{arith, needs}
 use Rattle.texts.proofs.Appending.{wrote-then}
-use borrow.Author.Needs.{needs}
 use Rattle.texts.proofs.writing.put_pair.Statement.{statement}
 use Rattle.texts.proofs.writing.put_pair.Tie as tie
 

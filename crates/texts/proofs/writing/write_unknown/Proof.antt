@@ -1,8 +1,7 @@
 -- `texts::writing::write_unknown` meets its contract.
-use native.Mathlib.Omega.{arith}
+use Rattle.lists.proofs.Prelude.{arith, needs}
 use Rattle.texts.specs.Texts.{unknownText}
 use Rattle.texts.proofs.Appending.{wrote-then, says-all}
-use borrow.Author.Needs.{needs}
 use Rattle.texts.proofs.writing.write_unknown.Statement.{statement}
 use Rattle.texts.proofs.writing.write_unknown.Tie as tie
 

@@ -1,13 +1,5 @@
 -- `flushing::finished_blocks` meets its contract. The invariant: the total so far and the blocks of the records not passed make the whole.
-use mathlib.Core.List.{List}
-use mathlib.Core.Path.{_≡_}
-use Prim.Native.Nat.{_+_, _*_, _-_, _≤_}
-use native.Mathlib.Omega.{arith}
-use lib.ListN.{length, drop}
-use borrow.Author.Needs.{needs}
-use Rattle.lists.specs.Lists.{totalBy}
-use Rattle.lists.proofs.Arrays.{unmapped}
-use Rattle.lists.proofs.Turns.{used-turn, used-end}
+use Rattle.lists.proofs.Prelude.{List, _≡_, _+_, _*_, _-_, _≤_, arith, length, drop, needs, totalBy, unmapped, used-turn, used-end}
 use Rattle.state.specs.declared.Partition.{Partition}
 use Rattle.state.specs.Views.{finished, noPartition}
 use Rattle.card.specs.Chains.{blocksFor}
@@ -15,7 +7,7 @@ use Rattle.windows.proofs.flushing.finished_blocks.Statement.{statement
 use Rattle.windows.proofs.flushing.finished_blocks.Tie as tie
 
 abbrev Inv-loop : tie.InvT-loop
-Inv-loop p n i₀ total₀ i total = (length (p .records) ≡ 51) × (total ≤ 1049603 * i) × (totalBy (λ q. blocksFor (q .length)) (finished p) ≡ total + totalBy (λ q. blocksFor (q .length)) (drop i (finished p))) × (i ≤ n)
+Inv-loop p n i₀ total₀ i total = (length (p .records) ≡ 51) × (total ≤ 4294967295 * i) × (totalBy (λ q. blocksFor (q .length)) (finished p) ≡ total + totalBy (λ q. blocksFor (q .length)) (drop i (finished p))) × (i ≤ n)
 
 abbrev μ-loop : tie.MeasureT-loop
 μ-loop p n i₀ total₀ i total = n - i
@@ -24,7 +16,9 @@ loop-holds : tie.Need-loop-holds Inv-loop μ-loop
 loop-holds c = (search (unmapped, needs), omega arith, omega arith, omega arith)
 
 add-total : tie.Need-add-total Inv-loop μ-loop
-add-total c = omega (arith, c .blocks-for .ensures .0, c .before .before .before .loop .inv .1, c .before .before .before .before .pre)
+add-total c =
+    let a = c .before .before .before in
+    omega (arith, a .loop .inv .1, a .before .pre)
 
 loop-again : tie.Need-loop-again Inv-loop μ-loop
 loop-again c =
@@ -32,7 +26,7 @@ loop-again c =
     let p = a .before .args .t1 in
     let len = a .loop .inv .0 in
     let whole = used-turn (λ (l : List Partition). a .loop .total + totalBy (λ q. blocksFor (q .length)) l) (p .records) (p .used) (a .loop .i) noPartition (omega arith) (omega arith) (a .loop .inv .2) in
-    (len, omega (arith, c .blocks-for .ensures .0, a .loop .inv .1), omega (arith, c .blocks-for .ensures .1, whole), omega arith)
+    (len, omega (arith, a .loop .inv .1), omega (arith, c .blocks-for .ensures, whole), omega arith)
 
 returns : tie.Need-returns Inv-loop μ-loop
 returns c =
@@ -52,6 +46,7 @@ finished-blocks-spec =
     (λ c. search needs)
     (λ c. search needs)
     (λ c κs. search needs)
+    (λ c. search needs)
     add-total
     (λ c. search needs)
     (λ c. search needs)

@@ -1,11 +1,4 @@
-use mathlib.Core.Path.{_≡_, sym, ap, _∙_}
-use Prim.Native.Nat.{ℕ}
-use native.Mathlib.Omega.{arith}
-use lib.Dec.{eqb}
-use lib.ListN.{length}
-use lib.Seq.{length-take-le}
-use borrow.Author.Needs.{needs}
-use Rattle.lists.proofs.Arrays.{unmapped}
+use Rattle.lists.proofs.Prelude.{_≡_, sym, ap, _∙_, ℕ, arith, eqb, length, length-take-le, needs, unmapped}
 use Rattle.state.specs.Views.{buffered}
 use Rattle.windows.proofs.Targets.{empty-length}
 use Rattle.windows.proofs.flushing.is_empty.Statement.{statement}

@@ -1,0 +1,122 @@
+-- What counting an event asks for, from its admission and its flush's target.
+use Rattle.lists.proofs.Prelude.{Bool, true, false, _&&_, not, List, [], _≡_, refl, sym, ap, subst, _∙_, ℕ, zero, suc, _/_, _<_, _≤_, arith, eqb, leb, length, length-take, leb-true, leb-false, eqb-true, eqb-false, le-leb, lt-leb, not-false, any, elem, empty, by-test}
+use Rattle.postings.specs.Order.{samePair}
+use Rattle.state.specs.declared.State.{State}
+use Rattle.state.specs.Views.{registerSize, listed, buffered}
+use Rattle.state.specs.Probe.{Probe}
+use Rattle.state.proofs.Kept.{rules-of, state-kept}
+use Rattle.state.proofs.Forms.{buffer-rule}
+use Rattle.identifiers.specs.Names.{Name, numberOf}
+use Rattle.identifiers.specs.Register.{names, registerRule}
+use Rattle.identifiers.proofs.Names.{number-within}
+use Rattle.identifiers.proofs.Entries.{names-within, length-entries, rule-formed}
+use Rattle.windows.specs.declared.Target.{Target}
+use Rattle.windows.specs.Flush.{flushedTo}
+use Rattle.windows.specs.Calls.{isNew, once, eventFlushes}
+use Rattle.windows.specs.Targets.{Aimed}
+use Rattle.events.specs.Verdicts.{Admitted, Countable, Placed}
+use Rattle.windows.proofs.Targets.{empty-length, not-wanted-only}
+use Rattle.admission.proofs.Laws.{register-size}
+use Rattle.events.proofs.Verdicts.{events-left}
+
+-- ---- the identifier's place in the register
+
+module _ (s : State) (register : List ℕ) (n : Name) (rule : registerRule register ≡ true) (size : length register ≡ s .lengths .register) where
+  -- a new identifier meets a full register exactly when its number is no place of it
+  pub placed : (isNew register n && leb (registerSize s) (length (names register))) ≡ leb (length register / 65) (numberOf (names register) n)
+  placed =
+      let i = numberOf (names register) n in
+      let m = length (names register) in
+      let a : i ≤ m = number-within (names register) n in
+      let b : m ≤ length register / 65 = rw (length-entries register) at (names-within register (rule-formed register rule)) in
+      let c : registerSize s ≡ length register / 65 = ap (λ (k : ℕ). k / 65) (sym size) in
+      by-test (leb (length register / 65) i)
+      (λ y. let h : length register / 65 ≤ i = leb-true _ _ y in rw (c, y, le-leb m i (omega arith), le-leb (length register / 65) m (omega arith)))
+      (λ f. let h : i < length register / 65 = leb-false _ _ f in
+      by-test (leb m i)
+      (λ z. let k : m ≤ i = leb-true _ _ z in rw (c, f, z, lt-leb (length register / 65) m (omega arith)))
+      (λ z. rw (f, z)))
+
+-- ---- room in the buffer
+
+-- a full buffer that has the pair, or one that is not full, needs no flush
+room-plain : (len : ℕ) (there : Bool) → len ≤ 128 → (eqb len 128 && not there) ≡ false → there ≡ false → len < 128
+room-plain len there h e f =
+    by-test (eqb len 128)
+    (λ y. let g : not there ≡ false = rw y at e in
+    let z : true ≡ false = sym (not-false there g) ∙ f in
+    let o : _≡_ {A = ℕ} 0 1 = cc in
+    absurd (omega arith))
+    (λ n. let z = eqb-false len 128 n in omega arith)
+
+-- a target judged with the test as the code makes it
+pub judged : (s : State) (i : ℕ) (card : List ℕ) (wanted : Bool) (t : Target)
+    → wanted ≡ (eqb (length (buffered (s .buffer))) 128 && not (any (samePair (once s i)) (buffered (s .buffer)))) → Aimed wanted s card t → Aimed (eventFlushes s i) s card t
+unfolding eventFlushes
+judged s i card wanted t e a = subst (λ (w : Bool). Aimed w s card t) e a
+
+-- ---- what can be counted
+
+and-none : (a b : Bool) → (not a && b) ≡ false → a ≡ false → b ≡ false
+and-none true b e f = let z : _≡_ {A = ℕ} 0 1 = cc in absurd (omega arith)
+and-none false b e f = e
+
+open-some : (c : ℕ) → not (eqb c 0) ≡ true → 1 ≤ c
+open-some zero e = let z : _≡_ {A = ℕ} 0 1 = cc in absurd (omega arith)
+open-some (suc c) e = omega arith
+
+module _ (p : Probe) (n : Name) (i : ℕ) (a : Admitted p n i) where
+  -- its number is a place of the register
+  number-placed : i < length (p .register) / 65
+  number-placed = rw (a .number) (leb-false _ _ (sym (placed (p .state) (p .register) n (a .formed) (register-size (p .state .lengths) (p .card) (p .register) (a .lengths))) ∙ a .place))
+
+  -- so its entry lies within the register
+  pub in-register : Placed (p .register) n i
+  in-register = record { formed = a .formed; good = a .good; number = a .number; inside = omega (arith, number-placed) }
+
+  number-small : i ≤ 1023
+  number-small =
+      let k = state-kept (p .state) (a .rule) in
+      let e : length (p .register) / 65 ≡ p .state .lengths .register / 65 = ap (λ (m : ℕ). m / 65) (register-size (p .state .lengths) (p .card) (p .register) (a .lengths)) in
+      omega (arith, number-placed, k .lengths .mostEntries)
+
+  listed-room : elem i (listed (p .state .listed)) ≡ false → length (listed (p .state .listed)) < 64
+  listed-room f = leb-false _ _ (and-none _ _ (a .room) (rw (a .number) at f))
+
+  -- without a flush
+  pub countable-plain : Aimed (eventFlushes (p .state) i) (p .state) (p .card) Target.Nothing → Countable (p .state) i
+  unfolding eventFlushes
+  countable-plain e =
+      let s = p .state in
+      let r = rules-of s (a .rule) in
+      let k = state-kept s (a .rule) in
+      let short : length (buffered (s .buffer)) ≤ 128 = omega (arith, k .buffer .used, length-take (s .buffer .used) (s .buffer .postings)) in
+      record {
+        windowsKept = r .windows;
+        listedKept = r .listed;
+        bufferKept = r .buffer;
+        current = open-some (s .windows .current) (a .current);
+        events = events-left p n i a;
+        small = number-small;
+        identifiers = listed-room;
+        pairs = λ f. by-test (empty (buffered (s .buffer)))
+            (λ y. let z : length (buffered (s .buffer)) ≡ 0 = eqb-true _ _ (empty-length (buffered (s .buffer)) ∙ y) in omega arith)
+            (λ m. room-plain (length (buffered (s .buffer))) _ short (not-wanted-only _ _ (e .1) m) f);
+      }
+
+  -- after a flush, which leaves an empty buffer
+  pub countable-flushed : (b : ℕ) → Countable (flushedTo (p .state) b) i
+  unfolding flushedTo
+  countable-flushed b =
+      let s = p .state in
+      let r = rules-of s (a .rule) in
+      record {
+        windowsKept = r .windows;
+        listedKept = r .listed;
+        bufferKept = buffer-rule (s .windows) [] (omega arith) refl refl;
+        current = open-some (s .windows .current) (a .current);
+        events = events-left p n i a;
+        small = number-small;
+        identifiers = listed-room;
+        pairs = λ f. omega arith;
+      }

@@ -1,0 +1,4 @@
+pub mod Verdicts
+pub mod Counts
+pub mod Turns
+pub mod Pairs

@@ -1,0 +1,46 @@
+// An event: judged first, and then counted.
+use answers::Refusal;
+use state::State;
+use windows::Replied;
+use windows::Target;
+ghost use Rattle.windows.specs.Promises.{probeOf, Counts};
+ghost use Rattle.events.specs.Verdicts.{Admitted};
+
+mod counting; // counting an event that is judged
+mod judging; // judging an event
+
+// What an event comes to before anything is written: its identifier's number, or a refusal.
+pub enum Verdict {
+    Number(u16),
+    Refused(Refusal),
+}
+
+// Counts an event that refusals 1 to 9 do not stop, with a flush first where its pair is new to a full buffer.
+fn count(s: State, card: &mut [u8], register: &mut [u8], id: &[u8], i: u16) -> Replied
+    requires { ⌜ Admitted (probeOf s (now card) (now register)) (now id) i ⌝ }
+    ensures { λ r. ⌜ Counts s (now (card .entry)) (now (register .entry)) (now (id .entry)) r (now (card .exit)) (now (register .exit)) ⌝ }
+{
+    let wanted = counting::must_flush(s.buffer, i, s.windows.current);
+    let target = windows::flushing::target_of(s, card, wanted);
+    match target {
+        Target::Refused(why) => windows::refuse(s, why),
+        Target::Block(b) => counting::enter(
+            windows::flushing::flush_to(s, card, b),
+            register,
+            id,
+            i,
+        ),
+        Target::Nothing => counting::enter(s, register, id, i),
+    }
+}
+
+// One event of an identifier in the open window. The register gets a new identifier only where the event is counted.
+pub fn event(s: State, card: &mut [u8], register: &mut [u8], id: &[u8]) -> Replied
+    ensures { λ r. ⌜ Counts s (now (card .entry)) (now (register .entry)) (now (id .entry)) r (now (card .exit)) (now (register .exit)) ⌝ }
+{
+    let verdict = judging::judge_event(s, card, register, id);
+    match verdict {
+        Verdict::Refused(why) => windows::refuse(s, why),
+        Verdict::Number(i) => count(s, card, register, id, i),
+    }
+}
