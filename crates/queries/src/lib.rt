@@ -189,7 +189,8 @@ fn search_admitted(s: State, card: &[u8], register: &[u8], ids: &[&[u8]], places
     requires { ⌜ (stateRule s ≡ true) × (length (now card) ≡ s .lengths .card) × (length (now register) ≡ s .lengths .register) × (registerRule (now register) ≡ true) ⌝ }
     ensures { λ r. ⌜ AsksValue s (now (card .entry)) (now (register .entry)) (map now (now (ids .entry))) places r ⌝ }
 {
-    if !partitions::partitions_ok(card, s.lengths.card / 4096, s.partitions) {
+    let ps = s.partitions;
+    if !partitions::partitions_ok(card, s.lengths.card / 4096, ps) {
         return refuse(Refusal::Malformed);
     }
     if places == 32 {

@@ -12,22 +12,22 @@ use Rattle.queries.proofs.search_admitted.Tie as tie
 
 partitions-ok-requires : tie.Need-partitions-ok-requires
 partitions-ok-requires c κs =
-    let s = c .before .before .before in
+    let s = c .before .before .before .before in
     let k = state-kept (s .args .s) (s .pre .0) in
     (omega (arith, length-words (s .args .card .now), s .pre .1, k .lengths .card), k .lengths .mostBlocks, k .partitions .used, k .partitions .rules)
 
 returns : tie.Need-returns
 returns c =
-    let s = c .before .before .before .before .before .before in
+    let s = c .before .before .before .before .before .before .before in
     let a = s .args in
     let ns = map now (a .ids .now) in
     refused-as (probeOf (a .s) (a .card .now) (a .register .now)) ns (a .places) Malformed _ (c .refuse .ensures)
     (finds-partitions (a .s) (a .card .now) (a .register .now) ns (a .places) (s .pre .0) (s .pre .1) (s .pre .2) (s .pre .3) (sym (c .before .before .partitions-ok .ensures) ∙ not-true _ (c .before .if1 .taken)))
 
 -- past the partitions
-sound : (c : tie.Else1) → let a = c .before .before .before .before .before .args in Sound (a .s) (a .card .now) (a .register .now)
+sound : (c : tie.Else1) → let a = c .before .before .before .before .before .before .args in Sound (a .s) (a .card .now) (a .register .now)
 sound c =
-    let p = c .before .before .before .before .before .pre in
+    let p = c .before .before .before .before .before .before .pre in
     record { rule = p .0; card = p .1; register = p .2; names = p .3; partitions = sym (c .before .partitions-ok .ensures) ∙ not-false _ (c .if1 .left) }
 
 search-sound-requires : tie.Need-search-sound-requires
