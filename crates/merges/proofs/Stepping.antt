@@ -1,10 +1,12 @@
 -- A step as its definition says: what is judged, the refusals in their order, and what is left.
-use Rattle.lists.proofs.Prelude.{Bool, true, false, cond, not, _&&_, _||_, List, [], _∷_, _≡_, refl, sym, ap, _∙_, ℕ, zero, suc, _-_, _*_, _%_, _<_, _≤_, arith, eqb, leb, ltb, length, getD, take, eq-eqb, ne-eqb, eqb-true, leb-true, leb-false, lt-ltb, le-ltb, not-true, not-false, AllOf, every, empty, by-test, and-left, and-right, and-both, never}
+use Rattle.lists.proofs.Prelude.{Bool, true, false, cond, not, _&&_, _||_, List, [], _∷_, _≡_, refl, sym, ap, _∙_, ℕ, zero, suc, _*_, _%_, _<_, _≤_, arith, eqb, leb, ltb, length, getD, take, eq-eqb, ne-eqb, eqb-true, leb-true, leb-false, lt-ltb, le-ltb, not-true, not-false, AllOf, every, empty, by-test, and-left, and-right, and-both, never}
 use Rattle.words.specs.Words.{words, bytes}
 use Rattle.words.proofs.Views.{length-words}
 use Rattle.postings.specs.declared.Posting.{Posting}
 use Rattle.postings.specs.Merge.{pairs}
-use Rattle.answers.specs.Answers.{done, refused}
+use Rattle.answers.specs.declared.Refusal.{Refusal}
+use Rattle.answers.specs.Answers.{refuse, done, refused}
+use Rattle.answers.specs.Numbers.{refusalNumber}
 use Rattle.state.specs.declared.Partition.{Partition}
 use Rattle.state.specs.declared.Partitions.{Partitions}
 use Rattle.state.specs.declared.State.{State}
@@ -25,16 +27,38 @@ use Rattle.inputs.specs.declared.Batch.{Batch}
 use Rattle.inputs.specs.Judging.{inputsFormed, judgedOf, Small, allInRange}
 use Rattle.inputs.proofs.Judged.{judged-totals}
 use Rattle.drafts.specs.Drafted.{standsApart}
+use Rattle.admission.specs.Admission.{firstOf, cardTests}
+use Rattle.admission.proofs.Laws.{barred, granted}
 use Rattle.windows.specs.Promises.{Gives, storeOf}
 use Rattle.windows.proofs.Outcomes.{stopped, passed, given}
+use Rattle.windows.proofs.Flushes.{gives-by, refuses}
 use Rattle.merges.specs.declared.Output.{Output}
 use Rattle.merges.specs.Merging.{dueIn, inputs, taking, result, outputLength, outputBlocks, isLast}
-use Rattle.merges.specs.Step.{inProgress, outputRule, stepFormed, outputOn, lastOf, steppedOn, writtenOn, stepping}
-use Rattle.merges.specs.Acting.{standsOn, standing, Judged, Acts, lengthFrom, nextState}
+use Rattle.merges.specs.Step.{inProgress, outputRule, stepFormed, outputOn, lastOf, steppedOn, writtenOn, stepping, stepOf}
+use Rattle.merges.specs.Acting.{standsOn, standing, Judged, Acts, lengthFrom, nextState, thirdOn}
 use Rattle.merges.proofs.Choosing.{levelOf, finished-of, due-some}
 use Rattle.merges.proofs.Merged.{oldest-part, oldest-few, part-all, all-readable}
 use Rattle.merges.proofs.Drafting.{terms-told, postings-told, pairs-told}
 use Rattle.merges.proofs.Refusing.{empty-told, blocks-told}
+
+-- Refusals 1 and 2 -------------------------------------------------------------------------------------------------------
+
+module _ (s : State) (card : List ℕ) where
+  abbrev tests : List Bool
+  tests = cardTests (stateRule s) (s .lengths) card
+
+  -- what is judged first refuses
+  pub step-barred : (why : Refusal) → refusalNumber why ≡ firstOf (1 ∷ 2 ∷ []) tests → Gives (storeOf s card) (stepOf (storeOf s card)) (refused (refusalNumber why)) (storeOf s card)
+  unfolding stepOf
+  step-barred why e =
+      gives-by (stepOf (storeOf s card)) (refuse (refusalNumber why))
+      (barred (3 ∷ []) (not (stepFormed (words card) s) ∷ []) (stepping s (words card) (taking (words card) s)) (1 ∷ 2 ∷ []) tests why e)
+      (refuses (refusalNumber why))
+
+  -- or the rest decides
+  pub step-granted : 0 ≡ firstOf (1 ∷ 2 ∷ []) tests → stepOf (storeOf s card) ≡ thirdOn s card
+  unfolding stepOf
+  step-granted e = granted (3 ∷ []) (not (stepFormed (words card) s) ∷ []) (stepping s (words card) (taking (words card) s)) (1 ∷ 2 ∷ []) tests refl refl e
 
 -- Judged -----------------------------------------------------------------------------------------------------------------
 

@@ -1,4 +1,5 @@
 // A merge step. It promises its answer, the state and the card as its definition says, whatever it is given.
+use admission::Admission;
 use answers::Refusal;
 use answers::Reply;
 use inputs::Batch;
@@ -248,11 +249,9 @@ fn act(s: State, card: &mut [u8], is: Partitions, level: u16) -> Deed
 pub fn step(s: State, card: &mut [u8]) -> Replied
     ensures { λ r. ⌜ Steps s (now (card .entry)) r (now (card .exit)) ⌝ }
 {
-    if !state::state_ok(s) {
-        return refuse(s, Refusal::BrokenState);
-    }
-    if card.len() != s.lengths.card as usize {
-        return refuse(s, Refusal::WrongLength);
+    let a = admission::judge_card(state::state_ok(s), s.lengths, card);
+    if let Admission::Refused(why) = a {
+        return refuse(s, why);
     }
     let ps = s.partitions;
     if !partitions::partitions_ok(card, s.lengths.card / 4096, ps) {
