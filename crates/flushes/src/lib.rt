@@ -22,16 +22,20 @@ ghost use Rattle.card.specs.Writes.{store};
 ghost use Rattle.partitions.specs.Layout.{termCount, lengthOf, wordOf, encode};
 ghost use Rattle.partitions.specs.Formed.{inRange};
 
-// Counts the buffered postings by identifier, and tells how many identifiers they have.
-fn count_postings(b: Buffer, counts: &mut [u16]) -> u16
-    requires { ⌜ (b .used ≤ 128) × (every (λ p. leb (p .id) 1023) (buffered b) ≡ true) × (now counts ≡ replicate 1024 0) ⌝ }
-    ensures { λ r. ⌜ (r ≡ termCount (buffered b)) × (now (counts .exit) ≡ map (λ i. length (under i (buffered b))) (upTo 1024)) ⌝ }
+// Counts the buffered postings by identifier, packs them as words, and tells how many identifiers they have.
+fn tally(b: Buffer, counts: &mut [u16], content: &mut [u32]) -> u16
+    requires { ⌜ (b .used ≤ 128) × (every (λ p. leb (p .id) 1023) (buffered b) ≡ true) × (every (λ p. inRange (p .count)) (buffered b) ≡ true)
+        × (now counts ≡ replicate 1024 0) × (length (now content) ≡ 128) ⌝ }
+    ensures { λ r. ⌜ (r ≡ termCount (buffered b)) × (now (counts .exit) ≡ map (λ i. length (under i (buffered b))) (upTo 1024))
+        × (now (content .exit) ≡ sets (now (content .entry)) 0 (map wordOf (buffered b))) ⌝ }
 {
     let n = b.used;
     let mut terms: u16 = 0;
     let mut i: u16 = 0;
     while i < n {
         let p = b.postings[i as usize];
+        let size = p.count;
+        content[i as usize] = pack(size, p.window);
         let id = p.id as usize;
         let count = counts[id];
         if count == 0 {
@@ -43,21 +47,6 @@ fn count_postings(b: Buffer, counts: &mut [u16]) -> u16
     terms
 }
 
-// The words of the buffered postings.
-fn pack_postings(b: Buffer, content: &mut [u32])
-    requires { ⌜ (b .used ≤ 128) × (every (λ p. inRange (p .count)) (buffered b) ≡ true) × (length (now content) ≡ 128) ⌝ }
-    ensures { λ r. ⌜ now (content .exit) ≡ sets (now (content .entry)) 0 (map wordOf (buffered b)) ⌝ }
-{
-    let n = b.used as usize;
-    let mut i: usize = 0;
-    while i < n {
-        let p = b.postings[i];
-        let count = p.count;
-        content[i] = pack(count, p.window);
-        i += 1;
-    }
-}
-
 // Writes the buffered postings as a partition into a free block, and tells how many identifiers they have. With its link that is a chain of one, which
 // holds nothing.
 fn write_counted(card: &mut [u8], block: u16, b: Buffer) -> u16
@@ -67,11 +56,10 @@ fn write_counted(card: &mut [u8], block: u16, b: Buffer) -> u16
 {
     put_block_word(card, block, 1023, 65534);
     let mut counts: [u16; 1024] = [0; 1024];
-    let terms = count_postings(b, &mut counts);
+    let mut content: [u32; 128] = [0; 128];
+    let terms = tally(b, &mut counts, &mut content);
     outputs::write_header(card, block, 1, 0, terms, b.used as u32);
     outputs::write_entries(card, block, 1, &counts);
-    let mut content: [u32; 128] = [0; 128];
-    pack_postings(b, &mut content);
     let n = b.used as usize;
     outputs::write_words(card, block, 1, 8 + 3 * terms as u32, &content[0..n]);
     terms

@@ -176,11 +176,14 @@ fn remove_counts(s: State, card: &mut [u8], window: u32, c: Counts) -> Replied
     }
 }
 
-// A removal that is admitted: 3 for the finished partitions and what is read of the window, and then its counts.
-fn remove_admitted(s: State, card: &mut [u8], window: u32) -> Replied
-    requires { ⌜ (stateRule s ≡ true) × (length (now card) ≡ s .lengths .card) ⌝ }
+// Removes a closed window: each of its counts is buffered negated, and N is one less. Refusals 1 and 2 come by admission, 3 for what is read of the card.
+pub fn remove(s: State, card: &mut [u8], window: u32) -> Replied
     ensures { λ r. ⌜ Removes s (now (card .entry)) window r (now (card .exit)) ⌝ }
 {
+    let a = admission::judge_card(state::state_ok(s), s.lengths, card);
+    if let Admission::Refused(why) = a {
+        return windows::refuse(s, why);
+    }
     let ps = s.partitions;
     if !partitions::partitions_ok(card, s.lengths.card / 4096, ps) {
         return windows::refuse(s, Refusal::Malformed);
@@ -192,15 +195,4 @@ fn remove_admitted(s: State, card: &mut [u8], window: u32) -> Replied
     }
     let c = read.counts;
     remove_counts(s, card, window, c)
-}
-
-// Removes a closed window: each of its counts is buffered negated, and N is one less.
-pub fn remove(s: State, card: &mut [u8], window: u32) -> Replied
-    ensures { λ r. ⌜ Removes s (now (card .entry)) window r (now (card .exit)) ⌝ }
-{
-    let a = admission::judge_card(state::state_ok(s), s.lengths, card);
-    match a {
-        Admission::Refused(why) => windows::refuse(s, why),
-        Admission::Granted => remove_admitted(s, card, window),
-    }
 }
