@@ -10,7 +10,7 @@ use Rattle.state.specs.Levels.{ofLevel}
 use Rattle.buffer.proofs.Canonical.{buffered-of}
 use Rattle.identifiers.specs.Names.{Name, badLength, among, numberOf, numbersOf}
 use Rattle.events.proofs.Pairs.{pair-kept}
-use Rattle.queries.specs.Hits.{ranked}
+use Rattle.ranking.specs.Hits.{ranked}
 use Rattle.removals.specs.Removal.{countsOf, isLive}
 use Rattle.engine.specs.Calls.{Call, Open, Event, Close, Remove, Flush, Step, Query}
 use Rattle.accounts.specs.Account.{Account, storedIn, takenFrom, blocksIn, blocksAhead, steppedAccount, flushedAccount, overflows, exceeds, addedTo, stepping, flushing, flushingIf}

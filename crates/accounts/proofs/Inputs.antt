@@ -1,9 +1,9 @@
 -- The inputs of a merge stay the same while partitions of level 0 come last in the list, for partitions of whatever kind that have a level.
 use Rattle.lists.proofs.Prelude.{Bool, true, false, cond, List, [], _∷_, _++_, _≡_, refl, ap, _∙_, ℕ, zero, suc, _+_, _<_, _≤_, arith, eqb, leb, length, drop, length-drop, take-append-le, drop-append-le, eqb-true, eqb-false, ne-eqb, le-leb, lt-leb, keep, below, by-test}
 use Rattle.state.specs.Levels.{dueAt, ofLevel, dueLevels, oldestAt, oldest}
-use Rattle.state.proofs.Counts.{levels-below}
-use Rattle.state.proofs.Runs.{due-first, place-within}
-use Rattle.state.proofs.Replaced.{count-append}
+use Rattle.levels.proofs.Counts.{levels-below}
+use Rattle.levels.proofs.Runs.{due-first, place-within}
+use Rattle.levels.proofs.Replaced.{count-append}
 
 -- a list that begins with v
 pub record Begins (v : ℕ) (l : List ℕ) : Type 0 where

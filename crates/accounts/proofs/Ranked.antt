@@ -3,7 +3,7 @@ use Rattle.lists.proofs.Prelude.{Bool, false, _||_, cond, List, [], _∷_, fold
 use Rattle.weights.specs.Weights.{tfWeight, idfWeight}
 use Rattle.identifiers.specs.Names.{Name, among, numbersOf}
 use Rattle.identifiers.proofs.Names.{number-at}
-use Rattle.queries.specs.Hits.{place, frequency, score, matching, ranked}
+use Rattle.ranking.specs.Hits.{place, frequency, score, matching, ranked}
 use Rattle.accounts.proofs.Numbers.{known-is}
 
 -- ---- windows above the last one given do not matter

@@ -8,8 +8,8 @@ use Rattle.postings.specs.Sums.{sum}
 use Rattle.postings.proofs.Order.{same-swap}
 use Rattle.postings.proofs.Merge.{puts-ordered, nonzero-ordered, nonzero-counts, length-put, length-puts, length-put-there}
 use Rattle.state.specs.Levels.{dueAt, nextLevel, levelLimit, levels, ofLevel, oldestAt, replaced}
-use Rattle.state.proofs.Runs.{falls, due-first}
-use Rattle.state.proofs.Replaced.{falls-add, replaced-falls, replaced-limits, added-limits}
+use Rattle.levels.proofs.Runs.{falls, due-first}
+use Rattle.levels.proofs.Replaced.{falls-add, replaced-falls, replaced-limits, added-limits}
 use Rattle.accounts.specs.Account.{Portion, Account, postingsIn, storedIn, dueOf, inputsOf, merged, portionOf, completed, furthered, steppedAccount, flushedAccount, overflows, exceeds, addedTo}
 use Rattle.accounts.proofs.Stored.{levelOf, merged-ordered, merged-counts, step-ends, step-goes, buffer-stepped}
 use Rattle.accounts.proofs.Steps.{pairCount, Progress, progress-flushed, progress-stepped}

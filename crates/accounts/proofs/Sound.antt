@@ -14,13 +14,13 @@ use Rattle.state.specs.Levels.{levelLimit, levels, ofLevel}
 use Rattle.state.specs.Rules.{windowsRule, listedRule, postingRule, bufferRule, recordRule, neverRise, partitionsRule}
 use Rattle.state.proofs.Forms.{listed-rule, buffer-rule, partitions-rule}
 use Rattle.state.proofs.Kept.{Shut, Opened, windows-rule, PostingKept, posting-rule, record-rule}
-use Rattle.state.proofs.Runs.{falls}
-use Rattle.state.proofs.Replaced.{at-levels, levels-room}
+use Rattle.levels.proofs.Runs.{falls}
+use Rattle.levels.proofs.Replaced.{at-levels, levels-room}
 use Rattle.identifiers.specs.Names.{numberOf, numbersOf}
 use Rattle.partitions.specs.Layout.{lengthOf}
 use Rattle.partitions.specs.Formed.{listRule, inRange, sumsInRange}
 use Rattle.removals.specs.Removal.{countsOf}
-use Rattle.merges.specs.Merging.{isLast}
+use Rattle.plans.specs.Merging.{isLast}
 use Rattle.engine.specs.Calls.{Call, Open, Event, Close, Remove, Flush, Step, Query}
 use Rattle.accounts.specs.Account.{Portion, Account, postingsIn, storedIn, blocksOf, blocksIn, blocksAhead, dueOf, inputsOf}
 use Rattle.accounts.specs.Ledger.{Ledger, live, existing, byNumber}

@@ -14,8 +14,8 @@ use Rattle.answers.specs.Order as order
 use Rattle.answers.specs.Order.{past, admit}
 use Rattle.answers.specs.declared.Hit.{Hit}
 use Rattle.identifiers.specs.Names.{Name, badLength, among, numberOf, numbersOf}
-use Rattle.queries.specs.Hits.{ranked}
-use Rattle.queries.specs.Query.{badQuery}
+use Rattle.ranking.specs.Hits.{ranked}
+use Rattle.ranking.specs.Asked.{badQuery}
 use Rattle.engine.specs.Calls.{Call, Open, Event, Close, Remove, Flush, Step, Query, run}
 use Rattle.accounts.specs.Account.{Account, emptyAccount, takenFrom, overflows, exceeds, addedTo, stepping, flushing, flushingIf}
 use Rattle.accounts.specs.Ledger.{Ledger, emptyLedger, live, existing, opens, closes, counts, removes}

@@ -21,10 +21,10 @@ use Rattle.state.specs.Rules.{windowsRule, listedRule, bufferRule, partitionsRu
 use Rattle.identifiers.specs.Names.{Name, badLength, numberOf, numbersOf}
 use Rattle.partitions.specs.Layout.{lengthOf}
 use Rattle.partitions.specs.Formed.{listRule, inRange, sumsInRange}
-use Rattle.queries.specs.Hits.{ranked}
-use Rattle.queries.specs.Query.{badQuery}
+use Rattle.ranking.specs.Hits.{ranked}
+use Rattle.ranking.specs.Asked.{badQuery}
 use Rattle.removals.specs.Removal.{ofWindow, countsOf, isLive}
-use Rattle.merges.specs.Merging.{isLast}
+use Rattle.plans.specs.Merging.{isLast}
 use Rattle.engine.specs.Calls.{Call, Open, Event, Close, Remove, Flush, Step, Query, run}
 use Rattle.accounts.specs.Account.{Portion, Account, emptyAccount, postingsIn, storedIn, takenFrom, dueOf, inputsOf, overflows, exceeds, addedTo, stepping, flushing, flushingIf}
 

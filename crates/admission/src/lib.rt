@@ -37,7 +37,7 @@ pub fn judge_probe(sound: bool, l: Lengths, card: &[u8], register: &[u8]) -> Adm
     if !((card.len() == l.card as usize) & (register.len() == l.register as usize)) {
         return Admission::Refused(Refusal::WrongLength);
     }
-    if !identifiers::register_ok(register) {
+    if !registers::register_ok(register) {
         return Admission::Refused(Refusal::Malformed);
     }
     Admission::Granted

@@ -10,9 +10,9 @@ use Rattle.answers.specs.Answers.{Outcome, refuseIf, carry}
 use Rattle.answers.specs.Numbers.{foundAs}
 use Rattle.state.specs.Probe.{Probe}
 use Rattle.identifiers.specs.Names.{Name}
-use Rattle.queries.specs.declared.Top.{Top}
+use Rattle.ranking.specs.declared.Top.{Top}
 use Rattle.queries.specs.Query.{fill, queryOf}
-use Rattle.queries.specs.Top.{listedHits}
+use Rattle.ranking.specs.Top.{listedHits}
 use Rattle.queries.specs.Finds.{Finds}
 use Rattle.queries.proofs.Outcomes.{found-filled}
 use Rattle.capi.specs.Queries.{hitWords, hitsIn, hitBytes, numberFor, numberFound, Tells}

@@ -10,9 +10,11 @@ use Rattle.state.specs.declared.State.{State}
 use Rattle.state.specs.Probe.{Store, Probe}
 use Rattle.identifiers.specs.Names.{Name}
 use Rattle.windows.specs.Promises.{storeOf, probeOf}
-use Rattle.windows.specs.Calls.{startOf, unstarted, openOf, closeOf, eventOf, flushOf}
+use Rattle.windows.specs.Calls.{startOf, unstarted, openOf, closeOf}
+use Rattle.events.specs.Event.{eventOf}
+use Rattle.flushes.specs.Flush.{flushOf}
 use Rattle.removals.specs.Removal.{removeOf}
-use Rattle.merges.specs.Step.{stepOf}
+use Rattle.plans.specs.Step.{stepOf}
 use Rattle.images.specs.Images.{imageOf, stateIn, imageRule}
 
 -- the bytes that a call is lent: a state's image with a card, or with both buffers

@@ -2,7 +2,7 @@
 use answers::Found;
 use answers::Opened;
 use answers::Reply;
-use queries::Top;
+use ranking::Top;
 use windows::Opening;
 use windows::Replied;
 ghost use mathlib.Core.Bool.{cond, _&&_};
@@ -14,7 +14,7 @@ ghost use Rattle.answers.specs.Numbers.{replied, openedAs};
 ghost use Rattle.identifiers.specs.Register.{registerRule};
 ghost use Rattle.state.specs.Rules.{registerLength};
 ghost use Rattle.windows.specs.Promises.{Gives};
-ghost use Rattle.queries.specs.Top.{listedHits};
+ghost use Rattle.ranking.specs.Top.{listedHits};
 ghost use Rattle.capi.specs.Exports.{cardedOf, lentOf, repliedBy, openedBy, startOn, unstartedOn, openOn, closeOn, eventOn, flushOn, removeOn, stepOn, leftOn};
 ghost use Rattle.capi.specs.Queries.{hitBytes, numberFound, Tells, queryOn};
 
@@ -33,7 +33,7 @@ pub extern "C" fn gemsilver_register_ok(register: &[u8]) -> u8
     if !length_ok(register.len()) {
         return 0;
     }
-    if identifiers::register_ok(register) {
+    if registers::register_ok(register) {
         1
     } else {
         0

@@ -2,11 +2,4 @@ pub mod Cursors
 pub mod Seeking
 pub mod Chains
 pub mod Links
-pub mod Stores
-pub mod Stored
-pub mod FreeBlocks
-pub mod ByteRule
-pub mod Refills
 pub mod Marking
-pub mod Taking
-pub mod Releasing

@@ -2,7 +2,7 @@
 use Rattle.lists.proofs.Prelude.{Bool, true, false, cond, List, [], _∷_, map, _≡_, refl, sym, _∙_, ap, ℕ, _≤_, _<_, arith, length, getD, drop, length-map, ne-eqb, never}
 use mathlib.Core.Option.{Option, none, some}
 use denote.Ref.{RefT, now}
-use Rattle.queries.proofs.Gathering.{nothing, lent-at}
+use Rattle.identifiers.proofs.Lent.{nothing, lent-at}
 use Rattle.identifiers.specs.Names.{Name}
 use Rattle.engine.specs.Calls.{Open, Close, Flush, Step}
 use Rattle.texts.specs.Fields.{numberIn}

@@ -1,6 +1,6 @@
 -- Lists of numbers that have none in common.
 use Rattle.lists.proofs.Prelude.{true, false, _||_, not, true≢false, List, [], _∷_, _++_, _≡_, refl, sym, ap, ap₂, _∙_, ℕ, eqb, eqb-true, eq-eqb, not-true, elem, different, by-test, and-left, and-right, and-both, or-none, or-right, any-append, elem-every}
-use Rattle.card.proofs.Stores.{apart}
+use Rattle.blocks.proofs.Stores.{apart}
 
 -- none of x is in y
 abbrev pub Apart : List ℕ → List ℕ → Type 0

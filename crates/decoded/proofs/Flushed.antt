@@ -8,21 +8,21 @@ use Rattle.state.specs.declared.Partition.{Partition}
 use Rattle.state.specs.declared.MergeJob.{MergeJob}
 use Rattle.state.specs.declared.State.{State}
 use Rattle.state.specs.Views.{padded, noPartition, blocks, buffered, finished, partitionsOf}
-use Rattle.state.proofs.Forms.{held}
+use Rattle.state.proofs.Rows.{held}
 use Rattle.state.proofs.Kept.{lengths-kept}
 use Rattle.card.specs.Blocks.{noBlock, isFree}
 use Rattle.card.specs.Chains.{blocksFor, chain, chainRule, content}
-use Rattle.card.proofs.Stores.{Agree, apart, store-agrees, length-store, chain-agree, rule-agree, content-agree}
-use Rattle.card.proofs.FreeBlocks.{store-other, chain-taken}
+use Rattle.blocks.proofs.Stores.{Agree, apart, store-agrees, length-store, chain-agree, rule-agree, content-agree}
+use Rattle.blocks.proofs.FreeBlocks.{store-other, chain-taken}
 use Rattle.partitions.specs.Layout.{lengthOf, encode}
 use Rattle.partitions.specs.Reading.{chainOf, postingsOf}
 use Rattle.partitions.specs.Formed.{partitionRule, chainsOf, partitionsFormed, Writable}
 use Rattle.partitions.proofs.Lengths.{one-block}
 use Rattle.partitions.proofs.Kept.{AgreeAll, postings-kept, chains-kept}
 use Rattle.flushes.proofs.Flushed.{flushRecord, flushCard, flush-chain, flush-rule, flush-postings, flush-keeps, flush-formed}
-use Rattle.windows.specs.Flush.{flushedTo, flushedCard}
-use Rattle.merges.specs.Merging.{taking, result, outputLength, outputBlocks, progress, isLast}
-use Rattle.merges.specs.Step.{inProgress, outputChain, outputRule}
+use Rattle.flushes.specs.Flush.{flushedTo, flushedCard}
+use Rattle.plans.specs.Merging.{taking, result, outputLength, outputBlocks, progress, isLast}
+use Rattle.plans.specs.Step.{inProgress, outputChain, outputRule}
 use Rattle.accounts.specs.Account.{Portion, dueOf, inputsOf, flushedAccount}
 use Rattle.accounts.specs.Lists.{Lists, withAccount}
 use Rattle.accounts.proofs.Steps.{Progress, progress-due, inputs-flushed}

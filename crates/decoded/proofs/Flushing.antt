@@ -13,10 +13,10 @@ use Rattle.state.specs.Levels.{ofLevel}
 use Rattle.state.specs.Rules.{bufferRule}
 use Rattle.state.proofs.Kept.{lengths-kept, rules-of, buffer-kept}
 use Rattle.card.specs.Blocks.{isFree, freeBlocks}
-use Rattle.card.proofs.FreeBlocks.{free-at}
+use Rattle.blocks.proofs.FreeBlocks.{free-at}
 use Rattle.partitions.specs.Formed.{Writable}
 use Rattle.flushes.proofs.Flushed.{buffer-writable}
-use Rattle.windows.specs.Flush.{finishedBlocks, flushedTo, nextFree, flushedCard, flushing, flushingIf}
+use Rattle.flushes.specs.Flush.{finishedBlocks, flushedTo, nextFree, flushedCard, flushing, flushingIf}
 use Rattle.accounts.specs.Account.{Account, blocksIn, merged, blocksAhead, flushedAccount, flushing as accountFlushing, flushingIf as accountFlushingIf}
 use Rattle.accounts.specs.Lists.{Lists, listsRule, withAccount}
 use Rattle.accounts.proofs.Stored.{levelOf}

@@ -5,8 +5,8 @@ use Rattle.state.specs.declared.Listed.{Listed}
 use Rattle.state.specs.declared.Buffer.{Buffer}
 use Rattle.state.specs.declared.State.{State}
 use Rattle.state.specs.Views.{listedOf, bufferOf, withWindows, withListed, withBuffer}
-use Rattle.merges.specs.Merging.{taking}
-use Rattle.merges.specs.Step.{outputRule}
+use Rattle.plans.specs.Merging.{taking}
+use Rattle.plans.specs.Step.{outputRule}
 use Rattle.accounts.specs.Lists.{Lists}
 use Rattle.decoded.specs.Portions.{outputOf}
 use Rattle.decoded.proofs.Holds.{Holds}

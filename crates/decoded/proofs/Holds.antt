@@ -10,14 +10,14 @@ use Rattle.state.specs.Views.{noMerge, blocks, buffered, finished, listedOf, bu
 use Rattle.state.specs.Levels.{dueLevels, oldest}
 use Rattle.state.specs.Rules.{lengthsRule}
 use Rattle.state.specs.Probe.{Probe}
-use Rattle.state.proofs.Forms.{held}
+use Rattle.state.proofs.Rows.{held}
 use Rattle.identifiers.specs.Register.{names, registerRule}
 use Rattle.card.specs.Blocks.{isFree}
 use Rattle.partitions.specs.Layout.{lengthOf}
 use Rattle.partitions.specs.Reading.{postingsOf, inPartitions, stored}
 use Rattle.partitions.specs.Formed.{partitionsFormed}
-use Rattle.merges.specs.Merging.{dueIn, inputs, taking}
-use Rattle.merges.specs.Step.{inProgress, outputRule}
+use Rattle.plans.specs.Merging.{dueIn, inputs, taking}
+use Rattle.plans.specs.Step.{inProgress, outputRule}
 use Rattle.accounts.specs.Account.{Portion, Account, postingsIn, storedIn, dueOf, inputsOf}
 use Rattle.accounts.specs.Lists.{Lists}
 use Rattle.accounts.proofs.Stored.{levelOf}

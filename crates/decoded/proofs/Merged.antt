@@ -8,19 +8,19 @@ use Rattle.state.specs.declared.Partition.{Partition}
 use Rattle.state.specs.declared.State.{State}
 use Rattle.state.specs.Views.{noPartition, noMerge, blocks, finished, bufferOf, partitionsOf, withPartitions, withTaken, withMerge}
 use Rattle.state.specs.Levels.{dueAt, nextLevel, oldestAt, replaced}
-use Rattle.state.proofs.Forms.{held}
+use Rattle.state.proofs.Rows.{held}
 use Rattle.state.proofs.Kept.{lengths-kept}
 use Rattle.card.specs.Blocks.{noBlock, isFree}
 use Rattle.card.specs.Chains.{blocksFor}
-use Rattle.card.specs.Writes.{store, release}
-use Rattle.card.proofs.Stores.{Agree, apart, length-store, length-release, store-apart, release-apart, release-agrees}
-use Rattle.card.proofs.FreeBlocks.{released-free, release-other, store-other}
+use Rattle.blocks.specs.Writes.{store, release}
+use Rattle.blocks.proofs.Stores.{Agree, apart, length-store, length-release, store-apart, release-apart, release-agrees}
+use Rattle.blocks.proofs.FreeBlocks.{released-free, release-other, store-other}
 use Rattle.partitions.specs.Layout.{lengthOf, encode, writtenAs}
 use Rattle.partitions.specs.Reading.{chainOf, postingsOf}
 use Rattle.partitions.specs.Formed.{partitionRule, chainsOf, partitionsFormed, Writable}
 use Rattle.partitions.proofs.Lengths.{blocks-some}
 use Rattle.partitions.proofs.Kept.{AgreeAll, chain-written, rule-written, postings-written, chain-kept, rule-kept, postings-kept, chains-kept, formed-kept}
-use Rattle.merges.specs.Merging.{dueIn, taking, result, outputLevel, outputRecord}
+use Rattle.plans.specs.Merging.{dueIn, taking, result, outputLevel, outputRecord}
 use Rattle.accounts.specs.Account.{Portion, dueOf, merged, portionOf, completed}
 use Rattle.accounts.specs.Lists.{Lists, withAccount}
 use Rattle.accounts.proofs.Stored.{levelOf, parted}

@@ -5,12 +5,12 @@ use Rattle.state.specs.declared.State.{State}
 use Rattle.state.specs.Views.{blocks, finished}
 use Rattle.card.specs.Blocks.{isFree, freeBlocks, onCard}
 use Rattle.card.proofs.Links.{length-chain}
-use Rattle.card.proofs.Stores.{apart}
-use Rattle.card.proofs.FreeBlocks.{free-on, free-free, free-different}
+use Rattle.blocks.proofs.Stores.{apart}
+use Rattle.blocks.proofs.FreeBlocks.{free-on, free-free, free-different}
 use Rattle.partitions.specs.Reading.{chainOf}
 use Rattle.partitions.specs.Formed.{chainsOf}
-use Rattle.merges.specs.Merging.{taking, result, outputBlocks}
-use Rattle.merges.specs.Step.{inProgress, outputChain, outputOn, lastOf}
+use Rattle.plans.specs.Merging.{taking, result, outputBlocks}
+use Rattle.plans.specs.Step.{inProgress, outputChain, outputOn, lastOf}
 use Rattle.accounts.specs.Lists.{Lists}
 use Rattle.decoded.specs.Portions.{outputOf, occupied}
 use Rattle.decoded.proofs.Disjoint.{Apart, elem-right, apart-swap, apart-left, apart-right, apart-test, different-parts}

@@ -5,7 +5,7 @@ use Rattle.postings.specs.declared.Posting.{Posting}
 use Rattle.state.specs.declared.Partition.{Partition}
 use Rattle.card.specs.Blocks.{onCard}
 use Rattle.card.specs.Chains.{blocksFor}
-use Rattle.card.specs.Writes.{store}
+use Rattle.blocks.specs.Writes.{store}
 use Rattle.partitions.specs.Layout.{lengthOf, encode, writtenAs}
 use Rattle.partitions.proofs.Lengths.{length-encode}
 use Rattle.partitions.proofs.Kept.{AgreeAll, content-written, content-kept}

@@ -16,9 +16,10 @@ use Rattle.identifiers.specs.Names.{Name, numbersOf}
 use Rattle.identifiers.specs.Register.{names, registerRule}
 use Rattle.partitions.specs.Reading.{postingsOf, inPartitions, stored}
 use Rattle.partitions.specs.Formed.{partitionsFormed, listRule, sumsInRange, identifierFormed}
-use Rattle.windows.specs.Flush.{flushingIf}
-use Rattle.queries.specs.Hits.{ranked}
-use Rattle.queries.specs.Query.{countIn, takenUp, numbers, queryFormed, badQuery, hitsOf, querying, queryOf, fill}
+use Rattle.flushes.specs.Flush.{flushingIf}
+use Rattle.ranking.specs.Hits.{ranked}
+use Rattle.queries.specs.Query.{countIn, takenUp, numbers, queryFormed, hitsOf, querying, queryOf, fill}
+use Rattle.ranking.specs.Asked.{badQuery}
 use Rattle.removals.specs.Removal.{ofWindow, countsOf, isLive, listsFormed, removalFormed, removalFlushes, removed, removing, removeOf}
 use Rattle.engine.specs.Calls.{Remove, Query, noHit, withStore, probeCall}
 use Rattle.accounts.specs.Account.{Portion, Account, postingsIn, storedIn, takenFrom, exceeds, addedTo, flushingIf as accountFlushingIf}

@@ -6,11 +6,12 @@ use Rattle.state.specs.Views.{noPartition, noMerge, blocks, finished, listedOf,
 use Rattle.state.specs.Levels.{levelLimit, levels, ofLevel}
 use Rattle.state.specs.Rules.{windowsRule, listedRule, bufferRule, recordRule, neverRise, partitionsRule, mergeRule, stateRule}
 use Rattle.state.specs.Probe.{sameLength}
-use Rattle.state.proofs.Forms.{held, partitions-rule}
+use Rattle.state.proofs.Rows.{held}
+use Rattle.state.proofs.Forms.{partitions-rule}
 use Rattle.state.proofs.Kept.{partitions-kept, state-rule}
 use Rattle.partitions.specs.Layout.{lengthOf}
 use Rattle.partitions.specs.Reading.{postingsOf}
-use Rattle.merges.specs.Merging.{dueIn}
+use Rattle.plans.specs.Merging.{dueIn}
 use Rattle.accounts.specs.Account.{dueOf}
 use Rattle.accounts.specs.Lists.{Lists, recordLike, listsRule}
 use Rattle.decoded.specs.Portions.{portionOn}

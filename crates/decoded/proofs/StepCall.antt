@@ -12,12 +12,12 @@ use Rattle.state.specs.Levels.{oldest, replaced}
 use Rattle.state.specs.Probe.{Store, Probe}
 use Rattle.state.proofs.Kept.{lengths-kept}
 use Rattle.card.specs.Blocks.{noBlock, freeBlocks}
-use Rattle.card.specs.Writes.{store, release}
+use Rattle.blocks.specs.Writes.{store, release}
 use Rattle.partitions.specs.Reading.{postingsOf}
 use Rattle.partitions.specs.Formed.{partitionsFormed, chainsOf, listRule, inRange, Writable}
 use Rattle.partitions.specs.Layout.{encode}
-use Rattle.merges.specs.Merging.{dueIn, inputs, taking, result, outputLength, outputBlocks, progress, isLast, outputLevel, outputRecord, outputContent}
-use Rattle.merges.specs.Step.{inProgress, outputRule, stepFormed, outputOn, lastOf, steppedOn, writtenOn, stepping, stepOf}
+use Rattle.plans.specs.Merging.{dueIn, inputs, taking, result, outputLength, outputBlocks, progress, isLast, outputLevel, outputRecord, outputContent}
+use Rattle.plans.specs.Step.{inProgress, outputRule, stepFormed, outputOn, lastOf, steppedOn, writtenOn, stepping, stepOf}
 use Rattle.engine.specs.Calls.{Step, withStore, probeCall}
 use Rattle.accounts.specs.Account.{Portion, Account, blocksOf, blocksIn, dueOf, inputsOf, merged, blocksAhead, steppedAccount, stepping as accountStepping}
 use Rattle.accounts.specs.Lists.{Lists, inputsRule, callRule, withAccount, pursued}

@@ -10,17 +10,17 @@ use Rattle.state.specs.Views.{padded, blocks, finished, withTaken, withMerge}
 use Rattle.state.proofs.Kept.{lengths-kept}
 use Rattle.card.specs.Blocks.{noBlock, isFree, onCard}
 use Rattle.card.specs.Chains.{blocksFor, chain, chainRule, content}
-use Rattle.card.specs.Writes.{store}
-use Rattle.card.proofs.Stores.{length-store}
-use Rattle.card.proofs.Stored.{chain-stored, rule-stored, content-stored}
-use Rattle.card.proofs.FreeBlocks.{store-other, chain-taken}
+use Rattle.blocks.specs.Writes.{store}
+use Rattle.blocks.proofs.Stores.{length-store}
+use Rattle.blocks.proofs.Stored.{chain-stored, rule-stored, content-stored}
+use Rattle.blocks.proofs.FreeBlocks.{store-other, chain-taken}
 use Rattle.partitions.specs.Layout.{termCount, lengthOf, wordOf}
 use Rattle.partitions.specs.Reading.{postingsOf}
 use Rattle.partitions.specs.Formed.{chainsOf}
 use Rattle.partitions.proofs.Lengths.{blocks-some}
 use Rattle.partitions.proofs.Kept.{AgreeAll, postings-kept, chains-kept, formed-kept, store-keeps}
-use Rattle.merges.specs.Merging.{taking, result, outputLength, outputBlocks, progress, isLast}
-use Rattle.merges.specs.Step.{inProgress, outputChain, outputRule}
+use Rattle.plans.specs.Merging.{taking, result, outputLength, outputBlocks, progress, isLast}
+use Rattle.plans.specs.Step.{inProgress, outputChain, outputRule}
 use Rattle.accounts.specs.Account.{furthered}
 use Rattle.accounts.specs.Lists.{Lists, withAccount}
 use Rattle.decoded.specs.Portions.{portionOn, outputOf, occupied}

@@ -8,13 +8,13 @@ use Rattle.state.specs.Views.{padded, blocks, finished}
 use Rattle.card.specs.Blocks.{noBlock, isFree, freeBlocks, onCard}
 use Rattle.card.specs.Chains.{blocksFor, chain, chainRule, content}
 use Rattle.card.proofs.Links.{length-chain, rule-on}
-use Rattle.card.proofs.FreeBlocks.{free-count}
+use Rattle.blocks.proofs.FreeBlocks.{free-count}
 use Rattle.partitions.specs.Layout.{lengthOf}
 use Rattle.partitions.specs.Reading.{chainOf, postingsOf}
 use Rattle.partitions.specs.Formed.{partitionRule, chainsOf, partitionsFormed}
-use Rattle.windows.specs.Flush.{finishedBlocks}
-use Rattle.merges.specs.Merging.{taking, result, outputLength, outputBlocks, progress, isLast}
-use Rattle.merges.specs.Step.{inProgress, outputChain, outputRule}
+use Rattle.flushes.specs.Flush.{finishedBlocks}
+use Rattle.plans.specs.Merging.{taking, result, outputLength, outputBlocks, progress, isLast}
+use Rattle.plans.specs.Step.{inProgress, outputChain, outputRule}
 use Rattle.accounts.specs.Account.{Portion, blocksOf, blocksIn, merged, blocksAhead}
 use Rattle.accounts.specs.Lists.{Lists}
 use Rattle.accounts.proofs.Shaped.{portionRule}

@@ -11,13 +11,14 @@ use Rattle.state.specs.declared.State.{State}
 use Rattle.state.specs.Views.{blocks, registerSize, listed, buffered, listedOf, bufferOf}
 use Rattle.state.specs.Rules.{stateRule}
 use Rattle.state.specs.Probe.{Store, Probe, sameLength}
-use Rattle.state.proofs.Forms.{held}
+use Rattle.state.proofs.Rows.{held}
 use Rattle.state.proofs.Kept.{lengths-kept}
 use Rattle.identifiers.specs.Names.{Name, badLength, numberOf}
 use Rattle.identifiers.specs.Register.{names, registerRule, added}
 use Rattle.identifiers.proofs.Added.{names-added, rule-added, length-added}
-use Rattle.windows.specs.Flush.{flushingIf}
-use Rattle.windows.specs.Calls.{opened, isOpen, openOf, closed, closeOf, once, eventFlushes, counted, isNew, eventOf, flushOf}
+use Rattle.flushes.specs.Flush.{flushingIf, flushOf}
+use Rattle.windows.specs.Calls.{opened, isOpen, openOf, closed, closeOf}
+use Rattle.events.specs.Event.{once, eventFlushes, counted, isNew, eventOf}
 use Rattle.engine.specs.Calls.{Open, Event, Close, Flush, withStore, withState, probeCall}
 use Rattle.accounts.specs.Account.{Account, overflows, flushingIf as accountFlushingIf}
 use Rattle.accounts.specs.Lists.{Lists, openedLists, closedLists, onceOf, countedLists, withAccount, pursued, isOpen as isOpenIn, isNew as isNewIn}

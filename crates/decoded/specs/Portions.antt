@@ -12,8 +12,8 @@ use Rattle.state.specs.Views.{finished}
 use Rattle.card.specs.Chains.{content}
 use Rattle.partitions.specs.Reading.{chainOf, postingsOf}
 use Rattle.partitions.specs.Formed.{chainsOf}
-use Rattle.merges.specs.Merging.{taking}
-use Rattle.merges.specs.Step.{inProgress, outputChain}
+use Rattle.plans.specs.Merging.{taking}
+use Rattle.plans.specs.Step.{inProgress, outputChain}
 use Rattle.accounts.specs.Account.{Portion}
 
 -- a finished partition as it is read from the card's words

@@ -12,10 +12,10 @@ use Rattle.state.specs.Probe.{Probe}
 use Rattle.identifiers.specs.Names.{Name, numbersOf}
 use Rattle.card.specs.Blocks.{isFree}
 use Rattle.card.specs.Chains.{content}
-use Rattle.card.proofs.FreeBlocks.{free-word}
-use Rattle.merges.specs.Merging.{taking, result, outputBlocks, progress}
-use Rattle.merges.specs.Step.{inProgress}
-use Rattle.queries.specs.Hits.{ranked}
+use Rattle.blocks.proofs.FreeBlocks.{free-word}
+use Rattle.plans.specs.Merging.{taking, result, outputBlocks, progress}
+use Rattle.plans.specs.Step.{inProgress}
+use Rattle.ranking.specs.Hits.{ranked}
 use Rattle.queries.specs.Query.{queryOf}
 use Rattle.engine.specs.Calls.{Call, Query, probeCall, run}
 use Rattle.accounts.specs.Account.{Account, takenFrom, inputsOf, merged, blocksOf}

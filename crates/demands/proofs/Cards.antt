@@ -7,11 +7,12 @@ use Rattle.answers.specs.declared.Hit.{Hit}
 use Rattle.state.specs.declared.State.{State}
 use Rattle.state.specs.Probe.{Store, Probe}
 use Rattle.identifiers.specs.Names.{Name}
-use Rattle.windows.specs.Flush.{flushing, flushingIf}
-use Rattle.windows.specs.Calls.{fresh, openOf, closeOf, eventOf, flushOf}
+use Rattle.flushes.specs.Flush.{flushing, flushingIf, flushOf}
+use Rattle.windows.specs.Calls.{fresh, openOf, closeOf}
+use Rattle.events.specs.Event.{eventOf}
 use Rattle.queries.specs.Query.{queryOf}
 use Rattle.removals.specs.Removal.{removing, removeOf}
-use Rattle.merges.specs.Step.{stepping, stepOf}
+use Rattle.plans.specs.Step.{stepping, stepOf}
 use Rattle.engine.specs.Calls.{Call, Open, Event, Close, Remove, Flush, Step, Query, storeIn, withStore, withState, noHit, probeCall, afterwards}
 use Rattle.demands.proofs.Rows.{state-carry}
 

@@ -15,14 +15,15 @@ use Rattle.state.specs.Rules.{cardLength, registerLength}
 use Rattle.identifiers.specs.Names.{Name, badLength}
 use Rattle.identifiers.specs.Register.{names}
 use Rattle.card.specs.Blocks.{onCard, isFree}
-use Rattle.card.specs.Writes.{store}
-use Rattle.card.specs.Moves.{MovesBytes}
+use Rattle.blocks.specs.Writes.{store}
+use Rattle.blocks.specs.Moves.{MovesBytes}
 use Rattle.card.specs.Chains.{blocksFor, content}
 use Rattle.partitions.specs.Layout.{lengthOf, encode, writtenAs}
 use Rattle.partitions.specs.Reading.{postingsOf, stored}
 use Rattle.partitions.specs.Formed.{partitionRule, partitionsFormed, Writable}
 use Rattle.partitions.proofs.Kept.{rule-written, postings-written}
-use Rattle.windows.specs.Calls.{fresh, startOf, unstarted, eventOf}
+use Rattle.windows.specs.Calls.{fresh, startOf, unstarted}
+use Rattle.events.specs.Event.{eventOf}
 use Rattle.windows.specs.Promises.{probeOf}
 use Rattle.windows.specs.declared.Opening.{Opening}
 use Rattle.windows.specs.declared.Replied.{Replied}
@@ -30,11 +31,11 @@ use Rattle.windows.proofs.Refused.{start-unchanged}
 use Rattle.queries.specs.Query.{countIn, numbers, takenUp, queryFormed, fill, queryOf}
 use Rattle.queries.specs.declared.Answered.{Answered}
 use Rattle.queries.proofs.Refused.{query-unchanged}
-use Rattle.merges.specs.Merging.{progress}
+use Rattle.plans.specs.Merging.{progress}
 use Rattle.engine.specs.Calls.{Call, probeCall}
 use Rattle.engine.proofs.Refused.{call-unchanged}
 use Rattle.engine.proofs.ByteRule.{call-moved}
-use Rattle.merges.specs.Step.{stepOf}
+use Rattle.plans.specs.Step.{stepOf}
 use Rattle.jobs.specs.Lent.{Lent, withOwn, lentStepOf}
 use Rattle.jobs.proofs.Lent.{lent-unchanged, lent-other, lent-own}
 use Rattle.accounts.specs.Account.{Account, storedIn, inputsOf, merged, blocksOf, steppedAccount}

@@ -9,9 +9,9 @@ use Rattle.state.specs.Probe.{Probe, sameLength}
 use Rattle.identifiers.specs.Names.{Name, badLength, among}
 use Rattle.identifiers.specs.Register.{names, registerRule, added}
 use Rattle.identifiers.proofs.Added.{good-length, names-added}
-use Rattle.windows.specs.Flush.{flushing, flushingIf}
-use Rattle.windows.specs.Calls.{isNew, eventOf}
-use Rattle.queries.specs.Hits.{ranked}
+use Rattle.flushes.specs.Flush.{flushing, flushingIf}
+use Rattle.events.specs.Event.{isNew, eventOf}
+use Rattle.ranking.specs.Hits.{ranked}
 use Rattle.queries.specs.Query.{countIn, numbers, takenUp, queryFormed, hitsOf, fill, querying, queryOf}
 use Rattle.accounts.specs.Ledger.{including}
 use Rattle.accounts.proofs.Numbers.{new-is}

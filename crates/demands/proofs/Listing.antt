@@ -2,8 +2,8 @@
 use Rattle.lists.proofs.Prelude.{Bool, true, false, _||_, _&&_, not, cond, true≢false, List, [], _∷_, foldr, map, _≡_, refl, sym, ap, ap₂, _∙_, ℕ, zero, suc, eqb, length, take, eqb-true, eqb-false, eq-eqb, not-true, any, every, elem, different, down, by-test, and-left, and-right, and-both, or-none, or-swap, every-from, every-take, elem-every, different-keep}
 use Rattle.lists.proofs.TopK.{falling-different, down-falling}
 use Rattle.answers.specs.declared.Hit.{Hit}
-use Rattle.queries.specs.Hits.{outranks, place, score, matching, ranked}
-use Rattle.queries.proofs.Ranking.{ranks}
+use Rattle.ranking.specs.Hits.{outranks, place, score, matching, ranked}
+use Rattle.ranking.proofs.Ranking.{ranks}
 use Rattle.demands.specs.Words.{falls}
 
 -- ---- placing keeps what is there

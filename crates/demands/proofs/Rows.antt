@@ -10,13 +10,16 @@ use Rattle.state.specs.Rules.{cardLength, registerLength, stateRule, lengthsRul
 use Rattle.state.specs.Views.{emptyState}
 use Rattle.state.specs.Probe.{Store, Probe}
 use Rattle.identifiers.specs.Names.{Name}
-use Rattle.windows.specs.Calls.{fresh, startOf, unstarted, openOf, closeOf, eventOf, flushOf}
+use Rattle.windows.specs.Calls.{fresh, startOf, unstarted, openOf, closeOf}
+use Rattle.events.specs.Event.{eventOf}
+use Rattle.flushes.specs.Flush.{flushOf}
 use Rattle.windows.specs.Promises.{Gives, storeOf, probeOf}
-use Rattle.queries.specs.Query.{numbers, takenUp, badQuery, hitsOf, querying, queryOf}
+use Rattle.queries.specs.Query.{numbers, takenUp, hitsOf, querying, queryOf}
+use Rattle.ranking.specs.Asked.{badQuery}
 use Rattle.queries.specs.Finds.{Finds}
-use Rattle.queries.specs.declared.Top.{Top}
+use Rattle.ranking.specs.declared.Top.{Top}
 use Rattle.removals.specs.Removal.{removeOf}
-use Rattle.merges.specs.Step.{stepOf}
+use Rattle.plans.specs.Step.{stepOf}
 use Rattle.engine.specs.Calls.{Call, Open, Event, Close, Remove, Flush, Step, Query, withStore, withState, noHit, probeCall, run}
 use Rattle.histories.specs.Statement.{answers}
 use Rattle.demands.specs.Promises.{Row, noCall, opening, counting, closing, removing, flushing, stepping, asking, askingValue, Begun}

@@ -19,7 +19,7 @@ use Rattle.windows.specs.declared.Opening.{Opening}
 use Rattle.windows.specs.declared.Replied.{Replied}
 use Rattle.queries.specs.Finds.{hitsIn, answered, Finds}
 use Rattle.queries.specs.declared.Answered.{Answered}
-use Rattle.queries.specs.declared.Top.{Top}
+use Rattle.ranking.specs.declared.Top.{Top}
 use Rattle.hits.specs.Lent.{hitCount}
 
 -- ---- an answer says which value of the code it stands for

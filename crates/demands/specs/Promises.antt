@@ -8,7 +8,9 @@ use Rattle.answers.specs.declared.Found.{Found}
 use Rattle.answers.specs.declared.Hit.{Hit}
 use Rattle.state.specs.declared.State.{State}
 use Rattle.identifiers.specs.Names.{Name}
-pub use Rattle.windows.specs.Promises.{Starts, Opens, Counts, Closes, Flushes}
+pub use Rattle.windows.specs.Promises.{Starts, Opens, Closes}
+pub use Rattle.events.specs.Event.{Counts}
+pub use Rattle.flushes.specs.Flush.{Flushes}
 use Rattle.windows.specs.declared.Opening.{Opening}
 use Rattle.windows.specs.declared.Replied.{Replied}
 pub use Rattle.queries.specs.Finds.{AsksValue}

@@ -12,7 +12,7 @@ use Rattle.state.specs.Rules.{stateRule}
 use Rattle.state.specs.Probe.{Probe, sameLength}
 use Rattle.identifiers.specs.Register.{registerRule}
 use Rattle.windows.specs.Calls.{fresh}
-use Rattle.queries.specs.Hits.{outranks, score, matching}
+use Rattle.ranking.specs.Hits.{outranks, score, matching}
 use Rattle.engine.specs.Calls.{Call, probeCall, afterwards}
 use Rattle.accounts.specs.Account.{emptyAccount}
 use Rattle.accounts.specs.Ledger.{emptyLedger}

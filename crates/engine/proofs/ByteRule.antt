@@ -12,17 +12,18 @@ use Rattle.state.specs.Probe.{Store, Probe, sameLength}
 use Rattle.state.proofs.Kept.{state-kept}
 use Rattle.identifiers.specs.Names.{Name}
 use Rattle.card.specs.Blocks.{isFree, freeBlocks}
-use Rattle.card.specs.Writes.{store}
-use Rattle.card.specs.Moves.{Moves, MovesBytes}
-use Rattle.card.proofs.Stores.{length-store}
-use Rattle.card.proofs.FreeBlocks.{free-at}
-use Rattle.card.proofs.ByteRule.{store-fills, fills-moves, moves-bytes}
-use Rattle.windows.specs.Flush.{nextFree, flushedCard, flushing, flushingIf}
-use Rattle.windows.specs.Calls.{fresh, startOf, unstarted, openOf, closeOf, eventOf, flushOf}
+use Rattle.blocks.specs.Writes.{store}
+use Rattle.blocks.specs.Moves.{Moves, MovesBytes}
+use Rattle.blocks.proofs.Stores.{length-store}
+use Rattle.blocks.proofs.FreeBlocks.{free-at}
+use Rattle.blocks.proofs.ByteRule.{store-fills, fills-moves, moves-bytes}
+use Rattle.flushes.specs.Flush.{nextFree, flushedCard, flushing, flushingIf, flushOf}
+use Rattle.windows.specs.Calls.{fresh, startOf, unstarted, openOf, closeOf}
+use Rattle.events.specs.Event.{eventOf}
 use Rattle.queries.specs.Query.{queryOf}
 use Rattle.removals.specs.Removal.{removing, removeOf}
-use Rattle.merges.specs.Merging.{taking}
-use Rattle.merges.specs.Step.{stepFormed, outputOn, writtenOn, stepping, stepOf}
+use Rattle.plans.specs.Merging.{taking}
+use Rattle.plans.specs.Step.{stepFormed, outputOn, writtenOn, stepping, stepOf}
 use Rattle.merges.proofs.Filling.{step-moves, step-length}
 use Rattle.engine.specs.Calls.{Call, Open, Event, Close, Remove, Flush, Step, Query, storeIn, withStore, withState, noHit, probeCall}
 

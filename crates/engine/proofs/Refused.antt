@@ -4,13 +4,16 @@ use Rattle.answers.specs.declared.Hit.{Hit}
 use Rattle.answers.specs.Unchanged.{Unchanged}
 use Rattle.answers.proofs.Kept.{unchanged-carry}
 use Rattle.state.specs.Probe.{Probe}
-use Rattle.windows.proofs.Refused.{open-unchanged, close-unchanged, event-unchanged, flush-unchanged}
-use Rattle.windows.specs.Calls.{openOf, closeOf, flushOf}
+use Rattle.windows.proofs.Refused.{open-unchanged, close-unchanged}
+use Rattle.events.proofs.Refused.{event-unchanged}
+use Rattle.flushes.proofs.Refused.{flush-unchanged}
+use Rattle.windows.specs.Calls.{openOf, closeOf}
+use Rattle.flushes.specs.Flush.{flushOf}
 use Rattle.queries.specs.Query.{queryOf}
 use Rattle.queries.proofs.Refused.{query-unchanged}
 use Rattle.removals.specs.Removal.{removeOf}
 use Rattle.removals.proofs.Refused.{removal-unchanged}
-use Rattle.merges.specs.Step.{stepOf}
+use Rattle.plans.specs.Step.{stepOf}
 use Rattle.merges.proofs.Refused.{step-unchanged}
 use Rattle.engine.specs.Calls.{Call, Open, Event, Close, Remove, Flush, Step, Query, storeIn, withStore, withState, noHit, probeCall}
 

@@ -7,11 +7,13 @@ use Rattle.answers.specs.declared.Hit.{Hit}
 use Rattle.state.specs.declared.State.{State}
 use Rattle.state.specs.Probe.{Store, Probe}
 use Rattle.identifiers.specs.Names.{Name}
-use Rattle.windows.specs.Calls.{openOf, closeOf, eventOf, flushOf}
+use Rattle.windows.specs.Calls.{openOf, closeOf}
+use Rattle.events.specs.Event.{eventOf}
+use Rattle.flushes.specs.Flush.{flushOf}
 use Rattle.queries.specs.Query.{queryOf}
-pub use Rattle.queries.specs.Top.{noHit}
+pub use Rattle.ranking.specs.Top.{noHit}
 use Rattle.removals.specs.Removal.{removeOf}
-use Rattle.merges.specs.Step.{stepOf}
+use Rattle.plans.specs.Step.{stepOf}
 
 -- a call with its arguments; a query has so many places in its list
 pub data Call : Type 0 where

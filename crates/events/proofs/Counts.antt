@@ -10,12 +10,12 @@ use Rattle.identifiers.specs.Names.{Name, numberOf}
 use Rattle.identifiers.specs.Register.{names, registerRule}
 use Rattle.identifiers.proofs.Names.{number-within}
 use Rattle.identifiers.proofs.Entries.{names-within, length-entries, rule-formed}
-use Rattle.windows.specs.declared.Target.{Target}
-use Rattle.windows.specs.Flush.{flushedTo}
-use Rattle.windows.specs.Calls.{isNew, once, eventFlushes}
-use Rattle.windows.specs.Targets.{Aimed}
+use Rattle.flushes.specs.declared.Target.{Target}
+use Rattle.flushes.specs.Flush.{flushedTo}
+use Rattle.events.specs.Event.{isNew, once, eventFlushes}
+use Rattle.flushes.specs.Targets.{Aimed}
 use Rattle.events.specs.Verdicts.{Admitted, Countable, Placed}
-use Rattle.windows.proofs.Targets.{empty-length, not-wanted-only}
+use Rattle.flushes.proofs.Targets.{empty-length, not-wanted-only}
 use Rattle.admission.proofs.Laws.{register-size}
 use Rattle.events.proofs.Verdicts.{events-left}
 

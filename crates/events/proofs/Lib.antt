@@ -2,3 +2,4 @@ pub mod Verdicts
 pub mod Counts
 pub mod Turns
 pub mod Pairs
+pub mod Refused

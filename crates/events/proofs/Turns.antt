@@ -10,8 +10,9 @@ use Rattle.state.specs.Probe.{Probe}
 use Rattle.identifiers.specs.Names.{Name, badLength}
 use Rattle.admission.specs.Admission.{firstOf, probeTests}
 use Rattle.admission.proofs.Laws.{barred, granted, probe-sound, register-size}
-use Rattle.windows.specs.Flush.{flushingIf}
-use Rattle.windows.specs.Calls.{isOpen, numberFor, eventFlushes, counted, registerFull, windowFull, registered, eventOf}
+use Rattle.flushes.specs.Flush.{flushingIf}
+use Rattle.windows.specs.Calls.{isOpen}
+use Rattle.events.specs.Event.{numberFor, eventFlushes, counted, registerFull, windowFull, registered, eventOf}
 use Rattle.events.specs.declared.Verdict.{Verdict}
 use Rattle.events.specs.Verdicts.{Judged, turnTests, Turned}
 use Rattle.events.proofs.Counts.{placed}

@@ -7,14 +7,14 @@ use Rattle.answers.specs.Numbers.{refusalNumber}
 use Rattle.state.specs.declared.State.{State}
 use Rattle.state.specs.Probe.{Probe}
 use Rattle.identifiers.specs.Names.{Name}
-use Rattle.windows.specs.declared.Target.{Target}
-use Rattle.windows.specs.Flush.{flushingIf, flushedTo, flushedCard}
-use Rattle.windows.specs.Calls.{eventFlushes, counted, registered, eventOf}
-use Rattle.windows.specs.Targets.{Aimed}
+use Rattle.flushes.specs.declared.Target.{Target}
+use Rattle.flushes.specs.Flush.{flushingIf, flushedTo, flushedCard}
+use Rattle.events.specs.Event.{eventFlushes, counted, registered, eventOf}
+use Rattle.flushes.specs.Targets.{Aimed}
 use Rattle.events.specs.Verdicts.{Admitted}
 use Rattle.windows.specs.Promises.{Gives, probeOf}
-use Rattle.windows.proofs.Targets.{follows-refused, follows-plain, follows-written}
-use Rattle.windows.proofs.Flushes.{gives-by, refuses, leaves}
+use Rattle.flushes.proofs.Targets.{follows-refused, follows-plain, follows-written}
+use Rattle.flushes.proofs.Flushes.{gives-by, refuses, leaves}
 
 -- refused before anything is written
 pub event-refused : (p : Probe) (n : Name) (why : Refusal) → eventOf p n ≡ refuse (refusalNumber why) → Gives p (eventOf p n) (refused (refusalNumber why)) p

@@ -20,7 +20,8 @@ use Rattle.state.specs.Probe.{Probe}
 use Rattle.identifiers.specs.Names.{Name, badLength, numberOf}
 use Rattle.identifiers.specs.Register.{names, registerRule}
 use Rattle.admission.specs.Admission.{firstOf, sameLengths}
-use Rattle.windows.specs.Calls.{isOpen, once, numberFor, registerFull, windowFull, eventOf}
+use Rattle.windows.specs.Calls.{isOpen}
+use Rattle.events.specs.Event.{once, numberFor, registerFull, windowFull, eventOf}
 use Rattle.events.specs.declared.Verdict.{Verdict}
 
 -- an event that none of refusals 1 to 9 stops, and its identifier's number

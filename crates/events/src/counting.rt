@@ -18,7 +18,7 @@ ghost use Rattle.postings.specs.Merge.{put};
 ghost use Rattle.state.specs.Views.{listed, listedOf, buffered, bufferOf};
 ghost use Rattle.state.specs.Rules.{windowsRule, bufferRule};
 ghost use Rattle.buffer.specs.Places.{pair};
-ghost use Rattle.windows.specs.Calls.{registered, counted};
+ghost use Rattle.events.specs.Event.{registered, counted};
 ghost use Rattle.events.specs.Verdicts.{Countable, Placed};
 
 // Is the pair new to a full buffer?

@@ -53,7 +53,7 @@ fn judge_turn(w: Windows, l: Listed, register: &[u8], id: &[u8]) -> Verdict
 pub fn judge_event(s: State, card: &[u8], register: &[u8], id: &[u8]) -> Verdict
     ensures { λ r. ⌜ Judged (probeOf s (now (card .entry)) (now (register .entry))) (now (id .entry)) r ⌝ }
 {
-    let a = admission::judge_probe(state::state_ok(s), s.lengths, card, register);
+    let a = admission::judge_probe(rules::state_ok(s), s.lengths, card, register);
     match a {
         Admission::Refused(why) => Verdict::Refused(why),
         Admission::Granted => judge_turn(s.windows, s.listed, register, id),

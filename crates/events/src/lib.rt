@@ -1,9 +1,10 @@
 // An event: judged first, and then counted.
 use answers::Refusal;
+use flushes::Target;
 use state::State;
 use windows::Replied;
-use windows::Target;
-ghost use Rattle.windows.specs.Promises.{probeOf, Counts};
+ghost use Rattle.windows.specs.Promises.{probeOf};
+ghost use Rattle.events.specs.Event.{Counts};
 ghost use Rattle.events.specs.Verdicts.{Admitted};
 
 mod counting; // counting an event that is judged
@@ -21,15 +22,10 @@ fn count(s: State, card: &mut [u8], register: &mut [u8], id: &[u8], i: u16) -> R
     ensures { λ r. ⌜ Counts s (now (card .entry)) (now (register .entry)) (now (id .entry)) r (now (card .exit)) (now (register .exit)) ⌝ }
 {
     let wanted = counting::must_flush(s.buffer, i, s.windows.current);
-    let target = windows::flushing::target_of(s, card, wanted);
+    let target = flushes::target_of(s, card, wanted);
     match target {
         Target::Refused(why) => windows::refuse(s, why),
-        Target::Block(b) => counting::enter(
-            windows::flushing::flush_to(s, card, b),
-            register,
-            id,
-            i,
-        ),
+        Target::Block(b) => counting::enter(flushes::flush_to(s, card, b), register, id, i),
         Target::Nothing => counting::enter(s, register, id, i),
     }
 }

@@ -7,7 +7,7 @@ use Rattle.postings.specs.Order.{ordered}
 use Rattle.card.specs.Blocks.{isFree}
 use Rattle.card.specs.Chains.{chain}
 use Rattle.card.specs.Cursors.{InCard, Chained}
-use Rattle.card.specs.Writes.{store}
+use Rattle.blocks.specs.Writes.{store}
 use Rattle.partitions.specs.Layout.{termCount, header, wordOf, encode}
 use Rattle.partitions.proofs.Counts.{numbers}
 use Rattle.partitions.proofs.Lengths.{terms-most}

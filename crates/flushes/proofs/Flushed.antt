@@ -11,8 +11,8 @@ use Rattle.state.specs.Views.{buffered}
 use Rattle.state.specs.Rules.{postingRule, bufferRule}
 use Rattle.state.proofs.Kept.{posting-kept, buffer-kept}
 use Rattle.card.specs.Blocks.{isFree, onCard}
-use Rattle.card.specs.Writes.{store}
-use Rattle.card.proofs.Stores.{apart}
+use Rattle.blocks.specs.Writes.{store}
+use Rattle.blocks.proofs.Stores.{apart}
 use Rattle.partitions.specs.Layout.{lengthOf, encode}
 use Rattle.partitions.specs.Reading.{chainOf, postingsOf, inPartitions}
 use Rattle.partitions.specs.Formed.{partitionRule, chainsOf, partitionsFormed, listRule, inRange, Writable}

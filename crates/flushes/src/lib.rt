@@ -1,83 +1,112 @@
-// A flush: the buffered postings written as one partition of level 0 into one free block.
-use card::put_block_word;
-use postings::pack;
+// The flush: judged first, and then written. It promises its answer, the state and the card as its definition says, whatever it is given.
+use admission::Admission;
+use answers::Refusal;
+use blocks::Free;
 use state::Buffer;
 use state::Partition;
 use state::Partitions;
+use state::State;
+use windows::Replied;
 ghost use mathlib.Core.Bool.{true};
-ghost use mathlib.Core.List.{[], _∷_, _++_, map};
 ghost use mathlib.Core.Path.{_≡_};
-ghost use Prim.Native.Nat.{_%_, _≤_, _<_};
-ghost use lib.Dec.{leb};
-ghost use lib.ListN.{length, replicate};
-ghost use lib.Seq.{sets};
-ghost use Rattle.lists.specs.Lists.{every, upTo};
-ghost use Rattle.words.specs.Words.{words, bytes};
-ghost use Rattle.postings.specs.Order.{ordered};
-ghost use Rattle.postings.specs.Sums.{under};
-ghost use Rattle.state.specs.Views.{buffered, finished, partitionsOf};
-ghost use Rattle.card.specs.Blocks.{isFree};
-ghost use Rattle.card.specs.Cursors.{InCard};
-ghost use Rattle.card.specs.Writes.{store};
-ghost use Rattle.partitions.specs.Layout.{termCount, lengthOf, wordOf, encode};
-ghost use Rattle.partitions.specs.Formed.{inRange};
+ghost use Prim.Native.Nat.{_≤_, _<_};
+ghost use lib.ListN.{length};
+ghost use Rattle.lists.specs.Lists.{empty, totalBy};
+ghost use Rattle.words.specs.Words.{words as wordsOf, bytes};
+ghost use Rattle.state.specs.Views.{buffered, finished};
+ghost use Rattle.state.specs.Rules.{stateRule};
+ghost use Rattle.card.specs.Chains.{blocksFor};
+ghost use Rattle.flushes.specs.Flush.{flushedTo, flushedCard, Flushes};
+ghost use Rattle.flushes.specs.Targets.{Aimed, Chosen, Judged};
 
-// Counts the buffered postings by identifier, packs them as words, and tells how many identifiers they have.
-fn tally(b: Buffer, counts: &mut [u16], content: &mut [u32]) -> u16
-    requires { ⌜ (b .used ≤ 128) × (every (λ p. leb (p .id) 1023) (buffered b) ≡ true) × (every (λ p. inRange (p .count)) (buffered b) ≡ true)
-        × (now counts ≡ replicate 1024 0) × (length (now content) ≡ 128) ⌝ }
-    ensures { λ r. ⌜ (r ≡ termCount (buffered b)) × (now (counts .exit) ≡ map (λ i. length (under i (buffered b))) (upTo 1024))
-        × (now (content .exit) ≡ sets (now (content .entry)) 0 (map wordOf (buffered b))) ⌝ }
+pub mod writing; // the buffered postings as one partition of level 0
+
+// What a flush comes to: nothing to write, a block to write to, or a refusal.
+pub enum Target {
+    Nothing,
+    Block(u16),
+    Refused(Refusal),
+}
+
+// The blocks of finished partitions.
+fn finished_blocks(p: Partitions) -> u64
+    requires { ⌜ p .used ≤ 51 ⌝ }
+    ensures { λ r. ⌜ (r ≤ 219043332045) × (r ≡ totalBy (λ q. blocksFor (q .length)) (finished p)) ⌝ }
 {
-    let n = b.used;
-    let mut terms: u16 = 0;
-    let mut i: u16 = 0;
+    let n = p.used as usize;
+    let mut i: usize = 0;
+    let mut total: u64 = 0;
     while i < n {
-        let p = b.postings[i as usize];
-        let size = p.count;
-        content[i as usize] = pack(size, p.window);
-        let id = p.id as usize;
-        let count = counts[id];
-        if count == 0 {
-            terms += 1;
-        }
-        counts[id] = count + 1;
+        let q = p.records[i];
+        total += partitions::blocks_for(q.length) as u64;
         i += 1;
     }
-    terms
+    total
 }
 
-// Writes the buffered postings as a partition into a free block, and tells how many identifiers they have. With its link that is a chain of one, which
-// holds nothing.
-fn write_counted(card: &mut [u8], block: u16, b: Buffer) -> u16
-    requires { ⌜ (length (now card) % 4096 ≡ 0) × InCard (words (now card)) block × (isFree (words (now card)) block ≡ true) × (b .used ≤ 128)
-        × (ordered (buffered b) ≡ true) × (every (λ p. inRange (p .count)) (buffered b) ≡ true) × (every (λ p. leb (p .id) 1023) (buffered b) ≡ true) ⌝ }
-    ensures { λ r. ⌜ (r ≡ termCount (buffered b)) × (now (card .exit) ≡ bytes (store (words (now (card .entry))) (block ∷ []) (encode 0 (buffered b)))) ⌝ }
+// Is nothing buffered?
+fn is_empty(b: Buffer) -> bool
+    requires { ⌜ b .used ≤ 128 ⌝ }
+    ensures { λ r. ⌜ r ≡ empty (buffered b) ⌝ }
 {
-    put_block_word(card, block, 1023, 65534);
-    let mut counts: [u16; 1024] = [0; 1024];
-    let mut content: [u32; 128] = [0; 128];
-    let terms = tally(b, &mut counts, &mut content);
-    outputs::write_header(card, block, 1, 0, terms, b.used as u32);
-    outputs::write_entries(card, block, 1, &counts);
-    let n = b.used as usize;
-    outputs::write_words(card, block, 1, 8 + 3 * terms as u32, &content[0..n]);
-    terms
+    b.used == 0
 }
 
-// Writes the buffered postings, and lists the partition as the youngest.
-pub fn flush(card: &mut [u8], block: u16, b: Buffer, ps: Partitions) -> Partitions
-    requires { ⌜ (length (now card) % 4096 ≡ 0) × InCard (words (now card)) block × (isFree (words (now card)) block ≡ true) × (b .used ≤ 128)
-        × (ordered (buffered b) ≡ true) × (every (λ p. inRange (p .count)) (buffered b) ≡ true) × (every (λ p. leb (p .id) 1023) (buffered b) ≡ true)
-        × (ps .used ≤ 51) × (length (finished ps) < 51) × (length (ps .records) ≡ 51 → ps ≡ partitionsOf (finished ps)) ⌝ }
-    ensures { λ r. ⌜ (r ≡ partitionsOf (finished ps ++ (record { first = block; level = 0; length = lengthOf (buffered b) } ∷ [])))
-        × (now (card .exit) ≡ bytes (store (words (now (card .entry))) (block ∷ []) (encode 0 (buffered b)))) ⌝ }
+// Judges the flush of a call that is admitted, where one is wanted, and finds the block that it takes.
+pub fn target_of(s: State, card: &[u8], wanted: bool) -> Target
+    requires { ⌜ (stateRule s ≡ true) × (length (now card) ≡ s .lengths .card) ⌝ }
+    ensures { λ r. ⌜ Aimed wanted s (now (card .entry)) r ⌝ }
 {
-    let terms = write_counted(card, block, b);
-    let p = Partition {
-        first: block,
-        level: 0,
-        length: 32 + 12 * terms as u32 + 4 * b.used as u32,
-    };
-    state::partition_list::append(ps, p)
+    if !wanted | is_empty(s.buffer) {
+        return Target::Nothing;
+    }
+    if levels::of_level(s.partitions, 0) >= 16 {
+        return Target::Refused(Refusal::LevelFull);
+    }
+    let blocks = s.lengths.card / 4096;
+    if 2 * finished_blocks(s.partitions) + 2 > blocks as u64 {
+        return Target::Refused(Refusal::HalfFull);
+    }
+    let free = blocks::next_free(card, blocks, s.taken);
+    match free {
+        Free::Block(b) => Target::Block(b),
+        Free::Nothing => Target::Refused(Refusal::TooFewFree),
+    }
+}
+
+// Judges a flush that stands alone.
+pub fn judge_flush(s: State, card: &[u8]) -> Target
+    ensures { λ r. ⌜ Judged s (now (card .entry)) r ⌝ }
+{
+    let a = admission::judge_card(rules::state_ok(s), s.lengths, card);
+    match a {
+        Admission::Refused(why) => Target::Refused(why),
+        Admission::Granted => target_of(s, card, true),
+    }
+}
+
+// Writes the buffer to the block that a flush takes. The buffer is empty then, and the partition the youngest.
+pub fn flush_to(s: State, card: &mut [u8], block: u16) -> State
+    requires { ⌜ (stateRule s ≡ true) × (length (now card) ≡ s .lengths .card) × Chosen s (wordsOf (now card)) block ⌝ }
+    ensures { λ r. ⌜ (r ≡ flushedTo s block) × (now (card .exit) ≡ bytes (flushedCard s (wordsOf (now (card .entry))) block)) ⌝ }
+{
+    let list = writing::flush(card, block, s.buffer, s.partitions);
+    let empty = windows::empty_buffer();
+    let mut t = s;
+    t.buffer = empty;
+    t.partitions = list;
+    t.taken = block;
+    t
+}
+
+// The buffer is written as one partition; an empty one writes nothing.
+pub fn flush(s: State, card: &mut [u8]) -> Replied
+    ensures { λ r. ⌜ Flushes s (now (card .entry)) r (now (card .exit)) ⌝ }
+{
+    let target = judge_flush(s, card);
+    match target {
+        Target::Refused(why) => windows::refuse(s, why),
+        Target::Block(b) => windows::done(flush_to(s, card, b)),
+        Target::Nothing => windows::done(s),
+    }
 }

@@ -7,8 +7,8 @@ use Rattle.state.specs.Rules.{cardLength, registerLength}
 use Rattle.identifiers.specs.Names.{badLength, numbersOf}
 use Rattle.identifiers.specs.Register.{names, registerRule, added}
 use Rattle.partitions.specs.Layout.{lengthOf}
-use Rattle.queries.specs.Hits.{frequency, score, matching, ranked}
-use Rattle.queries.specs.Query.{badQuery}
+use Rattle.ranking.specs.Hits.{frequency, score, matching, ranked}
+use Rattle.ranking.specs.Asked.{badQuery}
 use Rattle.engine.specs.Calls.{Call, run}
 use Rattle.accounts.specs.Account.{emptyAccount, takenFrom, blocksOf, blocksIn, inputsOf, merged, blocksAhead, completed, furthered, steppedAccount, flushedAccount, overflows, exceeds, addedTo, stepping, flushing, flushingIf}
 use Rattle.accounts.specs.Ledger.{emptyLedger, live, existing, opens, closes, counts, removes}

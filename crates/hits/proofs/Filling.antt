@@ -9,9 +9,9 @@ use Rattle.answers.specs.declared.Hit.{Hit}
 use Rattle.state.specs.Probe.{Probe}
 use Rattle.identifiers.specs.Names.{Name}
 use Rattle.windows.specs.Promises.{Gives}
-use Rattle.queries.specs.declared.Top.{Top}
+use Rattle.ranking.specs.declared.Top.{Top}
 use Rattle.queries.specs.Query.{fill, queryOf}
-use Rattle.queries.specs.Top.{noHit, listedHits, topOf}
+use Rattle.ranking.specs.Top.{noHit, listedHits, topOf}
 use Rattle.queries.specs.Finds.{hitsIn, answered, Finds}
 use Rattle.queries.proofs.Outcomes.{found-filled}
 use Rattle.hits.specs.Lent.{hitCount}

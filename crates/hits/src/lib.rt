@@ -1,14 +1,14 @@
 // The query that is lent a list for its hits.
 use answers::Found;
 use answers::Hit;
-use queries::Top;
+use ranking::Top;
 use state::State;
 ghost use mathlib.Core.List.{map};
 ghost use mathlib.Core.Path.{_≡_};
 ghost use Prim.Native.Nat.{_≤_, _<_};
 ghost use lib.ListN.{length, getD};
 ghost use Rattle.queries.specs.Query.{fill};
-ghost use Rattle.queries.specs.Top.{noHit, listedHits};
+ghost use Rattle.ranking.specs.Top.{noHit, listedHits};
 ghost use Rattle.hits.specs.Lent.{Asks};
 
 // How many hits are listed.

@@ -1,5 +1,4 @@
 pub mod Names
 pub mod Entries
 pub mod Added
-pub mod Chains
-pub mod Sorted
+pub mod Lent

@@ -6,7 +6,7 @@ use Rattle.answers.proofs.Kept.{unchanged-carry}
 use Rattle.state.specs.declared.MergeJob.{MergeJob}
 use Rattle.state.specs.Probe.{Store}
 use Rattle.windows.specs.Promises.{Gives}
-use Rattle.merges.specs.Step.{stepOf}
+use Rattle.plans.specs.Step.{stepOf}
 use Rattle.merges.proofs.Refused.{step-unchanged}
 use Rattle.jobs.specs.Lent.{Lent, withOwn, sameRecord, lentStepOf}
 

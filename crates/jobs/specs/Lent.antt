@@ -7,7 +7,7 @@ use Rattle.answers.specs.Answers.{Outcome, refuseIf, carry}
 use Rattle.state.specs.declared.MergeJob.{MergeJob}
 use Rattle.state.specs.declared.State.{State}
 use Rattle.state.specs.Probe.{Store}
-use Rattle.merges.specs.Step.{stepOf}
+use Rattle.plans.specs.Step.{stepOf}
 
 -- what a step is lent: state and card, and beside them the record of the merge in progress
 pub record Lent : Type 0 where

@@ -7,22 +7,22 @@ use Rattle.state.specs.declared.State.{State}
 use Rattle.state.specs.Views.{padded, blocks, finished}
 use Rattle.card.specs.Blocks.{noBlock, isFree, freeBlocks}
 use Rattle.card.specs.Chains.{blocksFor, chainRule, content}
-use Rattle.card.specs.Writes.{store, release}
-use Rattle.card.specs.Moves.{Fills, Moves}
+use Rattle.blocks.specs.Writes.{store, release}
+use Rattle.blocks.specs.Moves.{Fills, Moves}
 use Rattle.card.proofs.Chains.{chain-none}
 use Rattle.card.proofs.Links.{length-chain}
-use Rattle.card.proofs.Stores.{length-store, length-release}
-use Rattle.card.proofs.FreeBlocks.{free-free}
-use Rattle.card.proofs.ByteRule.{store-fills, release-frees, fills-moves, fills-frees}
-use Rattle.card.proofs.Refills.{refills}
+use Rattle.blocks.proofs.Stores.{length-store, length-release}
+use Rattle.blocks.proofs.FreeBlocks.{free-free}
+use Rattle.blocks.proofs.ByteRule.{store-fills, release-frees, fills-moves, fills-frees}
+use Rattle.blocks.proofs.Refills.{refills}
 use Rattle.partitions.specs.Layout.{identifiersOf, termCount, lengthOf, header, entryOf, wordOf, encode}
 use Rattle.partitions.specs.Reading.{postingsOf}
 use Rattle.partitions.specs.Formed.{partitionsFormed, chainsOf, listRule, inRange}
 use Rattle.outputs.proofs.Freeing.{different-parts}
-use Rattle.merges.specs.Merging.{inputs, taking, result, outputLength, outputBlocks, progress, isLast, outputLevel, outputContent}
-use Rattle.merges.specs.Step.{inProgress, outputChain, outputRule, stepFormed, outputOn, writtenOn}
-use Rattle.merges.proofs.Progress.{front, nonzero-append, map-append, nonzero-take, length-progress, all-taken, result-room}
-use Rattle.merges.proofs.Drafting.{chain-first}
+use Rattle.plans.specs.Merging.{inputs, taking, result, outputLength, outputBlocks, progress, isLast, outputLevel, outputContent}
+use Rattle.plans.specs.Step.{inProgress, outputChain, outputRule, stepFormed, outputOn, writtenOn}
+use Rattle.plans.proofs.Progress.{front, nonzero-append, map-append, nonzero-take, length-progress, all-taken, result-room}
+use Rattle.plans.proofs.Drafting.{chain-first}
 
 -- Filled further ---------------------------------------------------------------------------------------------------------
 

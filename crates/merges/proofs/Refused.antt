@@ -2,7 +2,7 @@
 use Rattle.answers.specs.Unchanged.{Unchanged}
 use Rattle.answers.proofs.Kept.{unchanged-if, unchanged-done}
 use Rattle.state.specs.Probe.{Store}
-use Rattle.merges.specs.Step.{stepping, stepOf}
+use Rattle.plans.specs.Step.{stepping, stepOf}
 
 pub step-unchanged : (p : Store) → Unchanged p (stepOf p)
 unfolding stepOf stepping

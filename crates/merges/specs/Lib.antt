@@ -1,4 +1,2 @@
-pub mod Merging
-pub mod Step
-pub mod Acting
 pub mod Promises
+pub mod Acted

@@ -5,7 +5,7 @@ use Rattle.answers.specs.Numbers.{replied}
 use Rattle.state.specs.declared.State.{State}
 use Rattle.windows.specs.declared.Replied.{Replied}
 use Rattle.windows.specs.Promises.{Gives, storeOf}
-use Rattle.merges.specs.Step.{stepOf}
+use Rattle.plans.specs.Step.{stepOf}
 
 -- a merge step
 abbrev pub Steps : (s : State) (card : List ℕ) (r : Replied) (card′ : List ℕ) → Type 0

@@ -1,8 +1,8 @@
 // What a step that is not refused writes, and the state that it leaves.
-use super::Output;
-use super::listing;
 use inputs::Batch;
 use inputs::Totals;
+use plans::Output;
+use plans::output_length;
 use state::MergeJob;
 use state::Partition;
 use state::Partitions;
@@ -24,18 +24,7 @@ ghost use Rattle.inputs.specs.Judging.{Small};
 ghost use Rattle.inputs.specs.Ahead.{batched};
 ghost use Rattle.outputs.specs.Contents.{written};
 ghost use Rattle.outputs.specs.Entries.{entriesBy};
-ghost use Rattle.merges.specs.Acting.{Fits, withFront, outputWritten, lengthFrom, recordFrom};
-
-// The length of the output.
-pub fn output_length(t: Totals) -> u32
-    requires { ⌜ Small t ⌝ }
-    ensures { λ r. ⌜ r ≡ lengthFrom t ⌝ }
-{
-    if t.postings == 0 {
-        return 0;
-    }
-    32 + 12 * t.terms as u32 + 4 * t.postings
-}
+ghost use Rattle.plans.specs.Acting.{Fits, withFront, outputWritten, lengthFrom, recordFrom};
 
 // Whether no pair is left after a step that takes so many.
 pub fn is_last(t: Totals, steps: u32, taken: u16) -> bool
@@ -92,13 +81,13 @@ pub fn list_after(last: bool, ps: Partitions, t: Totals, o: Output) -> Partition
     if !last {
         return ps;
     }
-    let level = listing::output_level(ps);
+    let level = levels::merging::output_level(ps);
     let q = Partition {
         first: o.first,
         level: level,
         length: output_length(t),
     };
-    listing::replaced_by(ps, t.postings != 0, q)
+    levels::merging::replaced_by(ps, t.postings != 0, q)
 }
 
 // The record of the merge after a step: none after the last.

@@ -6,11 +6,11 @@ use Rattle.lists.proofs.Places.{any-at}
 use Rattle.words.specs.Words.{allOnes}
 use Rattle.card.specs.Blocks.{block, onCard}
 use Rattle.card.specs.Chains.{chain, chainRule, content}
-use Rattle.card.specs.Writes.{store}
+use Rattle.blocks.specs.Writes.{store}
 use Rattle.card.proofs.Links.{chained-link, length-content, content-at}
-use Rattle.card.proofs.Stores.{length-store, store-apart}
-use Rattle.card.proofs.Stored.{chain-stored, rule-stored, content-stored}
-use Rattle.card.proofs.ByteRule.{word-kept}
+use Rattle.blocks.proofs.Stores.{length-store, store-apart}
+use Rattle.blocks.proofs.Stored.{chain-stored, rule-stored, content-stored}
+use Rattle.blocks.proofs.ByteRule.{word-kept}
 use Rattle.outputs.specs.Contents.{spotOf, written}
 use Rattle.outputs.proofs.Writing.{chain-set, rule-set}
 

@@ -3,8 +3,8 @@ use Rattle.lists.proofs.Prelude.{true, List, [], _∷_, _++_, inr, _≡_, sym, 
 use Rattle.lists.proofs.Stores.{sets-append, sets-same}
 use Rattle.words.specs.Words.{allOnes}
 use Rattle.card.specs.Blocks.{noBlock, isFree}
-use Rattle.card.specs.Writes.{putBlock, store}
-use Rattle.card.proofs.FreeBlocks.{free-word}
+use Rattle.blocks.specs.Writes.{putBlock, store}
+use Rattle.blocks.proofs.FreeBlocks.{free-word}
 
 module _ (W : List ℕ) (b : ℕ) (inside : 1024 * b + 1023 < length W) (free : isFree W b ≡ true) where
   -- a block put to a free one is its content, word by word, and its link

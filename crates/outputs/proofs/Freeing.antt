@@ -4,8 +4,8 @@ use Rattle.words.specs.Words.{allOnes}
 use Rattle.state.specs.declared.Partition.{Partition}
 use Rattle.card.specs.Chains.{blocksFor}
 use Rattle.card.specs.Cursors.{InCard, Chained}
-use Rattle.card.specs.Writes.{release}
-use Rattle.card.proofs.Stores.{apart, length-release, chain-agree}
+use Rattle.blocks.specs.Writes.{release}
+use Rattle.blocks.proofs.Stores.{apart, length-release, chain-agree}
 use Rattle.partitions.specs.Reading.{chainOf}
 use Rattle.partitions.specs.Formed.{chainsOf}
 use Rattle.partitions.proofs.Kept.{AgreeAll, chains-kept, release-keeps}

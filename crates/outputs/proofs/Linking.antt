@@ -2,10 +2,10 @@
 use Rattle.lists.proofs.Prelude.{true, false, not, _&&_, List, [], _∷_, _++_, _≡_, refl, sym, ap, _∙_, ℕ, suc, _+_, _-_, _*_, _<_, _≤_, add-one, arith, eqb, ltb, length, getD, set, take, drop, length-set, length-append, drop-of-length-le, drop-cons, getD-take, getD-set-same, drop-set-lt, length-take-le, eqb-true, eqb-false, ltb-true, ltb-false, keep, every, by-test, and-left, and-right, part-set, every-append}
 use Rattle.words.specs.Words.{allOnes}
 use Rattle.card.specs.Blocks.{noBlock, block, link, isFree, afterTaken, freeBlocks}
-use Rattle.card.specs.declared.Free.{Free}
-use Rattle.card.specs.Free.{firstOf}
-use Rattle.card.specs.Writes.{putBlock, store}
-use Rattle.card.proofs.FreeBlocks.{free-at, free-free, free-different, free-link}
+use Rattle.blocks.specs.declared.Free.{Free}
+use Rattle.blocks.specs.Free.{firstOf}
+use Rattle.blocks.specs.Writes.{putBlock, store}
+use Rattle.blocks.proofs.FreeBlocks.{free-at, free-free, free-different, free-link}
 use Rattle.outputs.proofs.Free.{put-free}
 use Rattle.outputs.proofs.Turning.{free-turned, keep-others, keep-both}
 

@@ -1,7 +1,7 @@
 -- The order of taking from another block on: the blocks turned round.
 use Rattle.lists.proofs.Prelude.{Bool, true, false, not, _&&_, List, [], _∷_, _++_, _⊎_, inl, inr, ⊎-elim, _≡_, refl, sym, ap, _∙_, ℕ, suc, _+_, _-_, _<_, arith, eqb, ltb, length, getD, take, drop, length-append, length-drop, List·getD-append, length-take-le, getD-append-add, getD-take, getD-drop, take-suc, ext-getD, ltb-true, ltb-false, eqb-false, eq-eqb, ne-eqb, not-true, keep, elem, different, by-test, and-left, and-right, or-none, keep-append, any-append}
 use Rattle.card.specs.Blocks.{isFree, afterTaken, freeBlocks}
-use Rattle.card.proofs.Taking.{length-after, after-up, after-round}
+use Rattle.blocks.proofs.Taking.{length-after, after-up, after-round}
 
 -- Lists --------------------------------------------------------------------------------------------------------------
 

@@ -3,7 +3,7 @@ use Rattle.lists.proofs.Prelude.{true, List, [], _++_, map, append-assoc, _≡_
 use Rattle.postings.specs.declared.Posting.{Posting}
 use Rattle.postings.specs.Order.{ordered}
 use Rattle.postings.specs.Sums.{under}
-use Rattle.card.specs.Writes.{store}
+use Rattle.blocks.specs.Writes.{store}
 use Rattle.partitions.specs.Layout.{identifiersOf, termCount, header, entryOf, wordOf, encode}
 use Rattle.outputs.specs.Contents.{written}
 use Rattle.outputs.specs.Entries.{entriesBy}

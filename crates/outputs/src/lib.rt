@@ -1,8 +1,8 @@
 // A partition written along a chain of blocks: its header, entries and postings; free blocks linked, and a merge's inputs' blocks freed.
+use blocks::Free;
+use blocks::put_block_word;
 use card::Cursor;
-use card::Free;
 use card::block_word;
-use card::put_block_word;
 use postings::Posting;
 use postings::pack;
 use state::Partitions;
@@ -19,7 +19,7 @@ ghost use Rattle.state.specs.Views.{finished};
 ghost use Rattle.card.specs.Blocks.{freeBlocks};
 ghost use Rattle.card.specs.Chains.{blocksFor, chain};
 ghost use Rattle.card.specs.Cursors.{InCard, Chained, Good, ahead};
-ghost use Rattle.card.specs.Writes.{store, release};
+ghost use Rattle.blocks.specs.Writes.{store, release};
 ghost use Rattle.partitions.specs.Layout.{totalLength, header, wordOf};
 ghost use Rattle.partitions.specs.Formed.{chainsOf, inRange};
 ghost use Rattle.outputs.specs.Contents.{written, reached, entered};
@@ -155,7 +155,7 @@ pub fn release_inputs(card: &mut [u8], ps: Partitions)
     let mut i: usize = 0;
     while i < n {
         let p = ps.records[i];
-        card::release_chain(card, p.first, partitions::blocks_for(p.length));
+        blocks::release_chain(card, p.first, partitions::blocks_for(p.length));
         i += 1;
     }
 }
@@ -165,7 +165,7 @@ fn free_after(card: &[u8], blocks: u32, taken: u16) -> u16
     requires { ⌜ (length (wordsOf (now card)) ≡ 1024 * blocks) × (blocks ≤ 4096) × (taken < blocks) × (1 ≤ length (freeBlocks (wordsOf (now card)) blocks taken)) ⌝ }
     ensures { λ r. ⌜ r ≡ getD (freeBlocks (wordsOf (now (card .entry))) blocks taken) 0 0 ⌝ }
 {
-    let found = card::next_free(card, blocks, taken);
+    let found = blocks::next_free(card, blocks, taken);
     match found {
         Free::Block(block) => block,
         Free::Nothing => taken,

@@ -5,10 +5,10 @@ use Rattle.postings.specs.declared.Posting.{Posting}
 use Rattle.state.specs.declared.Partition.{Partition}
 use Rattle.card.specs.Blocks.{isFree, onCard}
 use Rattle.card.specs.Chains.{blocksFor, chain, chainRule, content}
-use Rattle.card.specs.Writes.{store, release}
-use Rattle.card.proofs.Stores.{Agree, apart, store-agrees, release-agrees, chain-agree, rule-agree, content-agree}
-use Rattle.card.proofs.FreeBlocks.{chain-taken, apart-free}
-use Rattle.card.proofs.Stored.{chain-stored, rule-stored, content-stored}
+use Rattle.blocks.specs.Writes.{store, release}
+use Rattle.blocks.proofs.Stores.{Agree, apart, store-agrees, release-agrees, chain-agree, rule-agree, content-agree}
+use Rattle.blocks.proofs.FreeBlocks.{chain-taken, apart-free}
+use Rattle.blocks.proofs.Stored.{chain-stored, rule-stored, content-stored}
 use Rattle.partitions.specs.Layout.{lengthOf, encode, writtenAs}
 use Rattle.partitions.specs.Reading.{chainOf, decode, postingsOf, inPartitions}
 use Rattle.partitions.specs.Formed.{headerRule, entriesRule, partitionRule, chainsOf, partitionsFormed, Writable}

@@ -3,3 +3,4 @@ pub mod Trips
 pub mod Order
 pub mod Sums
 pub mod Merge
+pub mod Counts

@@ -1,6 +1,5 @@
 -- What is gathered of a query's identifiers, identifier by identifier.
-use Rattle.lists.proofs.Prelude.{true, false, _&&_, List, [], _∷_, _++_, map, map-append, _≡_, refl, sym, ap, _∙_, subst, ℕ, _+_, _*_, _<_, _≤_, add-one, arith, ltb, length, getD, take, drop, length-take, length-append, drop-of-length-le, List·getD-map, drop-cons, take-suc, take-all, take-append-le, lt-ltb, le-ltb, keep, every, totalBy, AllOf, never, keep-append}
-use denote.Ref.{RefT, now}
+use Rattle.lists.proofs.Prelude.{true, false, _&&_, List, [], _∷_, _++_, map, map-append, _≡_, refl, sym, ap, _∙_, subst, ℕ, _+_, _*_, _<_, _≤_, add-one, arith, ltb, length, getD, take, drop, length-take, length-append, drop-of-length-le, drop-cons, take-suc, take-all, take-append-le, lt-ltb, le-ltb, keep, every, totalBy, AllOf, never, keep-append}
 use Rattle.postings.specs.Sums.{under}
 use Rattle.state.specs.declared.State.{State}
 use Rattle.identifiers.specs.Names.{Name, numberOf, numbersOf}
@@ -8,19 +7,11 @@ use Rattle.partitions.specs.Reading.{stored}
 use Rattle.partitions.specs.Formed.{identifierFormed}
 use Rattle.kway.specs.Parts.{parts}
 use Rattle.kway.proofs.Parts.{putIn, all-more, put-here, map-more}
-use Rattle.terms.specs.declared.counting.Counted.{Counted}
-use Rattle.terms.specs.Terms.{Term, KeptGroup, termOf, termsOf, Serves, CountedFor}
+use Rattle.scores.specs.declared.counting.Counted.{Counted}
+use Rattle.scores.specs.Terms.{Term, KeptGroup, termOf, termsOf, Serves, CountedFor}
 use Rattle.terms.proofs.Fronts.{parts-front}
 use Rattle.queries.specs.declared.judging.Known.{Known}
 use Rattle.queries.specs.Gathered.{storedUnder, Serving, none, more, Keeps, KeptOf, Gathered}
-
--- what `getD` gives past the end of identifiers that are lent
-abbrev pub nothing : RefT (List ℕ)
-nothing = record { ptr = (0, 0); name = 0; now = [] }
-
--- an identifier that is lent
-pub lent-at : (l : List (RefT (List ℕ))) (i : ℕ) → getD (map now l) i [] ≡ now (getD l i nothing)
-lent-at l i = List·getD-map now l i nothing
 
 -- ---- one term more
 

@@ -1,7 +1,4 @@
 pub mod Refused
-pub mod Ranking
-pub mod Tops
-pub mod Sorting
 pub mod Walked
 pub mod Matching
 pub mod Numbers

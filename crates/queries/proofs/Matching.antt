@@ -9,9 +9,9 @@ use Rattle.answers.specs.declared.Hit.{Hit}
 use Rattle.state.specs.declared.State.{State}
 use Rattle.partitions.specs.Reading.{stored}
 use Rattle.partitions.specs.Formed.{inRange}
-use Rattle.terms.specs.Terms.{Term, Serves}
-use Rattle.terms.specs.Scores.{groupsIn, weightsIn, weighAll}
-use Rattle.queries.specs.Hits.{place, frequency, score, matching, ranked}
+use Rattle.scores.specs.Terms.{Term, Serves}
+use Rattle.scores.specs.Scores.{groupsIn, weightsIn, weighAll}
+use Rattle.ranking.specs.Hits.{place, frequency, score, matching, ranked}
 use Rattle.queries.specs.Query.{countIn, hitsOf}
 use Rattle.queries.specs.Walks.{foundAt, foundBy, foundIn}
 use Rattle.queries.specs.Gathered.{Serving, none, more}

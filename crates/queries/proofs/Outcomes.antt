@@ -16,19 +16,20 @@ use Rattle.state.proofs.Kept.{state-kept}
 use Rattle.identifiers.specs.Names.{Name, badLength, distinct}
 use Rattle.identifiers.specs.Register.{names, registerRule}
 use Rattle.partitions.specs.Formed.{partitionsFormed, identifierFormed}
-use Rattle.terms.specs.Terms.{Term, termsOf}
+use Rattle.scores.specs.Terms.{Term, termsOf}
 use Rattle.admission.specs.Admission.{firstOf, sameLengths, probeTests}
 use Rattle.admission.proofs.Laws.{refused-apart, barred}
-use Rattle.queries.specs.declared.Top.{Top}
+use Rattle.ranking.specs.declared.Top.{Top}
 use Rattle.queries.specs.declared.Answered.{Answered}
 use Rattle.queries.specs.declared.judging.Known.{Known}
-use Rattle.queries.specs.Hits.{place, score, matching, ranked}
-use Rattle.queries.specs.Query.{countIn, takenUp, numbers, queryFormed, badQuery, hitsOf, fill, querying, queryOf}
-use Rattle.queries.specs.Top.{noHit, listedHits, topOf}
+use Rattle.ranking.specs.Hits.{place, score, matching, ranked}
+use Rattle.queries.specs.Query.{countIn, takenUp, numbers, queryFormed, hitsOf, fill, querying, queryOf}
+use Rattle.ranking.specs.Asked.{badQuery}
+use Rattle.ranking.specs.Top.{noHit, listedHits, topOf}
 use Rattle.queries.specs.Walks.{foundIn, Walkable}
 use Rattle.queries.specs.Gathered.{Sound, Readied, storedUnder, Serving, Gathered}
 use Rattle.queries.specs.Finds.{probeOf, hitsIn, Finds}
-use Rattle.queries.proofs.Tops.{listed-of}
+use Rattle.ranking.proofs.Tops.{listed-of}
 use Rattle.queries.proofs.Matching.{served-falls, served-ranges, found-hits}
 use Rattle.queries.proofs.Numbers.{numbers-few, numbers-different, taken-each}
 

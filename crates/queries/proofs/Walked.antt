@@ -9,16 +9,16 @@ use Rattle.postings.specs.Sums.{isAbove}
 use Rattle.answers.specs.declared.Hit.{Hit}
 use Rattle.partitions.specs.Formed.{inRange}
 use Rattle.kway.specs.Parts.{parts}
-use Rattle.terms.specs.Terms.{KeptGroup, termsOf}
-use Rattle.terms.specs.Scores.{groupsIn, weightsIn, moved, weighAll, scoreAt}
-use Rattle.terms.proofs.Joined.{moved-groups, moved-weights}
-use Rattle.queries.specs.declared.Top.{Top}
-use Rattle.queries.specs.Hits.{outranks, place}
-use Rattle.queries.specs.Top.{noHit, topOf, listedHits, Held}
+use Rattle.scores.specs.Terms.{KeptGroup, termsOf}
+use Rattle.scores.specs.Scores.{groupsIn, weightsIn, moved, weighAll, scoreAt}
+use Rattle.scores.proofs.Joined.{moved-groups, moved-weights}
+use Rattle.ranking.specs.declared.Top.{Top}
+use Rattle.ranking.specs.Hits.{outranks, place}
+use Rattle.ranking.specs.Top.{noHit, topOf, listedHits, Held}
 use Rattle.queries.specs.Walks.{hitAt, foundAt, foundBy, foundIn, Walkable}
-use Rattle.queries.proofs.Ranking.{walked-hits}
-use Rattle.queries.proofs.Sorting.{Sorted, sorted-place, sorted-take, left-out}
-use Rattle.queries.proofs.Tops.{listed-of, held-of, held-take}
+use Rattle.ranking.proofs.Ranking.{walked-hits}
+use Rattle.ranking.proofs.Sorting.{Sorted, sorted-place, sorted-take, left-out}
+use Rattle.ranking.proofs.Tops.{listed-of, held-of, held-take}
 
 -- ---- each window is found once
 

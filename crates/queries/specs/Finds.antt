@@ -13,9 +13,9 @@ use Rattle.state.specs.Probe.{Probe}
 pub use Rattle.state.specs.Probe.{probeOf}
 use Rattle.identifiers.specs.Names.{Name}
 use Rattle.queries.specs.declared.Answered.{Answered}
-use Rattle.queries.specs.declared.Top.{Top}
+use Rattle.ranking.specs.declared.Top.{Top}
 use Rattle.queries.specs.Query.{queryOf}
-use Rattle.queries.specs.Top.{noHit, topOf}
+use Rattle.ranking.specs.Top.{noHit, topOf}
 
 -- the hits of an answer, none where it has none
 abbrev pub hitsIn : Answer → List Hit

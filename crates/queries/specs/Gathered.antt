@@ -16,7 +16,7 @@ use Rattle.partitions.specs.Reading.{stored}
 use Rattle.partitions.specs.Formed.{partitionsFormed, identifierFormed}
 use Rattle.kway.specs.Parts.{parts}
 use Rattle.terms.specs.Opening.{Packed}
-use Rattle.terms.specs.Terms.{Term, KeptGroup, termsOf, Serves}
+use Rattle.scores.specs.Terms.{Term, KeptGroup, termsOf, Serves}
 use Rattle.queries.specs.declared.judging.Known.{Known}
 
 -- state, card and register may be read: they keep their rules and have the lengths given at the start, and the finished partitions are well formed

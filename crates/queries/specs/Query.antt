@@ -1,10 +1,9 @@
 -- The query: what it answers and leaves, for every input.
-use mathlib.Core.Bool.{Bool, _||_, _&&_, not}
+use mathlib.Core.Bool.{Bool, _&&_, not}
 use mathlib.Core.List.{List, [], _∷_, _++_}
 use Prim.Native.Nat.{ℕ}
-use lib.Dec.{eqb, ltb}
 use lib.ListN.{length, drop}
-use Rattle.lists.specs.Lists.{keep, any, every, empty, elem, down}
+use Rattle.lists.specs.Lists.{keep, any, every, elem, down}
 use Rattle.words.specs.Words.{words}
 use Rattle.postings.specs.Sums.{sum, above}
 use Rattle.answers.specs.Answers.{Outcome, leave, hits}
@@ -15,11 +14,12 @@ use Rattle.state.specs.declared.State.{State}
 use Rattle.state.specs.Views.{blocks, finished}
 use Rattle.state.specs.Rules.{stateRule}
 use Rattle.state.specs.Probe.{Probe, sameLength}
-use Rattle.identifiers.specs.Names.{Name, badLength, distinct, numbersOf}
+use Rattle.identifiers.specs.Names.{Name, badLength, numbersOf}
 use Rattle.identifiers.specs.Register.{names, registerRule}
 use Rattle.partitions.specs.Reading.{stored}
 use Rattle.partitions.specs.Formed.{partitionsFormed, identifierFormed}
-use Rattle.queries.specs.Hits.{ranked}
+use Rattle.ranking.specs.Hits.{ranked}
+use Rattle.ranking.specs.Asked.{badQuery}
 
 -- the count of a pair: the sum of what is stored, and nothing where that is not above 0
 unfoldable pub countIn : List ℕ → State → ℕ → ℕ → ℕ
@@ -37,10 +37,6 @@ numbers register ns = numbersOf (names register) ns
 unfoldable pub queryFormed : List ℕ → State → List ℕ → List ℕ → Bool
 queryFormed W s register is =
     registerRule register && (partitionsFormed W (blocks s) (finished (s .partitions)) && every (identifierFormed W s) is)
-
--- refusal 14: no identifier or more than 5, one of them twice, or a list of no places or more than 32
-unfoldable pub badQuery : ℕ → List Name → Bool
-badQuery k ns = empty ns || (ltb 5 (length ns) || (not (distinct ns) || (eqb k 0 || ltb 32 k)))
 
 -- the hits of a query with k places, for the numbers of its identifiers
 unfoldable pub hitsOf : List ℕ → State → ℕ → List ℕ → List Hit

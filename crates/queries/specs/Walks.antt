@@ -13,8 +13,8 @@ use Rattle.postings.specs.Sums.{isAbove}
 use Rattle.answers.specs.declared.Hit.{Hit}
 use Rattle.partitions.specs.Formed.{inRange}
 use Rattle.kway.specs.Parts.{parts}
-use Rattle.terms.specs.Terms.{Term, KeptGroup, termsOf}
-use Rattle.terms.specs.Scores.{groupsIn, weightsIn, weighAll}
+use Rattle.scores.specs.Terms.{Term, KeptGroup, termsOf}
+use Rattle.scores.specs.Scores.{groupsIn, weightsIn, weighAll}
 
 -- the hit of the window w, where its sums are v and the identifiers' weights ws
 abbrev pub hitAt : List ℕ → ℕ → List ℤ → Hit

@@ -1,13 +1,10 @@
 // A query's identifiers: what is read of them is judged and counted, and they are tested.
 use state::State;
-ghost use mathlib.Core.List.{[], map};
-ghost use mathlib.Core.Path.{_≡_};
+ghost use mathlib.Core.List.{map};
 ghost use Prim.Native.Nat.{_*_, _≤_, _<_};
-ghost use lib.ListN.{length, getD, take};
-ghost use Rattle.lists.specs.Lists.{any};
+ghost use lib.ListN.{length};
 ghost use Rattle.words.specs.Words.{words as wordsOf};
-ghost use Rattle.identifiers.specs.Names.{badLength, among, distinct};
-ghost use Rattle.queries.specs.Query.{numbers, badQuery};
+ghost use Rattle.queries.specs.Query.{numbers};
 ghost use Rattle.queries.specs.Gathered.{Sound, Readied, KeptOf, Gathered};
 
 // Whether what is read of the identifiers is well formed, how many of the first five have a term, and how many postings these have.
@@ -31,7 +28,7 @@ fn keep_one(
     ensures { λ r. ⌜ KeptOf (wordsOf (now (card .entry))) (now (run .entry)) s k (now (heads .entry)) id r (now (heads .exit)) ⌝ }
 {
     if k.used >= 5 {
-        let fine = terms::counting::judge_term(card, run, spare, s, id);
+        let fine = scores::counting::judge_term(card, run, spare, s, id);
         return Known {
             fine: fine,
             used: k.used,
@@ -42,7 +39,7 @@ fn keep_one(
     let size = 4 * m + 4;
     let at = size * k.used as usize;
     let end = at + size;
-    let o = terms::counting::keep_term(card, run, &mut heads[at..end], spare, s, id);
+    let o = scores::counting::keep_term(card, run, &mut heads[at..end], spare, s, id);
     Known {
         fine: o.fine,
         used: k.used + 1,
@@ -83,62 +80,4 @@ pub fn gather(
         i += 1;
     }
     known
-}
-
-// Whether an identifier is empty or too long.
-pub fn any_bad(ids: &[&[u8]]) -> bool
-    ensures { λ r. ⌜ r ≡ any badLength (map now (now (ids .entry))) ⌝ }
-{
-    let mut i: usize = 0;
-    while i < ids.len() {
-        let id = ids[i];
-        if identifiers::bad_length(id) {
-            return true;
-        }
-        i += 1;
-    }
-    false
-}
-
-// Whether the identifier at place i stands before it.
-fn repeats(ids: &[&[u8]], i: usize) -> bool
-    requires { ⌜ i < length (now ids) ⌝ }
-    ensures { λ r. ⌜ r ≡ among (getD (map now (now (ids .entry))) i []) (take i (map now (now (ids .entry)))) ⌝ }
-{
-    let id = ids[i];
-    let mut j: usize = 0;
-    while j < i {
-        let other = ids[j];
-        if identifiers::equal(other, id) {
-            return true;
-        }
-        j += 1;
-    }
-    false
-}
-
-// Whether no identifier is there twice.
-fn all_differ(ids: &[&[u8]]) -> bool
-    ensures { λ r. ⌜ r ≡ distinct (map now (now (ids .entry))) ⌝ }
-{
-    let mut i: usize = 0;
-    while i < ids.len() {
-        if repeats(ids, i) {
-            return false;
-        }
-        i += 1;
-    }
-    true
-}
-
-// Whether the query has no identifier or more than 5, one of them twice, or no places or more than 32.
-pub fn bad_query(ids: &[&[u8]], places: usize) -> bool
-    ensures { λ r. ⌜ r ≡ badQuery places (map now (now (ids .entry))) ⌝ }
-{
-    let count = ids.len();
-    if 5 < count {
-        return true;
-    }
-    let repeated = !all_differ(ids);
-    (count == 0) | (repeated | ((places == 0) | (32 < places)))
 }

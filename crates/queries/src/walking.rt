@@ -1,14 +1,14 @@
 // The second pass of a query: window after window, from the highest at any head down.
-use super::Top;
 use answers::Hit;
+use ranking::Top;
 ghost use mathlib.Core.List.{[], foldr};
 ghost use mathlib.Core.Path.{_≡_};
 ghost use Prim.Native.Nat.{_≤_};
 ghost use lib.ListN.{take as first};
 ghost use Rattle.words.specs.Words.{words as wordsOf};
-ghost use Rattle.terms.specs.Terms.{termsOf};
-ghost use Rattle.queries.specs.Hits.{place};
-ghost use Rattle.queries.specs.Top.{topOf};
+ghost use Rattle.scores.specs.Terms.{termsOf};
+ghost use Rattle.ranking.specs.Hits.{place};
+ghost use Rattle.ranking.specs.Top.{topOf};
 ghost use Rattle.queries.specs.Walks.{foundIn, Walkable};
 
 // The best hits of the windows of g terms of m lists each.
@@ -16,11 +16,11 @@ pub fn walk(card: &[u8], run: &[u32], heads: &mut [u32], g: usize, m: usize, pla
     requires { ⌜ Walkable (wordsOf (now card)) (now run) m g (now heads) × (1 ≤ places) × (places ≤ 32) ⌝ }
     ensures { λ r. ⌜ r ≡ topOf (first places (foldr place [] (foundIn (termsOf (wordsOf (now (card .entry))) (now (run .entry)) m g (now (heads .entry)))))) ⌝ }
 {
-    let mut best = super::no_hits();
-    let mut top = terms::scoring::top_terms(card, run, heads, g, m);
+    let mut best = ranking::no_hits();
+    let mut top = scores::scoring::top_terms(card, run, heads, g, m);
     while 0 < top {
         let w = top - 1;
-        let t = terms::scoring::take_terms(card, run, heads, g, m, w);
+        let t = scores::scoring::take_terms(card, run, heads, g, m, w);
         let counts = t.counts;
         if counts {
             let hit = Hit {
@@ -29,8 +29,8 @@ pub fn walk(card: &[u8], run: &[u32], heads: &mut [u32], g: usize, m: usize, pla
             };
             let at = (places - 1) as usize;
             let last = best.hits[at];
-            if super::enters(best.used, places, hit, last) {
-                best = super::place_hit(best, hit, places);
+            if ranking::enters(best.used, places, hit, last) {
+                best = ranking::place_hit(best, hit, places);
             }
         }
         top = t.next;

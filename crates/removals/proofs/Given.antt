@@ -8,14 +8,14 @@ use Rattle.answers.specs.Numbers.{refusalNumber}
 use Rattle.state.specs.declared.State.{State}
 use Rattle.state.specs.Views.{buffered}
 use Rattle.state.specs.Probe.{Store}
-use Rattle.windows.specs.declared.Target.{Target}
-use Rattle.windows.specs.Flush.{flushingIf, flushedTo, flushedCard}
+use Rattle.flushes.specs.declared.Target.{Target}
+use Rattle.flushes.specs.Flush.{flushingIf, flushedTo, flushedCard}
 use Rattle.windows.specs.Calls.{isOpen}
-use Rattle.windows.specs.Targets.{Aimed}
+use Rattle.flushes.specs.Targets.{Aimed}
 use Rattle.windows.specs.Promises.{Gives, storeOf}
 use Rattle.windows.proofs.Outcomes.{stopped, passed}
-use Rattle.windows.proofs.Targets.{follows-refused, follows-plain, follows-written}
-use Rattle.windows.proofs.Flushes.{gives-by, refuses, leaves}
+use Rattle.flushes.proofs.Targets.{follows-refused, follows-plain, follows-written}
+use Rattle.flushes.proofs.Flushes.{gives-by, refuses, leaves}
 use Rattle.removals.specs.Removal.{isLive, openCounted, removalFlushes, removed, removing}
 
 -- it names the open window

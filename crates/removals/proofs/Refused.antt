@@ -3,7 +3,7 @@ use Prim.Native.Nat.{ℕ}
 use Rattle.answers.specs.Unchanged.{Unchanged}
 use Rattle.answers.proofs.Kept.{unchanged-if, unchanged-done}
 use Rattle.state.specs.Probe.{Store}
-use Rattle.windows.proofs.Refused.{unchanged-flushing-if}
+use Rattle.flushes.proofs.Refused.{unchanged-flushing-if}
 use Rattle.removals.specs.Removal.{removing, removeOf}
 
 pub removal-unchanged : (p : Store) (w : ℕ) → Unchanged p (removeOf p w)

@@ -12,10 +12,10 @@ use Rattle.state.proofs.Kept.{rules-of}
 use Rattle.partitions.specs.Reading.{postingsOf, inPartitions, stored}
 use Rattle.partitions.specs.Formed.{partitionsFormed, listRule, sumsInRange}
 use Rattle.buffer.proofs.Canonical.{canonical-of, rule-canonical, rule-counts}
-use Rattle.windows.specs.declared.Target.{Target}
-use Rattle.windows.specs.Flush.{flushedTo}
-use Rattle.windows.specs.Targets.{Aimed}
-use Rattle.windows.proofs.Targets.{empty-length, not-wanted-only}
+use Rattle.flushes.specs.declared.Target.{Target}
+use Rattle.flushes.specs.Flush.{flushedTo}
+use Rattle.flushes.specs.Targets.{Aimed}
+use Rattle.flushes.proofs.Targets.{empty-length, not-wanted-only}
 use Rattle.sums.specs.declared.Counts.{Counts}
 use Rattle.sums.specs.Views.{countsIn}
 use Rattle.removals.specs.Removal.{ofWindow, countsOf, listsFormed, removalFormed, removalFlushes}

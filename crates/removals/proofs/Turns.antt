@@ -16,7 +16,7 @@ use Rattle.admission.specs.Admission.{firstOf, cardTests}
 use Rattle.admission.proofs.Laws.{barred}
 use Rattle.windows.specs.Promises.{Gives, storeOf}
 use Rattle.windows.proofs.Outcomes.{stopped, passed}
-use Rattle.windows.proofs.Flushes.{gives-by, refuses}
+use Rattle.flushes.proofs.Flushes.{gives-by, refuses}
 use Rattle.sums.specs.declared.Judged.{Judged}
 use Rattle.sums.specs.Views.{countsIn}
 use Rattle.sums.specs.Tally.{listsFormed, ReadOf}

@@ -18,7 +18,7 @@ use Rattle.state.specs.Rules.{stateRule}
 use Rattle.state.specs.Probe.{Store, sameLength}
 use Rattle.partitions.specs.Reading.{stored}
 use Rattle.partitions.specs.Formed.{partitionsFormed}
-use Rattle.windows.specs.Flush.{flushingIf}
+use Rattle.flushes.specs.Flush.{flushingIf}
 use Rattle.windows.specs.Calls.{isOpen}
 -- the postings of a window, its counts read from the buffers, and refusal 3 of lists and sums
 pub use Rattle.sums.specs.Tally.{ofWindow}

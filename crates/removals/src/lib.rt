@@ -1,13 +1,13 @@
 // Removal of a window.
 use admission::Admission;
 use answers::Refusal;
+use flushes::Target;
 use postings::Posting;
 use state::Buffer;
 use state::State;
 use state::Windows;
 use sums::Counts;
 use windows::Replied;
-use windows::Target;
 ghost use mathlib.Core.Bool.{true, _&&_, _||_, not, cond};
 ghost use mathlib.Core.List.{[], foldr};
 ghost use mathlib.Core.Path.{_≡_};
@@ -20,8 +20,8 @@ ghost use Rattle.answers.specs.Numbers.{replied};
 ghost use Rattle.state.specs.Views.{buffered, bufferOf};
 ghost use Rattle.state.specs.Rules.{stateRule};
 ghost use Rattle.words.specs.Words.{words as wordsOf, bytes};
-ghost use Rattle.windows.specs.Flush.{flushedTo, flushedCard};
-ghost use Rattle.windows.specs.Targets.{Chosen};
+ghost use Rattle.flushes.specs.Flush.{flushedTo, flushedCard};
+ghost use Rattle.flushes.specs.Targets.{Chosen};
 ghost use Rattle.windows.specs.Promises.{Gives, storeOf};
 ghost use Rattle.sums.specs.Views.{countsIn};
 ghost use Rattle.removals.specs.Removal.{isLive, removed, removing};
@@ -86,7 +86,7 @@ fn flushed(s: State, card: &mut [u8], block: u16) -> State
     requires { ⌜ (stateRule s ≡ true) × (length (now card) ≡ s .lengths .card) × Chosen s (wordsOf (now card)) block ⌝ }
     ensures { λ r. ⌜ (r ≡ flushedTo s block) × (now (card .exit) ≡ bytes (flushedCard s (wordsOf (now (card .entry))) block)) ⌝ }
 {
-    let list = flushes::flush(card, block, s.buffer, s.partitions);
+    let list = flushes::writing::flush(card, block, s.buffer, s.partitions);
     let empty = empty_buffer();
     let mut t = s;
     t.buffer = empty;
@@ -165,7 +165,7 @@ fn remove_counts(s: State, card: &mut [u8], window: u32, c: Counts) -> Replied
     if not_live(s.windows, window, c) {
         return windows::refuse(s, Refusal::NotLive);
     }
-    let target = windows::flushing::target_of(s, card, must_flush(s.buffer, c));
+    let target = flushes::target_of(s, card, must_flush(s.buffer, c));
     match target {
         Target::Refused(why) => windows::refuse(s, why),
         Target::Block(b) => {
@@ -180,7 +180,7 @@ fn remove_counts(s: State, card: &mut [u8], window: u32, c: Counts) -> Replied
 pub fn remove(s: State, card: &mut [u8], window: u32) -> Replied
     ensures { λ r. ⌜ Removes s (now (card .entry)) window r (now (card .exit)) ⌝ }
 {
-    let a = admission::judge_card(state::state_ok(s), s.lengths, card);
+    let a = admission::judge_card(rules::state_ok(s), s.lengths, card);
     if let Admission::Refused(why) = a {
         return windows::refuse(s, why);
     }

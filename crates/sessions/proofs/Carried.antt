@@ -12,7 +12,7 @@ use Rattle.state.specs.Probe.{Store, Probe}
 use Rattle.windows.specs.Promises.{Gives, storeOf, probeOf}
 use Rattle.queries.specs.Finds.{Finds}
 use Rattle.queries.specs.Query.{queryOf}
-use Rattle.queries.specs.declared.Top.{Top}
+use Rattle.ranking.specs.declared.Top.{Top}
 use Rattle.engine.specs.Calls.{Call, Query, withStore, withState, noHit, probeCall}
 use Rattle.texts.specs.Texts.{answerText, Says, Few}
 use Rattle.commands.specs.Answering.{textOf, leftOf, Obeys}

@@ -1,5 +1,5 @@
 -- The three lists of a state in their one form: what a used place after the count would break, and back.
-use Rattle.lists.proofs.Prelude.{Bool, true, List, _≡_, refl, sym, ℕ, zero, suc, _-_, _≤_, arith, eqb, leb, ℤ, pos, negsuc, length, take, drop, replicate, length-take-le, take-append-seam, drop-append-seam, eqb-true, le-leb, every, different, by-test, and-left, and-right, every-replicate}
+use Rattle.lists.proofs.Prelude.{Bool, true, List, _≡_, refl, sym, ℕ, zero, suc, _-_, _≤_, arith, eqb, leb, ℤ, pos, negsuc, length, drop, replicate, length-take-le, drop-append-seam, eqb-true, le-leb, every, different, by-test, and-left, and-right, every-replicate}
 use Rattle.lists.proofs.Padding.{padded-form}
 use Rattle.postings.specs.declared.Posting.{Posting}
 use Rattle.postings.specs.Merge.{isZero}
@@ -11,7 +11,7 @@ use Rattle.state.specs.declared.Partition.{Partition}
 use Rattle.state.specs.declared.Partitions.{Partitions}
 use Rattle.state.specs.Views.{padded, noPosting, noPartition, listed, buffered, finished, listedOf, bufferOf, partitionsOf}
 use Rattle.state.specs.Levels.{levels, levelLimit, ofLevel}
-use Rattle.state.proofs.Rows.{same-parts}
+use Rattle.state.proofs.Rows.{same-parts, held}
 use Rattle.state.specs.Rules.{unusedPosting, unusedRecord, postingRule, recordRule, neverRise, listedRule, bufferRule, partitionsRule}
 
 -- ---- zeros are one value
@@ -58,10 +58,6 @@ partitions-form p len h e =
     same-parts (sym (length-take-le (p .used) (p .records) (omega arith))) (padded-form noPartition unusedRecord unused-record 51 (p .used) (p .records) len h e)
 
 -- ---- the list that a form holds, and the rules of a list in that form, from what the list has to keep
-
--- finished (partitionsOf l), buffered (bufferOf l) and listed (listedOf l) are l
-pub held : {A : Type 0} (n : ℕ) (d : A) (l : List A) → take (length l) (padded n d l) ≡ l
-held n d l = take-append-seam l _
 
 -- nothing but the filling comes after
 pub after : {A : Type 0} (t : A → Bool) (n : ℕ) (d : A) (l : List A) → t d ≡ true → every t (drop (length l) (padded n d l)) ≡ true

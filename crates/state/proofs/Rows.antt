@@ -1,5 +1,5 @@
 -- The lists of partitions and of identifiers in their one form: one more, a run replaced or gone.
-use Rattle.lists.proofs.Prelude.{List, [], _∷_, _++_, _≡_, sym, ap, _∙_, ℕ, _+_, _<_, _≤_, arith, length, length-take, set, length-append, length-set, take-set-lt}
+use Rattle.lists.proofs.Prelude.{List, [], _∷_, _++_, _≡_, sym, ap, _∙_, ℕ, _+_, _<_, _≤_, arith, length, take, length-take, set, length-append, length-set, take-set-lt, take-append-seam}
 use Rattle.lists.proofs.Padding.{padded-add, padded-set}
 use Rattle.state.specs.declared.Listed.{Listed}
 use Rattle.state.specs.declared.Partition.{Partition}
@@ -8,6 +8,10 @@ use Rattle.state.specs.Views.{listed, finished, listedOf, partitionsOf, 
 
 one-more : {A : Type 0} (l : List A) (x : A) → length l + 1 ≡ length (l ++ (x ∷ []))
 one-more l x = rw (length-append l (x ∷ []))
+
+-- finished (partitionsOf l), buffered (bufferOf l) and listed (listedOf l) are l
+pub held : {A : Type 0} (n : ℕ) (d : A) (l : List A) → take (length l) (padded n d l) ≡ l
+held n d l = take-append-seam l _
 
 -- what the one form says of the count and of the array
 pub used-form : (p : Partitions) → p ≡ partitionsOf (finished p) → p .used ≡ length (finished p)

@@ -1,5 +1,4 @@
 pub mod Views
+pub mod Probe
 pub mod Levels
 pub mod Rules
-pub mod Probe
-pub mod Due

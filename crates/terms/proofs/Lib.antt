@@ -4,7 +4,3 @@ pub mod Runs
 pub mod Puts
 pub mod Ranges
 pub mod Stored
-pub mod Opened
-pub mod Counts
-pub mod Serving
-pub mod Joined

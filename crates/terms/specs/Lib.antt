@@ -1,5 +1,3 @@
 pub mod Both
 pub mod Judged
 pub mod Opening
-pub mod Terms
-pub mod Scores

@@ -1,4 +1,2 @@
-pub mod Flush
 pub mod Calls
 pub mod Promises
-pub mod Targets

@@ -6,10 +6,9 @@ use Rattle.answers.specs.Answers.{Answer, Outcome, answerOf, stateOf}
 use Rattle.answers.specs.Numbers.{replied, openedAs}
 pub use Rattle.state.specs.Probe.{storeOf, probeOf}
 use Rattle.state.specs.declared.State.{State}
-use Rattle.identifiers.specs.Names.{Name}
 use Rattle.windows.specs.declared.Opening.{Opening}
 use Rattle.windows.specs.declared.Replied.{Replied}
-use Rattle.windows.specs.Calls.{startOf, unstarted, openOf, closeOf, eventOf, flushOf}
+use Rattle.windows.specs.Calls.{startOf, unstarted, openOf, closeOf}
 
 -- the answer a, and what is there afterwards, are those of the outcome o, where s was there before
 pub record Gives {S : Type 0} (s : S) (o : Outcome S) (a : Answer) (after : S) : Type 0 where
@@ -25,15 +24,6 @@ Starts card register r card′ register′ =
 abbrev pub Opens : (s : State) (r : Opening) → Type 0
 Opens s r = Gives s (openOf s) (openedAs (r .answer)) (r .state)
 
--- an event
-abbrev pub Counts : (s : State) (card register : List ℕ) (id : Name) (r : Replied) (card′ register′ : List ℕ) → Type 0
-Counts s card register id r card′ register′ =
-    Gives (probeOf s card register) (eventOf (probeOf s card register) id) (replied (r .reply)) (probeOf (r .state) card′ register′)
-
 -- a close
 abbrev pub Closes : (s : State) (r : Replied) → Type 0
 Closes s r = Gives s (closeOf s) (replied (r .reply)) (r .state)
-
--- a flush
-abbrev pub Flushes : (s : State) (card : List ℕ) (r : Replied) (card′ : List ℕ) → Type 0
-Flushes s card r card′ = Gives (storeOf s card) (flushOf (storeOf s card)) (replied (r .reply)) (storeOf (r .state) card′)

@@ -1,4 +1,4 @@
-// Start, open, close and flush. Each promises its answer, the state and every buffer lent as its definition says, whatever it is given.
+// Start, open and close. Each promises its answer, the state and every buffer lent as its definition says, whatever it is given.
 use answers::Opened;
 use answers::Refusal;
 use answers::Reply;
@@ -17,9 +17,7 @@ ghost use mathlib.Core.Path.{_≡_};
 ghost use lib.ListN.{length, replicate};
 ghost use Rattle.state.specs.Views.{bufferOf, emptyState};
 ghost use Rattle.state.specs.Rules.{cardLength, registerLength};
-ghost use Rattle.windows.specs.Promises.{Starts, Opens, Closes, Flushes};
-
-pub mod flushing; // judging and writing a flush
+ghost use Rattle.windows.specs.Promises.{Starts, Opens, Closes};
 
 // What a call that gives no value answers, and the state after it.
 pub struct Replied {
@@ -31,13 +29,6 @@ pub struct Replied {
 pub struct Opening {
     pub answer: Opened,
     pub state: State,
-}
-
-// What a flush comes to: nothing to write, a block to write to, or a refusal.
-pub enum Target {
-    Nothing,
-    Block(u16),
-    Refused(Refusal),
 }
 
 // A refusal: the state stays.
@@ -80,7 +71,7 @@ fn lengths_ok(card: usize, register: usize) -> bool
 }
 
 // A buffer without postings.
-fn empty_buffer() -> Buffer
+pub fn empty_buffer() -> Buffer
     ensures { λ r. ⌜ r ≡ bufferOf [] ⌝ }
 {
     let none = Posting {
@@ -152,7 +143,7 @@ pub fn start(card: &mut [u8], register: &mut [u8]) -> Replied
 pub fn open(s: State) -> Opening
     ensures { λ r. ⌜ Opens s r ⌝ }
 {
-    if !state::state_ok(s) {
+    if !rules::state_ok(s) {
         return Opening {
             answer: Opened::Refused(Refusal::BrokenState),
             state: s,
@@ -189,7 +180,7 @@ pub fn open(s: State) -> Opening
 pub fn close(s: State) -> Replied
     ensures { λ r. ⌜ Closes s r ⌝ }
 {
-    if !state::state_ok(s) {
+    if !rules::state_ok(s) {
         return refuse(s, Refusal::BrokenState);
     }
     if s.windows.current == 0 {
@@ -214,16 +205,4 @@ pub fn close(s: State) -> Replied
     t.windows = w;
     t.listed = l;
     done(t)
-}
-
-// The buffer is written as one partition; an empty one writes nothing.
-pub fn flush(s: State, card: &mut [u8]) -> Replied
-    ensures { λ r. ⌜ Flushes s (now (card .entry)) r (now (card .exit)) ⌝ }
-{
-    let target = flushing::judge_flush(s, card);
-    match target {
-        Target::Refused(why) => refuse(s, why),
-        Target::Block(b) => done(flushing::flush_to(s, card, b)),
-        Target::Nothing => done(s),
-    }
 }

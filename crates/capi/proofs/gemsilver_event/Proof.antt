@@ -1,7 +1,7 @@
 -- `capi::gemsilver_event` meets its contract.
 use Rattle.lists.proofs.Prelude.{arith, needs}
-use Rattle.windows.specs.Calls.{eventOf}
-use Rattle.windows.proofs.Refused.{event-unchanged}
+use Rattle.events.specs.Event.{eventOf}
+use Rattle.events.proofs.Refused.{event-unchanged}
 use Rattle.capi.specs.Exports.{eventOn}
 use Rattle.capi.proofs.Carried.{no-image, is-image, image-long, on-probe}
 use Rattle.capi.proofs.gemsilver_event.Statement.{statement}

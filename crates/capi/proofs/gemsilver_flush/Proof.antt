@@ -1,7 +1,7 @@
 -- `capi::gemsilver_flush` meets its contract.
 use Rattle.lists.proofs.Prelude.{arith, needs}
-use Rattle.windows.specs.Calls.{flushOf}
-use Rattle.windows.proofs.Refused.{flush-unchanged}
+use Rattle.flushes.specs.Flush.{flushOf}
+use Rattle.flushes.proofs.Refused.{flush-unchanged}
 use Rattle.capi.specs.Exports.{flushOn}
 use Rattle.capi.proofs.Carried.{no-image, is-image, image-long, on-store}
 use Rattle.capi.proofs.gemsilver_flush.Statement.{statement}

@@ -1,6 +1,6 @@
 -- `capi::gemsilver_step` meets its contract.
 use Rattle.lists.proofs.Prelude.{arith, needs}
-use Rattle.merges.specs.Step.{stepOf}
+use Rattle.plans.specs.Step.{stepOf}
 use Rattle.merges.proofs.Refused.{step-unchanged}
 use Rattle.capi.specs.Exports.{stepOn}
 use Rattle.capi.proofs.Carried.{no-image, is-image, image-long, on-store}

@@ -2,7 +2,7 @@
 use Rattle.lists.proofs.Prelude.{map, _≡_, refl, sym, _∙_, _-_, _*_, _≤_, arith, needs, length, getD, take, drop, sets, getD-take, length-take-le, joined, unmapped}
 use Rattle.words.specs.Words.{words, Below}
 use Rattle.words.proofs.Views.{length-words}
-use Rattle.queries.specs.Top.{noHit, listedHits}
+use Rattle.ranking.specs.Top.{noHit, listedHits}
 use Rattle.capi.specs.Queries.{hitWords}
 use Rattle.capi.proofs.Places.{hits-turn, hits-end, put-bytes}
 use Rattle.capi.proofs.put_hits.Statement.{statement}

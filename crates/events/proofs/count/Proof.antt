@@ -2,10 +2,10 @@ use Rattle.lists.proofs.Prelude.{refl, needs}
 use denote.Enum.Declared.{tagOf}
 use Rattle.state.proofs.Kept.{state-kept}
 use Rattle.admission.proofs.Laws.{card-size}
-use Rattle.windows.specs.declared.Target.{Target}
+use Rattle.flushes.specs.declared.Target.{Target}
 use Rattle.windows.specs.Promises.{probeOf}
-use Rattle.windows.proofs.Target.{the-type}
-use Rattle.windows.proofs.Flushes.{nothing-told}
+use Rattle.flushes.proofs.Target.{the-type}
+use Rattle.flushes.proofs.Flushes.{nothing-told}
 use Rattle.events.proofs.Verdicts.{event-barred, event-plain, event-flushed}
 use Rattle.events.proofs.Counts.{judged, in-register, countable-plain, countable-flushed}
 use Rattle.events.proofs.count.Statement.{statement}

@@ -1,28 +1,33 @@
-use Rattle.lists.proofs.Prelude.{[], _∷_, _++_, _≡_, ap, _∙_, ℕ, _+_, _*_, arith, needs, length, length-take-le, unmapped}
-use Rattle.state.specs.Views.{buffered, finished, partitionsOf}
-use Rattle.partitions.specs.Layout.{lengthOf}
+use Rattle.lists.proofs.Prelude.{refl, needs}
+use denote.Enum.Declared.{tagOf}
+use Rattle.flushes.proofs.Target.{the-type}
+use Rattle.flushes.proofs.Flushes.{gives-by, refuses, leaves, nothing-told}
 use Rattle.flushes.proofs.flush.Statement.{statement}
 use Rattle.flushes.proofs.flush.Tie as tie
 
-append-requires : tie.Need-append-requires
-append-requires c κs =
-    let s = c .before .before .before .before .before .before in
-    let p = s .args .ps in
-    let long : length (p .records) ≡ 51 = search (unmapped, needs) in
-    (omega (arith, s .pre .8, length-take-le (p .used) (p .records) (omega (arith, s .pre .7))), s .pre .9 long)
+flush-to-requires : tie.Need-flush-to-requires
+flush-to-requires c κs =
+    let t = c .before .before in
+    let j = rw (t .target2 .given .1) at (t .before .before .judge-flush .ensures) in
+    (j .1, j .2, j .3)
 
 returns : tie.Need-returns
-unfolding lengthOf
 returns c =
-    let s = c .before .before .before .before .before .before .before in
-    let b = s .args .b in
-    let w = c .before .before .before .before .write-counted in
-    let long : length (b .postings) ≡ 128 = search (unmapped, needs) in
-    let n : length (buffered b) ≡ b .used = length-take-le (b .used) (b .postings) (omega (arith, s .pre .3)) in
-    let e : 32 + 12 * w .result + 4 * b .used ≡ lengthOf (buffered b) = omega (arith, w .ensures .0) in (
-      c .append .ensures ∙ ap (λ (l : ℕ). partitionsOf (finished (s .args .ps) ++ (record { first = s .args .block; level = 0; length = l } ∷ []))) e,
-      w .ensures .1,
-    )
+    let t = c .before .before in
+    rw (c .refuse .ensures) (gives-by _ _ (rw (t .target .given .1) at (t .before .before .judge-flush .ensures)) (refuses _))
+
+returns-2 : tie.Need-returns-2
+returns-2 c =
+    let f = c .before .before .before in
+    let t = f .before .before .before in
+    let j = rw (t .target2 .given .1) at (t .before .before .judge-flush .ensures) in
+    rw (c .done .ensures, f .flush-to .ensures .0, f .flush-to .ensures .1) (gives-by _ _ (j .0) (leaves _ _))
+
+returns-3 : tie.Need-returns-3
+returns-3 c =
+    let m = c .before .before in
+    let none = nothing-told (tagOf the-type) (λ x. refl) (λ x. refl) (m .before .judge-flush .result) (m .match .keys3) in
+    rw (c .done2 .ensures) (gives-by _ _ (rw none at (m .before .judge-flush .ensures)) (leaves _ _))
 
 pub flush-spec : {M : Type 1} → statement M
 flush-spec =
@@ -30,11 +35,15 @@ flush-spec =
     (tie.spec
     (λ c κs. search needs)
     (λ c. search needs)
+    (λ c κs. search needs)
     (λ c. search needs)
+    flush-to-requires
+    (λ c κs. search needs)
     (λ c. search needs)
+    (λ c κs. search needs)
     (λ c. search needs)
+    returns
     (λ c. search needs)
+    returns-2
     (λ c. search needs)
-    append-requires
-    (λ c. search needs)
-    returns)
+    returns-3)

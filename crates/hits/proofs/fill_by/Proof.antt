@@ -40,12 +40,12 @@ use denote.Triple.Table.{entered, cited}
 use denote.Triple.Walked.{says, needs, Stays, stay-slice, stay-none, walkOf, goes-none, goes-slice, Walks, ends-at, walked, walk-meets}
 use denote.Exit.{yes}
 use Rattle.answers.specs.declared.Hit.{Hit}
-use Rattle.queries.specs.declared.Top.{Top}
-use Rattle.queries.specs.Top.{noHit}
+use Rattle.ranking.specs.declared.Top.{Top}
+use Rattle.ranking.specs.Top.{noHit}
 use Rattle.answers.proofs.Hit as T
 use Rattle.answers.proofs.Hit.Laws as T′
-use Rattle.queries.proofs.Top as K
-use Rattle.queries.proofs.Top.Laws as K′
+use Rattle.ranking.proofs.Top as K
+use Rattle.ranking.proofs.Top.Laws as K′
 use Rattle.hits.proofs.Filling.{filled, filled-more, filled-length, filled-all}
 use Rattle.hits.proofs.Loop.{Turn, Fewer, fewer-wf, tests}
 use Rattle.hits.proofs.listed as listed

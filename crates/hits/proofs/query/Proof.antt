@@ -2,10 +2,10 @@
 -- All that the proof knows of the two is that each meets its contract.
 --
 use Rattle.lists.proofs.Prelude.{_≡_, refl, sym, ap, subst, ℕ, [], _∷_, List, length, _≤_, map}
-use denote.Ref.{now}
+use denote.Ref.{now, RefT}
 use Rattle.windows.specs.Promises.{probeOf}
 use Rattle.queries.specs.Query.{fill}
-use Rattle.queries.specs.Top.{listedHits}
+use Rattle.ranking.specs.Top.{listedHits}
 use Rattle.queries.specs.Finds.{Finds}
 use Rattle.hits.specs.Lent.{hitCount}
 use Rattle.hits.proofs.Filling.{found-given, found-counted}
@@ -31,7 +31,6 @@ use denote.Laws.{Is, shows}
 use denote.Memory.{mem}
 use denote.Plain.{Nothing, nothing-lawful, uint-makes}
 use denote.Builtin.{u8, usize}
-use denote.Ref.{RefT}
 use denote.Slice.{sliceVal, MutSlice, ShrSlice, Room, finally, slice-vals, mut-slice-tells, shr-slice-tells, shr-slice-copy}
 use denote.Signature.{plain, shrSliceOf}
 use denote.Steps.{only, owned, peeks, heard, nothing}
@@ -55,8 +54,8 @@ use Rattle.answers.proofs.Found.Laws as Found″
 use Rattle.queries.specs.declared.Answered.{Answered}
 use Rattle.queries.proofs.Answered as Answered′
 use Rattle.queries.proofs.Answered.Laws as Answered″
-use Rattle.queries.proofs.Top as Top′
-use Rattle.queries.proofs.Top.Laws as Top″
+use Rattle.ranking.proofs.Top as Top′
+use Rattle.ranking.proofs.Top.Laws as Top″
 use Rattle.hits.proofs.fill_by as fill
 use Rattle.hits.proofs.fill_by.Symbol as fill-def
 use Rattle.hits.proofs.fill_by.Symbol.{name as #hits·fill-by}

@@ -2,7 +2,7 @@
 use borrow.Author.Needs.{needs}
 use mir.Syntax.{w16}
 use mir.Val.{SFits}
-use Rattle.state.proofs.Signs.{zero-bits}
+use Rattle.postings.proofs.Counts.{zero-bits}
 use Rattle.inputs.proofs.is_zero.Statement.{statement}
 use Rattle.inputs.proofs.is_zero.Tie as tie
 

@@ -8,12 +8,13 @@ use Rattle.inputs.specs.Judging.{inputsFormed, countsById}
 use Rattle.inputs.proofs.Judged.{judged-fine}
 use Rattle.windows.specs.Promises.{storeOf}
 use Rattle.windows.proofs.Outcomes.{stopped}
-use Rattle.merges.specs.Merging.{inputs, isLast}
-use Rattle.merges.specs.Acting.{Judged, nextState, Due}
-use Rattle.merges.proofs.Choosing.{finished-of}
-use Rattle.merges.proofs.Refusing.{pairs-read}
-use Rattle.merges.proofs.Stepping.{card-words, judged, inputs-read, formed-inputs}
-use Rattle.merges.proofs.Planning.{formed-plan, acted-stop}
+use Rattle.plans.specs.Merging.{inputs, isLast}
+use Rattle.plans.specs.Acting.{Judged, nextState, Due}
+use Rattle.levels.proofs.Choosing.{finished-of}
+use Rattle.plans.proofs.Refusing.{pairs-read}
+use Rattle.plans.proofs.Stepping.{card-words, judged, inputs-read, formed-inputs}
+use Rattle.plans.proofs.Planning.{formed-plan}
+use Rattle.merges.proofs.Stopped.{acted-stop}
 use Rattle.merges.proofs.act.Statement.{statement}
 use Rattle.merges.proofs.act.Tie as tie
 

@@ -5,13 +5,13 @@ use Rattle.words.proofs.Views.{bytes-words}
 use Rattle.state.specs.declared.State.{State}
 use Rattle.state.specs.Views.{finished}
 use Rattle.card.specs.Chains.{chain}
-use Rattle.card.specs.Writes.{store}
-use Rattle.card.proofs.Stores.{length-store}
-use Rattle.merges.specs.Merging.{inputs, taking, outputLevel, isLast, outputContent}
-use Rattle.merges.specs.Step.{writtenOn}
-use Rattle.merges.specs.Acting.{outputWritten, Due}
-use Rattle.merges.proofs.Choosing.{finished-of}
-use Rattle.merges.proofs.Drafting.{inputs-few, inputs-free, none-stored, step-fits, step-stored, step-kept, step-more, step-last, last-told}
+use Rattle.blocks.specs.Writes.{store}
+use Rattle.blocks.proofs.Stores.{length-store}
+use Rattle.plans.specs.Merging.{inputs, taking, outputLevel, isLast, outputContent}
+use Rattle.plans.specs.Step.{writtenOn}
+use Rattle.plans.specs.Acting.{outputWritten, Due}
+use Rattle.levels.proofs.Choosing.{finished-of}
+use Rattle.plans.proofs.Drafting.{inputs-few, inputs-free, none-stored, step-fits, step-stored, step-kept, step-more, step-last, last-told}
 use Rattle.merges.proofs.finish.Statement.{statement}
 use Rattle.merges.proofs.finish.Tie as tie
 

@@ -14,12 +14,12 @@ use Rattle.admission.proofs.Admission.{the-type}
 use Rattle.admission.proofs.Laws.{goes-on, CardSound, card-sound}
 use Rattle.windows.specs.Promises.{Gives, storeOf}
 use Rattle.windows.proofs.Outcomes.{stopped}
-use Rattle.windows.proofs.Flushes.{gives-by}
-use Rattle.merges.specs.Step.{stepOf}
-use Rattle.merges.specs.Acting.{thirdOn}
-use Rattle.merges.proofs.Merged.{all-chained}
-use Rattle.merges.proofs.Stepping.{step-barred, step-granted, card-long, formed-first, formed-stands}
-use Rattle.merges.proofs.Planning.{next-told}
+use Rattle.flushes.proofs.Flushes.{gives-by}
+use Rattle.plans.specs.Step.{stepOf}
+use Rattle.plans.specs.Acting.{thirdOn}
+use Rattle.plans.proofs.Merged.{all-chained}
+use Rattle.plans.proofs.Stepping.{step-barred, step-granted, card-long, formed-first, formed-stands}
+use Rattle.plans.proofs.Planning.{next-told}
 use Rattle.merges.proofs.step.Statement.{statement}
 use Rattle.merges.proofs.step.Tie as tie
 

@@ -3,7 +3,7 @@ use denote.Enum.Declared.{tagOf}
 use Rattle.lists.proofs.Prelude.{refl, sym, ap, _∙_, needs}
 use Rattle.words.specs.Words.{words}
 use Rattle.card.specs.Blocks.{freeBlocks}
-use Rattle.card.proofs.Free.{the-type}
+use Rattle.blocks.proofs.Free.{the-type}
 use Rattle.outputs.proofs.Linking.{found-first, found-some}
 use Rattle.outputs.proofs.free_after.Statement.{statement}
 use Rattle.outputs.proofs.free_after.Tie as tie

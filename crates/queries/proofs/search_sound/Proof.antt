@@ -2,7 +2,7 @@
 use Rattle.lists.proofs.Prelude.{sym, _+_, _*_, arith, replicate, length-take-le, needs}
 use Rattle.state.specs.Views.{buffered}
 use Rattle.state.proofs.Kept.{state-kept}
-use Rattle.terms.proofs.Opened.{rule-sizes}
+use Rattle.scores.proofs.Opened.{rule-sizes}
 use Rattle.queries.proofs.Tested.{sound-words}
 use Rattle.queries.proofs.search_sound.Statement.{statement}
 use Rattle.queries.proofs.search_sound.Tie as tie

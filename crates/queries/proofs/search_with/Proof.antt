@@ -2,7 +2,7 @@
 use Rattle.lists.proofs.Prelude.{not-true, not-false, false, map, _≡_, sym, _∙_, arith, length, needs}
 use denote.Ref.{now}
 use Rattle.answers.specs.declared.Refusal.the-variants.{Malformed, BadIdentifier, BadQuery}
-use Rattle.queries.specs.Query.{badQuery}
+use Rattle.ranking.specs.Asked.{badQuery}
 use Rattle.queries.specs.Finds.{probeOf}
 use Rattle.queries.proofs.Outcomes.{proper, refused-as, finds-malformed, finds-identifier, finds-bad, terms-walkable, finds-walked}
 use Rattle.queries.proofs.search_with.Statement.{statement}

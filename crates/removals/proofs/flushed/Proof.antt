@@ -4,8 +4,8 @@ use Rattle.words.specs.Words.{words}
 use Rattle.words.proofs.Views.{length-words}
 use Rattle.state.specs.Views.{blocks, buffered}
 use Rattle.state.proofs.Kept.{state-kept}
-use Rattle.windows.specs.Flush.{flushedTo, flushedCard}
-use Rattle.windows.proofs.Rooms.{room-left, chosen-there, chosen-free, counts-fit, ids-fit}
+use Rattle.flushes.specs.Flush.{flushedTo, flushedCard}
+use Rattle.flushes.proofs.Rooms.{room-left, chosen-there, chosen-free, counts-fit, ids-fit}
 use Rattle.removals.proofs.flushed.Statement.{statement}
 use Rattle.removals.proofs.flushed.Tie as tie
 

@@ -1,10 +1,10 @@
 use Rattle.lists.proofs.Prelude.{false, _≡_, refl, sym, _∙_, needs}
 use denote.Enum.Declared.{tagOf}
 use Rattle.state.proofs.Kept.{state-kept}
-use Rattle.windows.specs.declared.Target.{Target}
-use Rattle.windows.specs.Targets.{Aimed}
-use Rattle.windows.proofs.Target.{the-type}
-use Rattle.windows.proofs.Flushes.{nothing-told}
+use Rattle.flushes.specs.declared.Target.{Target}
+use Rattle.flushes.specs.Targets.{Aimed}
+use Rattle.flushes.proofs.Target.{the-type}
+use Rattle.flushes.proofs.Flushes.{nothing-told}
 use Rattle.sums.specs.Views.{countsIn}
 use Rattle.removals.specs.Removal.{removalFlushes}
 use Rattle.removals.proofs.Given.{namesOpen, notLive, names-the-open, names-no-live, some-live, flush-barred, removed-plain, removed-flushed, judged}

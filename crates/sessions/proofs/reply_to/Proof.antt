@@ -1,6 +1,6 @@
 -- `sessions::reply_to` meets its contract: by cases, what the call promises.
 use Rattle.sessions.proofs.Carried.{on-state, on-store}
-use Rattle.queries.proofs.Gathering.{lent-at}
+use Rattle.identifiers.proofs.Lent.{lent-at}
 use Rattle.engine.specs.Calls.{probeCall}
 use borrow.Author.Needs.{needs}
 use Rattle.sessions.proofs.reply_to.Statement.{statement}

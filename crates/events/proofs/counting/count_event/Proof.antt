@@ -1,6 +1,6 @@
 use borrow.Author.Needs.{needs}
 use Rattle.state.proofs.Kept.{listed-kept}
-use Rattle.windows.specs.Calls.{counted}
+use Rattle.events.specs.Event.{counted}
 use Rattle.events.proofs.counting.count_event.Statement.{statement}
 use Rattle.events.proofs.counting.count_event.Tie as tie
 

@@ -5,7 +5,8 @@ use Rattle.words.specs.Words.{words}
 use Rattle.identifiers.specs.Names.{numberOf}
 use Rattle.identifiers.specs.Register.{names}
 use Rattle.queries.specs.Gathered.{KeptOf}
-use Rattle.queries.proofs.Gathering.{lent-at, Gathering, gathering-none, gathered-all, gathering-unknown, gathered-fault, gathering-more}
+use Rattle.identifiers.proofs.Lent.{lent-at}
+use Rattle.queries.proofs.Gathering.{Gathering, gathering-none, gathered-all, gathering-unknown, gathered-fault, gathering-more}
 use Rattle.queries.proofs.Tested.{sound-names}
 use Rattle.queries.proofs.judging.gather.Statement.{statement}
 use Rattle.queries.proofs.judging.gather.Tie as tie

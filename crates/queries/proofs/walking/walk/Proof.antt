@@ -1,7 +1,7 @@
 -- `queries::walking::walk` meets its contract. The invariant: the best so far and what is left give the best of all. The measure is the reach of what is left.
 use Rattle.lists.proofs.Prelude.{_≡_, refl, sym, _∙_, suc, _-_, arith, needs}
 use Rattle.words.specs.Words.{words}
-use Rattle.queries.proofs.Tops.{held-length}
+use Rattle.ranking.proofs.Tops.{held-length}
 use Rattle.queries.proofs.Walked.{Walking, walk-begun, walk-ended, walk-window, walk-top, walk-ranges, walk-lower, walk-placed, walk-out, walk-passed}
 use Rattle.queries.proofs.walking.walk.Statement.{statement}
 use Rattle.queries.proofs.walking.walk.Tie as tie

@@ -1,0 +1,4 @@
+pub mod Counts
+pub mod Runs
+pub mod Replaced
+pub mod Choosing

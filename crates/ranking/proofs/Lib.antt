@@ -1,0 +1,4 @@
+pub mod Ranking
+pub mod Tops
+pub mod Sorting
+pub mod Asked

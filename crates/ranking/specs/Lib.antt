@@ -1,0 +1,3 @@
+pub mod Hits
+pub mod Top
+pub mod Asked

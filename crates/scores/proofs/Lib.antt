@@ -1,0 +1,4 @@
+pub mod Counts
+pub mod Joined
+pub mod Serving
+pub mod Opened
