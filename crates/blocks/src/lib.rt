@@ -84,7 +84,7 @@ pub fn put_block_word(card: &mut [u8], block: u16, at: u16, value: u32)
     requires { ⌜ (length (now card) % 4 ≡ 0) × (1024 * block + at < length (wordsOf (now card))) ⌝ }
     ensures { λ r. ⌜ wordsOf (now (card .exit)) ≡ set (wordsOf (now (card .entry))) (1024 * block + at) value ⌝ }
 {
-    words::put_word(card, 1024 * block as usize + at as usize, value);
+    words::put_word(card, card::WORDS * block as usize + at as usize, value);
 }
 
 // Frees a block: each of its words goes to all ones.
@@ -108,7 +108,7 @@ pub fn release_chain(card: &mut [u8], first: u16, n: u32)
     let mut left = n;
     while 0 < left {
         let freed = next as u16;
-        next = card::block_word(card, freed, 1023);
+        next = card::block_word(card, freed, card::LINK);
         release_block(card, freed);
         left -= 1;
     }

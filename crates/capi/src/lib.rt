@@ -87,7 +87,7 @@ pub extern "C" fn gemsilver_start(image: &mut [u8], card: &mut [u8], register: &
         (startOn (lentOf (now (image .entry)) (now (card .entry)) (now (register .entry))))
         (repliedBy r) (lentOf (now (image .exit)) (now (card .exit)) (now (register .exit))) ⌝ }
 {
-    if image.len() != 2456 {
+    if image.len() != images::BYTES {
         return 1;
     }
     let r = engine::start(card, register);

@@ -11,6 +11,18 @@ ghost use Rattle.card.specs.Chains.{chain, chainRule, content};
 ghost use Rattle.card.specs.Cursors.{InCard, Chained, ahead, Good, headOf, movedOf};
 ghost use Rattle.card.specs.Marks.{marked, unmarked};
 
+// Words of a block.
+pub const WORDS: usize = 1024;
+
+// How many of them are content.
+pub const CONTENT: u32 = 1023;
+
+// The place of the link, after the content.
+pub const LINK: u16 = 1023;
+
+// The link of a last block.
+pub const LAST: u32 = 65534;
+
 // A place in the content of a chain: a word of a block, and how many words are still to come from there on.
 pub struct Cursor {
     pub block: u16,
@@ -23,7 +35,7 @@ pub fn block_word(card: &[u8], block: u16, at: u16) -> u32
     requires { ⌜ 1024 * block + at < length (wordsOf (now card)) ⌝ }
     ensures { λ r. ⌜ r ≡ getD (wordsOf (now (card .entry))) (1024 * block + at) 0 ⌝ }
 {
-    words::word_at(card, 1024 * block as usize + at as usize)
+    words::word_at(card, WORDS * block as usize + at as usize)
 }
 
 // The block that a block names as the next.
@@ -31,7 +43,7 @@ fn next_block(card: &[u8], block: u16) -> u16
     requires { ⌜ InCard (wordsOf (now card)) block × InCard (wordsOf (now card)) (link (wordsOf (now card)) block) ⌝ }
     ensures { λ r. ⌜ r ≡ link (wordsOf (now (card .entry))) block ⌝ }
 {
-    block_word(card, block, 1023) as u16
+    block_word(card, block, LINK) as u16
 }
 
 // The first word to come.
@@ -75,10 +87,10 @@ pub fn seek(card: &[u8], first: u16, n: u32, offset: u32, left: u32) -> Cursor
     let mut block = first;
     let mut m = n;
     let mut k = offset;
-    while 1023 <= k && 1 < m {
+    while CONTENT <= k && 1 < m {
         block = next_block(card, block);
         m -= 1;
-        k -= 1023;
+        k -= CONTENT;
     }
     Cursor {
         block: block,
@@ -98,10 +110,10 @@ pub fn chain_ok(card: &[u8], blocks: u32, first: u16, n: u32) -> bool
         if blocks <= next {
             return false;
         }
-        next = block_word(card, next as u16, 1023);
+        next = block_word(card, next as u16, LINK);
         m -= 1;
     }
-    0 < n && next == 65534
+    0 < n && next == LAST
 }
 
 // A mark for each block that a card can have.
@@ -161,7 +173,7 @@ pub fn mark_chain(card: &[u8], m: Marks, first: u16, n: u32) -> Marked
             };
         }
         marks = mark(marks, block);
-        next = block_word(card, block, 1023);
+        next = block_word(card, block, LINK);
         i -= 1;
     }
     Marked {

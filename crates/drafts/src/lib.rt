@@ -85,7 +85,7 @@ pub fn read_draft(card: &[u8], ps: Partitions, first: u16, n: u32, front: u32, p
     let k = ps.used as usize;
     let head = card::seek(card, first, n, 0, front);
     let space = outputs::rest_free(card, head);
-    let room = 1023 * n - front;
+    let room = card::CONTENT * n - front;
     let out = card::seek(card, first, n, front, room);
     let mut heads: [u32; 80] = [0; 80];
     let top = inputs::open_inputs(card, ps, &mut heads);

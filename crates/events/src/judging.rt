@@ -40,7 +40,7 @@ fn judge_turn(w: Windows, l: Listed, register: &[u8], id: &[u8]) -> Verdict
         return Verdict::Refused(Refusal::Exhausted);
     }
     let i = identifiers::find(register, id);
-    if i >= register.len() / 65 {
+    if i >= register.len() / identifiers::ENTRY {
         return Verdict::Refused(Refusal::RegisterFull);
     }
     if is_full(l, i as u16) {

@@ -2,6 +2,7 @@
 use admission::Admission;
 use answers::Refusal;
 use blocks::Free;
+use state::BLOCK_BYTES;
 use state::Buffer;
 use state::Partition;
 use state::Partitions;
@@ -63,7 +64,7 @@ pub fn target_of(s: State, card: &[u8], wanted: bool) -> Target
     if levels::of_level(s.partitions, 0) >= 16 {
         return Target::Refused(Refusal::LevelFull);
     }
-    let blocks = s.lengths.card / 4096;
+    let blocks = s.lengths.card / BLOCK_BYTES;
     if 2 * finished_blocks(s.partitions) + 2 > blocks as u64 {
         return Target::Refused(Refusal::HalfFull);
     }

@@ -2,6 +2,7 @@
 use blocks::put_block_word;
 use postings::pack;
 use state::Buffer;
+use state::MOST_BUFFERED;
 use state::Partition;
 use state::Partitions;
 ghost use mathlib.Core.Bool.{true};
@@ -54,9 +55,9 @@ fn write_counted(card: &mut [u8], block: u16, b: Buffer) -> u16
         × (ordered (buffered b) ≡ true) × (every (λ p. inRange (p .count)) (buffered b) ≡ true) × (every (λ p. leb (p .id) 1023) (buffered b) ≡ true) ⌝ }
     ensures { λ r. ⌜ (r ≡ termCount (buffered b)) × (now (card .exit) ≡ bytes (store (words (now (card .entry))) (block ∷ []) (encode 0 (buffered b)))) ⌝ }
 {
-    put_block_word(card, block, 1023, 65534);
+    put_block_word(card, block, card::LINK, card::LAST);
     let mut counts: [u16; 1024] = [0; 1024];
-    let mut content: [u32; 128] = [0; 128];
+    let mut content: [u32; MOST_BUFFERED] = [0; MOST_BUFFERED];
     let terms = tally(b, &mut counts, &mut content);
     outputs::write_header(card, block, 1, 0, terms, b.used as u32);
     outputs::write_entries(card, block, 1, &counts);

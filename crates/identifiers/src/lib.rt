@@ -12,11 +12,17 @@ ghost use Rattle.identifiers.specs.Formed.{formed as formedRule};
 
 pub mod many; // several identifiers
 
+// Bytes of an identifier, at most.
+pub const LONGEST: usize = 64;
+
+// Bytes of a register's entry: the length, and so many.
+pub const ENTRY: usize = 65;
+
 // Is an identifier empty or too long?
 pub fn bad_length(id: &[u8]) -> bool
     ensures { λ r. ⌜ r ≡ badLength (now (id .entry)) ⌝ }
 {
-    (id.len() == 0) | (64 < id.len())
+    (id.len() == 0) | (LONGEST < id.len())
 }
 
 // Are two identifiers equal? The lengths come first, so that neither is read by the other's.
@@ -55,8 +61,8 @@ pub fn entry_at(register: &[u8], i: usize) -> &[u8]
     requires { ⌜ i < length (entries (now register)) ⌝ }
     ensures { λ r. ⌜ now r ≡ getD (entries (now (register .entry))) i [] ⌝ }
 {
-    let at = 65 * i;
-    let end = at + 65;
+    let at = ENTRY * i;
+    let end = at + ENTRY;
     &register[at..end]
 }
 
@@ -82,7 +88,7 @@ fn entry_ok(entry: &[u8], ended: bool) -> bool
 pub fn formed(register: &[u8]) -> bool
     ensures { λ r. ⌜ r ≡ formedRule (now (register .entry)) ⌝ }
 {
-    let count = register.len() / 65;
+    let count = register.len() / ENTRY;
     let mut ended = false;
     let mut i: usize = 0;
     while i < count {
@@ -101,10 +107,10 @@ pub fn count_used(register: &[u8]) -> usize
     requires { ⌜ formedRule (now register) ≡ true ⌝ }
     ensures { λ r. ⌜ r ≡ length (names (now (register .entry))) ⌝ }
 {
-    let count = register.len() / 65;
+    let count = register.len() / ENTRY;
     let mut i: usize = 0;
     while i < count {
-        if register[65 * i] == 0 {
+        if register[ENTRY * i] == 0 {
             return i;
         }
         i += 1;
@@ -152,7 +158,7 @@ pub fn add(register: &mut [u8], id: &[u8], at: usize)
     requires { ⌜ (at ≡ length (names (now register))) × (65 * at + 65 ≤ length (now register)) × (badLength (now id) ≡ false) ⌝ }
     ensures { λ r. ⌜ now (register .exit) ≡ addedTo (now (register .entry)) (now (id .entry)) ⌝ }
 {
-    let start = 65 * at;
+    let start = ENTRY * at;
     register[start] = id.len() as u8;
     let mut i: usize = 0;
     while i < id.len() {

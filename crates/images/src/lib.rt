@@ -3,6 +3,9 @@ use postings::Posting;
 use state::Buffer;
 use state::Lengths;
 use state::Listed;
+use state::MOST_BUFFERED;
+use state::MOST_LISTED;
+use state::MOST_PARTITIONS;
 use state::MergeJob;
 use state::Partition;
 use state::Partitions;
@@ -17,6 +20,9 @@ ghost use lib.Seq.{sets};
 ghost use Rattle.words.specs.Words.{words as wordsOf, bytes};
 ghost use Rattle.images.specs.Images.{raised, lowered, numberWords, listedWords, bufferWords, partitionsWords, lastWords, imageOf, listedIn, postingIn, bufferIn, recordIn, partitionsIn, lengthsIn, windowsIn, mergeIn, stateIn, wide, imageRule};
 
+// Bytes of a state's image, a word for each number.
+pub const BYTES: usize = 2456;
+
 // Whether a place holds a number that may need all 32 bits. Those of the partitions stand at every third place, 459 being the first.
 fn is_wide(at: usize) -> bool
     ensures { λ r. ⌜ r ≡ wide at ⌝ }
@@ -28,7 +34,7 @@ fn is_wide(at: usize) -> bool
 pub fn image_ok(image: &[u8]) -> bool
     ensures { λ r. ⌜ r ≡ imageRule (now (image .entry)) ⌝ }
 {
-    if image.len() != 2456 {
+    if image.len() != BYTES {
         return false;
     }
     let mut ok = true;
@@ -54,9 +60,9 @@ fn read_listed(image: &[u8]) -> Listed
     ensures { λ r. ⌜ r ≡ listedIn (wordsOf (now (image .entry))) ⌝ }
 {
     let used = narrow(image, 6);
-    let mut ids: [u16; 64] = [0; 64];
+    let mut ids: [u16; MOST_LISTED] = [0; MOST_LISTED];
     let mut i: usize = 0;
-    while i < 64 {
+    while i < MOST_LISTED {
         ids[i] = narrow(image, 7 + i);
         i += 1;
     }
@@ -106,9 +112,9 @@ fn read_buffer(image: &[u8]) -> Buffer
         window: 0,
         count: 0,
     };
-    let mut postings = [none; 128];
+    let mut postings = [none; MOST_BUFFERED];
     let mut i: usize = 0;
-    while i < 128 {
+    while i < MOST_BUFFERED {
         let p = read_posting(image, i);
         postings[i] = p;
         i += 1;
@@ -145,9 +151,9 @@ fn read_partitions(image: &[u8]) -> Partitions
         level: 0,
         length: 0,
     };
-    let mut records = [none; 51];
+    let mut records = [none; MOST_PARTITIONS];
     let mut i: usize = 0;
-    while i < 51 {
+    while i < MOST_PARTITIONS {
         let p = read_record(image, i);
         records[i] = p;
         i += 1;
@@ -243,7 +249,7 @@ fn put_listed(image: &mut [u8], l: Listed)
 {
     words::put_word(image, 6, l.used as u32);
     let mut i: usize = 0;
-    while i < 64 {
+    while i < MOST_LISTED {
         words::put_word(image, 7 + i, l.ids[i] as u32);
         i += 1;
     }
@@ -256,7 +262,7 @@ fn put_buffer(image: &mut [u8], b: Buffer)
 {
     words::put_word(image, 71, b.used as u32);
     let mut i: usize = 0;
-    while i < 128 {
+    while i < MOST_BUFFERED {
         let p = b.postings[i];
         put_three(
             image,
@@ -276,7 +282,7 @@ fn put_partitions(image: &mut [u8], ps: Partitions)
 {
     words::put_word(image, 456, ps.used as u32);
     let mut i: usize = 0;
-    while i < 51 {
+    while i < MOST_PARTITIONS {
         let p = ps.records[i];
         put_three(image, 457 + 3 * i, p.first as u32, p.level as u32, p.length);
         i += 1;

@@ -2,6 +2,7 @@
 // numbers (`scans`), and is moved in place.
 use card::Cursor;
 use postings::Posting;
+use postings::STEP_PAIRS;
 use state::Partitions;
 ghost use mathlib.Core.Path.{_≡_};
 ghost use mathlib.Core.Bool.{true};
@@ -38,7 +39,7 @@ struct Next {
 
 // Pairs taken: those with a sum other than 0, and how many were taken in all.
 pub struct Batch {
-    pub pairs: [Posting; 16],
+    pub pairs: [Posting; STEP_PAIRS],
     pub used: u16,
     pub taken: u16,
 }
@@ -121,7 +122,7 @@ fn walk(card: &[u8], heads: &mut [u32], n: usize, first: u32, counts: &mut [u16]
     ensures { λ r. ⌜ Told (resumed 67108864 (views (wordsOf (now (card .entry))) n (now (heads .entry))) untold) r (now (counts .exit)) × Small r ⌝ }
 {
     let mut top = first;
-    let mut bound: u32 = 67108864;
+    let mut bound: u32 = kway::KEYS;
     let mut t = zeros(true);
     loop {
         if top == 0 {
@@ -213,7 +214,7 @@ pub fn sixteen(card: &[u8], heads: &mut [u32], n: usize, first: u32) -> Batch
     };
     let mut top = first;
     let mut b = Batch {
-        pairs: [none; 16],
+        pairs: [none; STEP_PAIRS],
         used: 0,
         taken: 0,
     };

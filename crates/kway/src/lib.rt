@@ -9,6 +9,9 @@ ghost use Rattle.keyed.specs.Keys.{larger as largerOf};
 ghost use Rattle.postings.specs.Sums.{isAbove};
 ghost use Rattle.partitions.specs.Formed.{inRange};
 
+// All keys are below this: the windows of 1,024 identifiers.
+pub const KEYS: u32 = 67108864;
+
 // What is taken of one list under a key: the count, whether the posting is well formed, and one more than the key at the head afterwards.
 pub struct Part {
     pub count: i16,

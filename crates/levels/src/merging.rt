@@ -1,5 +1,6 @@
 // The list of finished partitions: which of them are merged, and what takes their place.
 use super::Due;
+use state::MOST_PARTITIONS;
 use state::Partition;
 use state::Partitions;
 ghost use mathlib.Core.Bool.{cond};
@@ -21,7 +22,7 @@ fn no_partitions() -> Partitions
     };
     Partitions {
         used: 0,
-        records: [none; 51],
+        records: [none; MOST_PARTITIONS],
     }
 }
 

@@ -1,4 +1,5 @@
 // Finished partitions added at the end, taken out, and replaced by one.
+use state::MOST_PARTITIONS;
 use state::Partition;
 use state::Partitions;
 ghost use mathlib.Core.Path.{_≡_};
@@ -23,7 +24,7 @@ pub fn append(p: Partitions, q: Partition) -> Partitions
 fn record_at(p: Partitions, i: usize) -> Partition
     ensures { λ r. ⌜ r ≡ getD (p .records) i noPartition ⌝ }
 {
-    if i < 51 {
+    if i < MOST_PARTITIONS {
         return p.records[i];
     }
     Partition {

@@ -5,6 +5,7 @@ use answers::Reply;
 use inputs::Batch;
 use inputs::Totals;
 use plans::Output;
+use state::BLOCK_BYTES;
 use state::Partitions;
 use state::State;
 use windows::Replied;
@@ -124,10 +125,10 @@ pub fn step(s: State, card: &mut [u8]) -> Replied
         return refuse(s, why);
     }
     let ps = s.partitions;
-    if !partitions::partitions_ok(card, s.lengths.card / 4096, ps) {
+    if !partitions::partitions_ok(card, s.lengths.card / BLOCK_BYTES, ps) {
         return refuse(s, Refusal::Malformed);
     }
-    if !plans::judging::stands(card, s.lengths.card / 4096, s.merge, ps) {
+    if !plans::judging::stands(card, s.lengths.card / BLOCK_BYTES, s.merge, ps) {
         return refuse(s, Refusal::Malformed);
     }
     let is = levels::merging::inputs_of(ps);

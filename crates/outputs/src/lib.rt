@@ -1,9 +1,13 @@
 // A partition written along a chain of blocks: its header, entries and postings; free blocks linked, and a merge's inputs' blocks freed.
 use blocks::Free;
 use blocks::put_block_word;
+use card::CONTENT;
 use card::Cursor;
+use card::LAST;
+use card::LINK;
 use card::block_word;
 use postings::Posting;
+use postings::STEP_PAIRS;
 use postings::pack;
 use state::Partitions;
 ghost use mathlib.Core.Bool.{true};
@@ -32,9 +36,9 @@ fn block_reached(card: &[u8], first: u16, n: u32, count: u32) -> u16
 {
     let mut block = first;
     let mut k = count;
-    while 1023 < k {
-        block = block_word(card, block, 1023) as u16;
-        k -= 1023;
+    while CONTENT < k {
+        block = block_word(card, block, LINK) as u16;
+        k -= CONTENT;
     }
     block
 }
@@ -45,7 +49,7 @@ fn block_of(card: &[u8], before: u16, k: usize) -> u16
     ensures { λ r. ⌜ r ≡ entered (wordsOf (now (card .entry))) before k ⌝ }
 {
     if 0 < k && k % 1023 == 0 {
-        return block_word(card, before, 1023) as u16;
+        return block_word(card, before, LINK) as u16;
     }
     before
 }
@@ -112,14 +116,14 @@ pub fn write_postings(
     n: u32,
     offset: u32,
     used: u16,
-    postings: [Posting; 16],
+    postings: [Posting; STEP_PAIRS],
 )
     requires { ⌜ (length (now card) % 4 ≡ 0) × (0 < n) × (used ≤ 16) × (offset + used ≤ 1023 * n) × Chained (wordsOf (now card)) first n
         × (every (λ p. inRange (p .count)) (take used postings) ≡ true) ⌝ }
     ensures { λ r. ⌜ wordsOf (now (card .exit)) ≡ written (wordsOf (now (card .entry))) (chain (wordsOf (now (card .entry))) first n) offset (map wordOf (take used postings)) ⌝ }
 {
     let m = used as usize;
-    let mut content: [u32; 16] = [0; 16];
+    let mut content: [u32; STEP_PAIRS] = [0; STEP_PAIRS];
     let mut i: usize = 0;
     while i < m {
         let p = postings[i];
@@ -192,11 +196,11 @@ pub fn link_free(card: &mut [u8], blocks: u32, taken: u16, n: u32) -> Linked
     let mut count: u32 = 1;
     while count < n {
         let next = free_after(card, blocks, last);
-        put_block_word(card, last, 1023, next as u32);
+        put_block_word(card, last, LINK, next as u32);
         last = next;
         count += 1;
     }
-    put_block_word(card, last, 1023, 65534);
+    put_block_word(card, last, LINK, LAST);
     Linked {
         first: first,
         last: last,

@@ -3,6 +3,7 @@ use drafts::Draft;
 use inputs::Batch;
 use inputs::Totals;
 use postings::Posting;
+use postings::STEP_PAIRS;
 use state::MergeJob;
 use state::Partitions;
 use state::State;
@@ -29,7 +30,7 @@ pub fn no_draft(ok: bool) -> Draft
         count: 0,
     };
     let b = Batch {
-        pairs: [none; 16],
+        pairs: [none; STEP_PAIRS],
         used: 0,
         taken: 16,
     };

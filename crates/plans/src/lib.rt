@@ -2,6 +2,7 @@
 use answers::Refusal;
 use inputs::Batch;
 use inputs::Totals;
+use state::BLOCK_BYTES;
 use state::Partitions;
 use state::State;
 ghost use mathlib.Core.Bool.{true, false};
@@ -101,7 +102,7 @@ fn begin(s: State, card: &mut [u8], is: Partitions, t: Totals) -> Plan
         × (s .taken < blocksOf s) × (s .merge .steps ≡ 0) ⌝ }
     ensures { λ r. ⌜ Planned s is t (now (card .entry)) r (now (card .exit)) ⌝ }
 {
-    let blocks = s.lengths.card / 4096;
+    let blocks = s.lengths.card / BLOCK_BYTES;
     let n = partitions::blocks_for(output_length(t));
     if !blocks::enough_free(card, blocks, s.taken, n) {
         return no_plan(Refusal::TooFewFree);

@@ -5,6 +5,12 @@ ghost use lib.IntN.{natAbs};
 ghost use Rattle.postings.specs.Order.{precedes};
 ghost use Rattle.postings.specs.Pack.{half, packed, countOf, isPosting, posted};
 
+// The greatest number that an identifier can have.
+pub const LAST_ID: u32 = 1023;
+
+// Pairs of an identifier and a window that a merge step takes.
+pub const STEP_PAIRS: usize = 16;
+
 // Which identifier, in which window, and how many: below 0 where counts are taken back.
 pub struct Posting {
     pub id: u16,

@@ -3,6 +3,8 @@ use admission::Admission;
 use answers::Found;
 use answers::Refusal;
 use ranking::Top;
+use state::BLOCK_BYTES;
+use state::MOST_BUFFERED;
 use state::State;
 ghost use mathlib.Core.Bool.{true};
 ghost use mathlib.Core.List.{[], map};
@@ -74,7 +76,7 @@ fn search_sound(s: State, card: &[u8], register: &[u8], ids: &[&[u8]], places: u
     requires { ⌜ Sound s (now card) (now register) ⌝ }
     ensures { λ r. ⌜ AsksValue s (now (card .entry)) (now (register .entry)) (map now (now (ids .entry))) places r ⌝ }
 {
-    let mut run: [u32; 128] = [0; 128];
+    let mut run: [u32; MOST_BUFFERED] = [0; MOST_BUFFERED];
     let mut heads: [u32; 1060] = [0; 1060];
     let mut spare: [u32; 208] = [0; 208];
     terms::opening::pack_run(s.buffer, &mut run);
@@ -97,7 +99,7 @@ fn search_admitted(s: State, card: &[u8], register: &[u8], ids: &[&[u8]], places
     ensures { λ r. ⌜ AsksValue s (now (card .entry)) (now (register .entry)) (map now (now (ids .entry))) places r ⌝ }
 {
     let ps = s.partitions;
-    if !partitions::partitions_ok(card, s.lengths.card / 4096, ps) {
+    if !partitions::partitions_ok(card, s.lengths.card / BLOCK_BYTES, ps) {
         return refuse(Refusal::Malformed);
     }
     if places == 32 {

@@ -10,10 +10,13 @@ ghost use Rattle.ranking.specs.Hits.{outranks, place};
 ghost use Rattle.ranking.specs.Top.{topOf, listedHits, Held, rank};
 ghost use Rattle.ranking.specs.Asked.{badQuery};
 
+// Places of a list of hits, at most.
+pub const MOST_PLACES: usize = 32;
+
 // The best hits so far, best first, and zeros after them.
 pub struct Top {
     pub used: u16,
-    pub hits: [Hit; 32],
+    pub hits: [Hit; MOST_PLACES],
 }
 
 // No hits yet.
@@ -25,7 +28,7 @@ pub fn no_hits() -> Top
         hits: [Hit {
             window: 0,
             score: 0,
-        }; 32],
+        }; MOST_PLACES],
     }
 }
 
@@ -110,5 +113,5 @@ pub fn bad_query(ids: &[&[u8]], places: usize) -> bool
         return true;
     }
     let repeated = !identifiers::many::all_differ(ids);
-    (count == 0) | (repeated | ((places == 0) | (32 < places)))
+    (count == 0) | (repeated | ((places == 0) | (MOST_PLACES < places)))
 }

@@ -3,7 +3,9 @@ use admission::Admission;
 use answers::Refusal;
 use flushes::Target;
 use postings::Posting;
+use state::BLOCK_BYTES;
 use state::Buffer;
+use state::MOST_BUFFERED;
 use state::State;
 use state::Windows;
 use sums::Counts;
@@ -77,7 +79,7 @@ fn empty_buffer() -> Buffer
     };
     Buffer {
         used: 0,
-        postings: [none; 128],
+        postings: [none; MOST_BUFFERED],
     }
 }
 
@@ -185,7 +187,7 @@ pub fn remove(s: State, card: &mut [u8], window: u32) -> Replied
         return windows::refuse(s, why);
     }
     let ps = s.partitions;
-    if !partitions::partitions_ok(card, s.lengths.card / 4096, ps) {
+    if !partitions::partitions_ok(card, s.lengths.card / BLOCK_BYTES, ps) {
         return windows::refuse(s, Refusal::Malformed);
     }
     let read = sums::read(card, s, window);

@@ -2,6 +2,7 @@
 use postings::Posting;
 use postings::precedes;
 use state::Buffer;
+use state::MOST_BUFFERED;
 use state::Windows;
 ghost use mathlib.Core.Path.{_≡_};
 ghost use mathlib.Core.Bool.{cond};
@@ -36,7 +37,7 @@ pub fn buffer_ok(w: Windows, b: Buffer) -> bool
     let mut last = b.postings[0];
     let mut ok = (b.used <= 128) & place_ok(w, n > 0, last);
     let mut i = 1;
-    while i < 128 {
+    while i < MOST_BUFFERED {
         let p = b.postings[i];
         ok = ok & (place_ok(w, i < n, p) & ((i >= n) | precedes(last, p)));
         last = p;

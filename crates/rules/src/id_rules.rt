@@ -1,5 +1,6 @@
 // The rule of the open window's identifiers.
 use state::Listed;
+use state::MOST_LISTED;
 use state::Windows;
 use state::ids::found_from;
 ghost use mathlib.Core.Bool.{_&&_};
@@ -19,7 +20,7 @@ fn places_ok(l: Listed) -> bool
     let n = l.used as usize;
     let mut ok = true;
     let mut i = 0;
-    while i < 64 {
+    while i < MOST_LISTED {
         let x = l.ids[i];
         let place = ((i < n) & (x <= 1023)) | ((i >= n) & (x == 0));
         ok = ok & (!found_from(l, i + 1, x) & place);

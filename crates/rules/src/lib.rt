@@ -1,5 +1,6 @@
 // The rules of what the probe remembers: refusal 1.
 use levels::Due;
+use state::BLOCK_BYTES;
 use state::Lengths;
 use state::MergeJob;
 use state::Partitions;
@@ -17,9 +18,9 @@ pub mod partition_rules; // finished partitions
 fn lengths_ok(l: Lengths) -> bool
     ensures { λ r. ⌜ r ≡ lengthsRule l ⌝ }
 {
-    let blocks = l.card / 4096;
+    let blocks = l.card / BLOCK_BYTES;
     let rows = l.register / 65;
-    let card = (l.card % 4096 == 0) & ((blocks >= 4) & (blocks <= 4096));
+    let card = (l.card % BLOCK_BYTES == 0) & ((blocks >= 4) & (blocks <= 4096));
     card & ((l.register % 65 == 0) & ((rows >= 1) & (rows <= 1024)))
 }
 
@@ -52,7 +53,7 @@ fn merge_ok(p: Partitions, m: MergeJob) -> bool
 pub fn state_ok(s: State) -> bool
     ensures { λ r. ⌜ r ≡ stateRule s ⌝ }
 {
-    let blocks = s.lengths.card / 4096;
+    let blocks = s.lengths.card / BLOCK_BYTES;
     if !partition_rules::partitions_ok(blocks, s.partitions) {
         return false;
     }

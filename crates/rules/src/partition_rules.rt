@@ -1,5 +1,6 @@
 // The rule of the finished partitions.
 use levels::levels_within;
+use state::MOST_PARTITIONS;
 use state::Partition;
 use state::Partitions;
 ghost use mathlib.Core.Bool.{_&&_, cond};
@@ -28,7 +29,7 @@ fn places_ok(blocks: u32, p: Partitions) -> bool
     let mut last = p.records[0];
     let mut ok = place_ok(blocks, n > 0, last);
     let mut i = 1;
-    while i < 51 {
+    while i < MOST_PARTITIONS {
         let q = p.records[i];
         ok = ok & (place_ok(blocks, i < n, q) & ((i >= n) | (q.level <= last.level)));
         last = q;

@@ -4,6 +4,7 @@ use card::Cursor;
 use kway::Part;
 use kway::Taken;
 use partitions::Reader;
+use postings::LAST_ID;
 use state::Partitions;
 ghost use mathlib.Core.Path.{_≡_};
 ghost use mathlib.Core.List.{map};
@@ -27,7 +28,7 @@ pub fn key_id(key: u32) -> u16
     requires { ⌜ key < 67108864 ⌝ }
     ensures { λ r. ⌜ r ≡ keyId key ⌝ }
 {
-    (1023 - key / 65536) as u16
+    (LAST_ID - key / 65536) as u16
 }
 
 // The window of a key.
@@ -60,7 +61,7 @@ pub fn put(card: &[u8], head: &mut [u32], r: Reader) -> u32
         return 0;
     }
     let word = card::head(card, p);
-    let top = (1023 - r.id as u32) * 65536 + word / 65536 + 1;
+    let top = (LAST_ID - r.id as u32) * 65536 + word / 65536 + 1;
     head[0] = top;
     head[1] = word;
     top

@@ -3,6 +3,18 @@ use postings::Posting;
 
 pub mod ids; // the open window's identifiers
 
+// Bytes of a block of the card.
+pub const BLOCK_BYTES: u32 = 4096;
+
+// Identifiers of an open window, at most.
+pub const MOST_LISTED: usize = 64;
+
+// Buffered postings, at most.
+pub const MOST_BUFFERED: usize = 128;
+
+// Finished partitions, at most.
+pub const MOST_PARTITIONS: usize = 51;
+
 // The lengths in bytes of the buffers lent at the start.
 pub struct Lengths {
     pub card: u32,
@@ -20,13 +32,13 @@ pub struct Windows {
 // The open window's identifiers in order of first count.
 pub struct Listed {
     pub used: u16,
-    pub ids: [u16; 64],
+    pub ids: [u16; MOST_LISTED],
 }
 
 // The buffered postings.
 pub struct Buffer {
     pub used: u16,
-    pub postings: [Posting; 128],
+    pub postings: [Posting; MOST_BUFFERED],
 }
 
 // A finished partition: its first block, its level and its length in bytes.
@@ -39,7 +51,7 @@ pub struct Partition {
 // The finished partitions, oldest first.
 pub struct Partitions {
     pub used: u16,
-    pub records: [Partition; 51],
+    pub records: [Partition; MOST_PARTITIONS],
 }
 
 // How far a merge is: where its output begins, how long that will be, and how many steps were taken. All 0 where none is in progress.

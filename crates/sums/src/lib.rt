@@ -1,6 +1,8 @@
 // The counts of one window, read from all that is stored in one pass by falling key.
+use postings::LAST_ID;
 use postings::Posting;
 use state::Buffer;
+use state::MOST_LISTED;
 use state::State;
 ghost use mathlib.Core.Bool.{true, cond};
 ghost use mathlib.Core.Path.{_≡_};
@@ -21,7 +23,7 @@ ghost use Rattle.sums.specs.Steps.{Counted, Begun};
 // The counts of a window, by identifier.
 pub struct Counts {
     pub used: u16,
-    pub postings: [Posting; 64],
+    pub postings: [Posting; MOST_LISTED],
 }
 
 // Whether what was read is well formed, and the window's counts where it is.
@@ -47,7 +49,7 @@ fn none() -> Counts
     };
     Counts {
         used: 0,
-        postings: [p; 64],
+        postings: [p; MOST_LISTED],
     }
 }
 
@@ -57,7 +59,7 @@ fn front_of(p: Posting) -> Front
     ensures { λ r. ⌜ (r .reach ≡ keyOf (p .id) (p .window) + 1) × (r .count ≡ p .count) ⌝ }
 {
     Front {
-        reach: (1023 - p.id as u32) * 65536 + p.window as u32 + 1,
+        reach: (LAST_ID - p.id as u32) * 65536 + p.window as u32 + 1,
         count: p.count,
     }
 }
@@ -133,7 +135,7 @@ fn walk(card: &[u8], heads: &mut [u32], start: u32, s: State, b: Buffer, w: u32)
     let used = b.used as usize;
     let mut at: usize = 0;
     let mut next = start;
-    let mut bound: u32 = 67108864;
+    let mut bound: u32 = kway::KEYS;
     let mut c = none();
     loop {
         let mut front = Front { reach: 0, count: 0 };

@@ -6,6 +6,9 @@ use postings::Posting;
 use state::Buffer;
 use state::Lengths;
 use state::Listed;
+use state::MOST_BUFFERED;
+use state::MOST_LISTED;
+use state::MOST_PARTITIONS;
 use state::MergeJob;
 use state::Partition;
 use state::Partitions;
@@ -81,7 +84,7 @@ pub fn empty_buffer() -> Buffer
     };
     Buffer {
         used: 0,
-        postings: [none; 128],
+        postings: [none; MOST_BUFFERED],
     }
 }
 
@@ -108,12 +111,12 @@ fn empty_state(card: u32, register: u32, taken: u16) -> State
         },
         listed: Listed {
             used: 0,
-            ids: [0; 64],
+            ids: [0; MOST_LISTED],
         },
         buffer: buffer,
         partitions: Partitions {
             used: 0,
-            records: [none; 51],
+            records: [none; MOST_PARTITIONS],
         },
         taken: taken,
         merge: MergeJob {
@@ -199,7 +202,7 @@ pub fn close(s: State) -> Replied
     };
     let l = Listed {
         used: 0,
-        ids: [0; 64],
+        ids: [0; MOST_LISTED],
     };
     let mut t = s;
     t.windows = w;
