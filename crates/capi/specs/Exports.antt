@@ -1,12 +1,10 @@
 -- The exported calls: the engine's, on a state that is lent as its byte image, with answers as numbers.
 use mathlib.Core.Bool.{not, cond}
 use mathlib.Core.List.{List}
-use Prim.Native.Nat.{ℕ, zero, suc, _-_}
-use lib.Dec.{eqb, ltb}
+use Prim.Native.Nat.{ℕ}
+use lib.Dec.{eqb}
 use lib.ListN.{length}
-use Rattle.words.specs.Words.{words, bytes}
-use Rattle.answers.specs.Answers.{Answer, done, number, hits, refused, Outcome, refuseIf, carry}
-use Rattle.state.specs.declared.State.{State}
+use Rattle.answers.specs.Answers.{Outcome, refuseIf, carry}
 use Rattle.state.specs.Probe.{Store, Probe}
 use Rattle.identifiers.specs.Names.{Name}
 use Rattle.windows.specs.Promises.{storeOf, probeOf}
@@ -15,7 +13,8 @@ use Rattle.events.specs.Event.{eventOf}
 use Rattle.flushes.specs.Flush.{flushOf}
 use Rattle.removals.specs.Removal.{removeOf}
 use Rattle.plans.specs.Step.{stepOf}
-use Rattle.images.specs.Images.{imageOf, stateIn, imageRule}
+use Rattle.images.specs.Images.{imageRule}
+use Rattle.numbers.specs.Images.{stateOn, imaged}
 
 -- the bytes that a call is lent: a state's image with a card, or with both buffers
 pub record Carded : Type 0 where
@@ -33,32 +32,13 @@ cardedOf image card = record { image = image; card = card }
 abbrev pub lentOf : List ℕ → List ℕ → List ℕ → Lent
 lentOf image card register = record { image = image; card = card; register = register }
 
--- ---- states as images
-
--- the state of an image
-abbrev pub stateOn : List ℕ → State
-stateOn image = stateIn (words image)
-
--- the image of a state
-unfoldable pub imaged : State → List ℕ
-imaged s = bytes (imageOf s)
+-- ---- stores and probes with images
 
 unfoldable pub imagedStore : Store → Carded
 imagedStore p = record { image = imaged (p .state); card = p .card }
 
 unfoldable pub imagedProbe : Probe → Lent
 imagedProbe p = record { image = imaged (p .state); card = p .card; register = p .register }
-
--- ---- numbers as answers
-
--- 0 is done, another number is a refusal's
-abbrev pub repliedBy : ℕ → Answer
-repliedBy zero = done
-repliedBy (suc n) = refused (suc n)
-
--- a window's number, or 65,536 more than a refusal's
-abbrev pub openedBy : ℕ → Answer
-openedBy n = cond (ltb n 65536) (number n) (refused (n - 65536))
 
 -- ---- calls; bytes that are no image are no state, so that refusal 1 comes first
 
@@ -86,10 +66,3 @@ removeOn l w = refuseIf (not (imageRule (l .image))) 1 (carry imagedStore (remov
 
 unfoldable pub stepOn : Carded → Outcome Carded
 stepOn l = refuseIf (not (imageRule (l .image))) 1 (carry imagedStore (stepOf (storeOf (stateOn (l .image)) (l .card))))
-
--- the image after a call: as it was where it is refused, else the new state's
-abbrev pub leftOn : Answer → State → List ℕ → List ℕ
-leftOn done s image = imaged s
-leftOn (number n) s image = imaged s
-leftOn (hits l n) s image = imaged s
-leftOn (refused n) s image = image

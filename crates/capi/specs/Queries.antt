@@ -15,7 +15,8 @@ use Rattle.identifiers.specs.Names.{Name}
 use Rattle.windows.specs.Promises.{probeOf}
 use Rattle.queries.specs.Query.{queryOf}
 use Rattle.images.specs.Images.{imageRule}
-use Rattle.capi.specs.Exports.{Lent, stateOn}
+use Rattle.capi.specs.Exports.{Lent}
+use Rattle.numbers.specs.Images.{stateOn}
 
 -- a hit is two words: window and score
 abbrev pub hitWords : Hit → List ℕ

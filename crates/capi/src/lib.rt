@@ -10,12 +10,12 @@ ghost use mathlib.Core.List.{map};
 ghost use mathlib.Core.Path.{_≡_};
 ghost use Prim.Native.Nat.{_*_, _≤_};
 ghost use lib.ListN.{length};
-ghost use Rattle.answers.specs.Numbers.{replied, openedAs};
 ghost use Rattle.identifiers.specs.Register.{registerRule};
 ghost use Rattle.state.specs.Rules.{registerLength};
 ghost use Rattle.windows.specs.Promises.{Gives};
 ghost use Rattle.ranking.specs.Top.{listedHits};
-ghost use Rattle.capi.specs.Exports.{cardedOf, lentOf, repliedBy, openedBy, startOn, unstartedOn, openOn, closeOn, eventOn, flushOn, removeOn, stepOn, leftOn};
+ghost use Rattle.capi.specs.Exports.{cardedOf, lentOf, startOn, unstartedOn, openOn, closeOn, eventOn, flushOn, removeOn, stepOn};
+ghost use Rattle.numbers.specs.Images.{repliedBy, openedBy};
 ghost use Rattle.capi.specs.Queries.{hitBytes, numberFound, Tells, queryOn};
 
 // Has a register of so many bytes 1 to 1,024 whole entries?
@@ -40,46 +40,6 @@ pub extern "C" fn gemsilver_register_ok(register: &[u8]) -> u8
     }
 }
 
-// The number of a reply.
-fn reply_number(reply: Reply) -> u32
-    ensures { λ r. ⌜ repliedBy r ≡ replied reply ⌝ }
-{
-    match reply {
-        Reply::Refused(why) => answers::number_of(why),
-        Reply::Done => 0,
-    }
-}
-
-// The number of an answer, with the image put back where the call is done.
-fn settle(image: &mut [u8], after: Replied) -> u32
-    requires { ⌜ length (now image) ≡ 2456 ⌝ }
-    ensures { λ r. ⌜ (repliedBy r ≡ replied (after .reply)) × (now (image .exit) ≡ leftOn (replied (after .reply)) (after .state) (now (image .entry))) ⌝ }
-{
-    let reply = after.reply;
-    match reply {
-        Reply::Refused(why) => answers::number_of(why),
-        Reply::Done => {
-            images::write_state(image, after.state);
-            0
-        }
-    }
-}
-
-// The same for an open.
-fn settle_open(image: &mut [u8], after: Opening) -> u32
-    requires { ⌜ length (now image) ≡ 2456 ⌝ }
-    ensures { λ r. ⌜ (openedBy r ≡ openedAs (after .answer)) × (now (image .exit) ≡ leftOn (openedAs (after .answer)) (after .state) (now (image .entry))) ⌝ }
-{
-    let answer = after.answer;
-    match answer {
-        Opened::Refused(why) => 65536 + answers::number_of(why),
-        Opened::Number(n) => {
-            images::write_state(image, after.state);
-            n as u32
-        }
-    }
-}
-
 // A fresh card and register, and the image of their state.
 #[no_mangle]
 pub extern "C" fn gemsilver_start(image: &mut [u8], card: &mut [u8], register: &mut [u8]) -> u32
@@ -93,7 +53,7 @@ pub extern "C" fn gemsilver_start(image: &mut [u8], card: &mut [u8], register: &
     let r = engine::start(card, register);
     images::write_state(image, r.state);
     let reply = r.reply;
-    reply_number(reply)
+    numbers::reply_number(reply)
 }
 
 // A window is opened: its number, or 65,536 more than a refusal's.
@@ -106,7 +66,7 @@ pub extern "C" fn gemsilver_open(image: &mut [u8]) -> u32
     }
     let s = images::read_state(image);
     let r = engine::open(s);
-    settle_open(image, r)
+    numbers::settle_open(image, r)
 }
 
 // The open window is closed.
@@ -119,7 +79,7 @@ pub extern "C" fn gemsilver_close(image: &mut [u8]) -> u32
     }
     let s = images::read_state(image);
     let r = engine::close(s);
-    settle(image, r)
+    numbers::settle(image, r)
 }
 
 // An event is counted.
@@ -139,7 +99,7 @@ pub extern "C" fn gemsilver_event(
     }
     let s = images::read_state(image);
     let r = engine::event(s, card, register, id);
-    settle(image, r)
+    numbers::settle(image, r)
 }
 
 // The buffered postings are written.
@@ -153,7 +113,7 @@ pub extern "C" fn gemsilver_flush(image: &mut [u8], card: &mut [u8]) -> u32
     }
     let s = images::read_state(image);
     let r = engine::flush(s, card);
-    settle(image, r)
+    numbers::settle(image, r)
 }
 
 // The hits into lent bytes, two words each.
@@ -214,7 +174,7 @@ pub extern "C" fn gemsilver_remove(image: &mut [u8], card: &mut [u8], window: u3
     }
     let s = images::read_state(image);
     let r = engine::remove(s, card, window);
-    settle(image, r)
+    numbers::settle(image, r)
 }
 
 // A merge is taken one step further, or begun.
@@ -228,5 +188,5 @@ pub extern "C" fn gemsilver_step(image: &mut [u8], card: &mut [u8]) -> u32
     }
     let s = images::read_state(image);
     let r = engine::step_value(s, card);
-    settle(image, r)
+    numbers::settle(image, r)
 }

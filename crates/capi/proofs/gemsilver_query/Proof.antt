@@ -2,7 +2,7 @@
 use Rattle.lists.proofs.Prelude.{not, map, sym, ap, _∙_, arith, not-false, needs}
 use denote.Ref.{now}
 use Rattle.windows.specs.Promises.{probeOf}
-use Rattle.capi.specs.Exports.{stateOn}
+use Rattle.numbers.specs.Images.{stateOn}
 use Rattle.capi.specs.Queries.{queryOn}
 use Rattle.capi.proofs.Places.{tells-stopped, tells-passed, on-query}
 use Rattle.capi.proofs.gemsilver_query.Statement.{statement}

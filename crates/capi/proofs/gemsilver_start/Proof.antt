@@ -1,6 +1,6 @@
 -- `capi::gemsilver_start` meets its contract.
 use Rattle.lists.proofs.Prelude.{eq-eqb, ne-eqb, needs}
-use Rattle.capi.specs.Exports.{imaged}
+use Rattle.numbers.specs.Images.{imaged}
 use Rattle.capi.proofs.Carried.{start-short, on-start}
 use Rattle.capi.proofs.gemsilver_start.Statement.{statement}
 use Rattle.capi.proofs.gemsilver_start.Tie as tie

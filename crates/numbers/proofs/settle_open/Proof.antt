@@ -1,9 +1,9 @@
 -- `capi::settle_open` meets its contract.
 use Rattle.lists.proofs.Prelude.{refl, arith, needs}
-use Rattle.capi.specs.Exports.{imaged}
-use Rattle.capi.proofs.Carried.{number-small, opened-number, opened-refused}
-use Rattle.capi.proofs.settle_open.Statement.{statement}
-use Rattle.capi.proofs.settle_open.Tie as tie
+use Rattle.numbers.specs.Images.{imaged}
+use Rattle.numbers.proofs.Told.{number-small, opened-number, opened-refused}
+use Rattle.numbers.proofs.settle_open.Statement.{statement}
+use Rattle.numbers.proofs.settle_open.Tie as tie
 
 add-result : tie.Need-add-result
 add-result c = omega (arith, c .number-of .ensures, number-small (c .before .before .answer .given .0 .0))

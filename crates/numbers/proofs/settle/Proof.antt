@@ -1,9 +1,9 @@
 -- `capi::settle` meets its contract.
 use Rattle.lists.proofs.Prelude.{refl, needs}
-use Rattle.capi.specs.Exports.{imaged}
-use Rattle.capi.proofs.Carried.{number-refused}
-use Rattle.capi.proofs.settle.Statement.{statement}
-use Rattle.capi.proofs.settle.Tie as tie
+use Rattle.numbers.specs.Images.{imaged}
+use Rattle.numbers.proofs.Told.{number-refused}
+use Rattle.numbers.proofs.settle.Statement.{statement}
+use Rattle.numbers.proofs.settle.Tie as tie
 
 returns : tie.Need-returns
 returns c = rw (c .before .before .reply .given .1, c .number-of .ensures) (number-refused (c .before .before .reply .given .0 .0), refl)

@@ -1,8 +1,8 @@
 -- `capi::reply_number` meets its contract.
-use Rattle.capi.proofs.Carried.{number-refused}
+use Rattle.numbers.proofs.Told.{number-refused}
 use borrow.Author.Needs.{needs}
-use Rattle.capi.proofs.reply_number.Statement.{statement}
-use Rattle.capi.proofs.reply_number.Tie as tie
+use Rattle.numbers.proofs.reply_number.Statement.{statement}
+use Rattle.numbers.proofs.reply_number.Tie as tie
 
 returns : tie.Need-returns
 returns c = rw (c .before .before .reply .given .1, c .number-of .ensures) (number-refused (c .before .before .reply .given .0 .0))

@@ -1,0 +1,49 @@
+// Answers as numbers, and the state that a call leaves put back into its image.
+use answers::Opened;
+use answers::Reply;
+use windows::Opening;
+use windows::Replied;
+ghost use mathlib.Core.Path.{_≡_};
+ghost use lib.ListN.{length};
+ghost use Rattle.answers.specs.Numbers.{replied, openedAs};
+ghost use Rattle.numbers.specs.Images.{repliedBy, openedBy, leftOn};
+
+// The number of a reply.
+pub fn reply_number(reply: Reply) -> u32
+    ensures { λ r. ⌜ repliedBy r ≡ replied reply ⌝ }
+{
+    match reply {
+        Reply::Refused(why) => answers::number_of(why),
+        Reply::Done => 0,
+    }
+}
+
+// The number of an answer, with the image put back where the call is done.
+pub fn settle(image: &mut [u8], after: Replied) -> u32
+    requires { ⌜ length (now image) ≡ 2456 ⌝ }
+    ensures { λ r. ⌜ (repliedBy r ≡ replied (after .reply)) × (now (image .exit) ≡ leftOn (replied (after .reply)) (after .state) (now (image .entry))) ⌝ }
+{
+    let reply = after.reply;
+    match reply {
+        Reply::Refused(why) => answers::number_of(why),
+        Reply::Done => {
+            images::write_state(image, after.state);
+            0
+        }
+    }
+}
+
+// The same for an open.
+pub fn settle_open(image: &mut [u8], after: Opening) -> u32
+    requires { ⌜ length (now image) ≡ 2456 ⌝ }
+    ensures { λ r. ⌜ (openedBy r ≡ openedAs (after .answer)) × (now (image .exit) ≡ leftOn (openedAs (after .answer)) (after .state) (now (image .entry))) ⌝ }
+{
+    let answer = after.answer;
+    match answer {
+        Opened::Refused(why) => 65536 + answers::number_of(why),
+        Opened::Number(n) => {
+            images::write_state(image, after.state);
+            n as u32
+        }
+    }
+}
