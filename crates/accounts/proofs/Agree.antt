@@ -1,5 +1,5 @@
 -- The engine on lists answers every call as ledger and account do, and leaves the lists that stand for what they leave.
-use Rattle.lists.proofs.Prelude.{Bool, true, false, _||_, _&&_, not, cond, true≢false, List, [], _∷_, map, _≡_, refl, sym, ap, ap₂, _∙_, fun-ext, subst, ℕ, suc, _+_, _-_, _*_, _<_, _≤_, arith, eqb, ltb, leb, pos, length, getD, length-map, eqb-true, eqb-false, ne-eqb, ltb-true, ltb-false, le-ltb, lt-leb, not-false, empty, down, by-test, and-left, and-right}
+use Rattle.lists.proofs.Prelude.{Bool, true, false, _||_, _&&_, not, cond, true≢false, List, [], _∷_, map, _≡_, refl, sym, ap, ap₂, _∙_, fun-ext, subst, ℕ, suc, _+_, _-_, _*_, _<_, _≤_, arith, eqb, ltb, leb, pos, length, getD, length-map, eqb-true, eqb-false, ne-eqb, ltb-true, ltb-false, le-ltb, lt-leb, not-false, empty, down, by-test, and-left, and-right, empty-is}
 use Rattle.postings.specs.declared.Posting.{Posting}
 use Rattle.postings.specs.Merge.{put, nonzero, negated}
 use Rattle.postings.specs.Sums.{above}
@@ -201,10 +201,6 @@ module _ (blocks entries : ℕ) where
     unfolding flushing choose
     flush-alike h = go (empty (a .buffer)) refl
       where
-        none : (m : List Posting) → empty m ≡ true → m ≡ []
-        none [] e = refl
-        none (p ∷ m) e = cc
-
         emptied-flush : flushedAccount a .buffer ≡ []
         emptied-flush = unfold flushedAccount in refl
 
@@ -212,7 +208,7 @@ module _ (blocks entries : ℕ) where
             → Alike blocks entries
             (choose t (f a) (refuseIf (leb 16 (ofLevel levelOf 0 (a .partitions))) 10 (refuseIf (ltb blocks (2 * suc (blocksIn a))) 11 (refuseIf (ltb blocks (suc (blocksIn a + blocksAhead a))) 12 (f (flushedAccount a))))))
             (choose t (g a) (refuseIf (leb 16 (ofLevel levelOf 0 (a .partitions))) 10 (refuseIf (ltb blocks (2 * suc (blocksIn a))) 11 (refuseIf (ltb blocks (suc (blocksIn a + blocksAhead a))) 12 (g (flushedAccount a))))))
-        go true e = h a k (none (a .buffer) e)
+        go true e = h a k (empty-is (a .buffer) e)
         go false e =
             refusing _ _ 10 _ _ refl λ ten. refusing _ _ 11 _ _ refl λ eleven. refusing _ _ 12 _ _ refl λ twelve.
             h (flushedAccount a) (kept-flushed blocks entries l a k e ten twelve) emptied-flush

@@ -1,5 +1,5 @@
 -- An event keeps what holds of the ledger.
-use Rattle.lists.proofs.Prelude.{Bool, true, false, _||_, _&&_, not, cond, true≢false, or-false, _≡_, refl, sym, ap, _∙_, fun-ext, ℕ, suc, _≤_, arith, eqb, ltb, leb, length, eqb-true, eqb-false, eq-eqb, ne-eqb, lt-ltb, leb-false, keep, same, by-test, or-none, or-right, same-refl, same-true, keep-same}
+use Rattle.lists.proofs.Prelude.{Bool, true, false, _||_, _&&_, not, cond, true≢false, or-false, _≡_, refl, sym, ap, _∙_, fun-ext, ℕ, suc, _≤_, arith, eqb, ltb, leb, length, eqb-true, eqb-false, eq-eqb, ne-eqb, lt-ltb, leb-false, keep, same, by-test, or-none, or-right, same-refl, same-true, keep-same, and-false}
 use Rattle.identifiers.specs.Names.{Name, among}
 use Rattle.accounts.specs.Ledger.{Ledger, live, including, counts}
 use Rattle.accounts.proofs.Numbers.{goodLength, among-including, among-grows, distinct-including, every-including, length-including}
@@ -15,12 +15,8 @@ more l n m w = cond (same n m && eqb (l .last) w) (suc (l .count m w)) (l .count
 pub more-other : (l : Ledger) (n m : Name) (w : ℕ) → (same n m && eqb (l .last) w) ≡ false → more l n m w ≡ l .count m w
 more-other l n m w e = rw e
 
-never : (t : Bool) → (t && false) ≡ false
-never true = refl
-never false = refl
-
 pub more-elsewhere : (l : Ledger) (n m : Name) (w : ℕ) → (l .last ≡ w → ⊥) → more l n m w ≡ l .count m w
-more-elsewhere l n m w d = rw (ne-eqb (l .last) w d, never (same n m))
+more-elsewhere l n m w d = rw (ne-eqb (l .last) w d, and-false (same n m))
 
 -- in the open window
 pub more-here : (l : Ledger) (n m : Name) → more l n m (l .last) ≡ cond (same n m) (suc (l .count m (l .last))) (l .count m (l .last))

@@ -1,5 +1,5 @@
 -- A window's counts, read from what is stored, are the ledger's: the same identifiers by number, the same counts, in the same order.
-use Rattle.lists.proofs.Prelude.{Bool, true, false, _||_, _&&_, not, cond, List, [], _∷_, map, _≡_, refl, sym, ap, _∙_, fun-ext, ℕ, zero, suc, _+_, _<_, _≤_, arith, eqb, ltb, leb, ℤ, pos, negℤ, +ℤ-idl, +ℤ-idr, length, getD, List·getD-eq-default, eqb-true, eqb-false, eq-eqb, ne-eqb, lt-ltb, ltb-true, ltb-false, le-leb, leb-true, keep, any, every, rising, upTo, by-test, and-both, and-left, and-right, every-from, map-upTo}
+use Rattle.lists.proofs.Prelude.{Bool, true, false, _||_, not, cond, List, [], _∷_, map, _≡_, refl, sym, ap, _∙_, fun-ext, ℕ, zero, suc, _+_, _<_, _≤_, arith, eqb, ltb, leb, ℤ, pos, negℤ, +ℤ-idl, +ℤ-idr, length, getD, List·getD-eq-default, eqb-true, eqb-false, eq-eqb, ne-eqb, lt-ltb, ltb-true, ltb-false, le-leb, leb-true, keep, any, every, rising, upTo, by-test, and-both, and-left, and-right, every-from, map-upTo, and-false, any-map, keep-map, map-id, length-map}
 use Rattle.postings.specs.declared.Posting.{Posting}
 use Rattle.postings.specs.Order.{precedes, ordered}
 use Rattle.postings.specs.Merge.{counting, isZero, isCounted, nonzero, pairs, negated}
@@ -74,11 +74,7 @@ module _ (c : ℕ → ℤ) (w : ℕ) where
 
   pub held-other : (i v : ℕ) (is : List ℕ) → (w ≡ v → ⊥) → sum (heldBy c w is) i v ≡ pos 0
   held-other i v is d =
-      sum-apart i v (λ p. eqb (p .window) w) (λ p y. rw (eqb-true (p .window) w y, ne-eqb w v d) (never (eqb (p .id) i))) (heldBy c w is) (held-window is)
-    where
-      never : (t : Bool) → (t && false) ≡ false
-      never true = refl
-      never false = refl
+      sum-apart i v (λ p. eqb (p .window) w) (λ p y. rw (eqb-true (p .window) w y, ne-eqb w v d) (and-false (eqb (p .id) i))) (heldBy c w is) (held-window is)
 
   held-above : (i v n k : ℕ) → i < n → sum (heldBy c w (rising n k)) i v ≡ pos 0
   held-above i v n k h =
@@ -151,24 +147,18 @@ counts-held w l n none =
 
 -- ---- by number and by name
 
-any-map : {A : Type 0} (t : A → Bool) (l : List A) → any t l ≡ any (λ b. b) (map t l)
-any-map t [] = refl
-any-map t (x ∷ l) = ap (λ b. t x || b) (any-map t l)
-
-keep-map : {A : Type 0} (t : A → Bool) (l : List A) → length (keep t l) ≡ length (keep (λ b. b) (map t l))
-keep-map t [] = refl
-keep-map t (x ∷ l) = by-test (t x) (λ y. rw y (ap suc (keep-map t l))) (λ n. rw n (keep-map t l))
+-- all names, by their numbers
+by-number : (ms : List Name) → map (λ i. getD ms i []) (upTo (length ms)) ≡ ms
+by-number ms = map-upTo (λ i. getD ms i []) (λ m. m) ms [] (length ms) refl (λ j h. refl) ∙ map-id ms
 
 -- a test over all numbers is a test over all names
-by-number : (t : Name → Bool) (ms : List Name) → map (λ i. t (getD ms i [])) (upTo (length ms)) ≡ map t ms
-by-number t ms = map-upTo (λ i. t (getD ms i [])) t ms [] (length ms) refl (λ j h. refl)
-
 pub any-by-number : (t : Name → Bool) (ms : List Name) → any (λ i. t (getD ms i [])) (upTo (length ms)) ≡ any t ms
-any-by-number t ms = any-map (λ i. t (getD ms i [])) (upTo (length ms)) ∙ ap (any (λ b. b)) (by-number t ms) ∙ sym (any-map t ms)
+any-by-number t ms = sym (any-map t (λ i. getD ms i []) (upTo (length ms))) ∙ ap (any t) (by-number ms)
 
 pub keep-by-number : (t : Name → Bool) (ms : List Name) → length (keep (λ i. t (getD ms i [])) (upTo (length ms))) ≡ length (keep t ms)
 keep-by-number t ms =
-    keep-map (λ i. t (getD ms i [])) (upTo (length ms)) ∙ ap (λ bs. length (keep (λ (b : Bool). b) bs)) (by-number t ms) ∙ sym (keep-map t ms)
+    sym (length-map (keep (λ i. t (getD ms i [])) (upTo (length ms))) (λ i. getD ms i []))
+    ∙ ap length (sym (keep-map t (λ i. getD ms i []) (upTo (length ms))) ∙ ap (keep t) (by-number ms))
 
 some-is : (m : ℕ) → not (isZero (pos m)) ≡ ltb 0 m
 some-is zero = refl

@@ -1,5 +1,5 @@
 -- Which windows are live after each call, and how many exist.
-use Rattle.lists.proofs.Prelude.{Bool, true, false, _&&_, cond, _≡_, refl, sym, ap, _∙_, fun-ext, subst, ℕ, zero, suc, _-_, _<_, _≤_, arith, eqb, ltb, length, eqb-true, eq-eqb, ne-eqb, lt-ltb, keep, any, same, down, by-test, same-refl, any-none, keep-down}
+use Rattle.lists.proofs.Prelude.{Bool, true, false, cond, _≡_, refl, sym, ap, _∙_, fun-ext, subst, ℕ, zero, suc, _-_, _<_, _≤_, arith, eqb, ltb, length, eqb-true, eq-eqb, ne-eqb, lt-ltb, keep, any, same, down, by-test, same-refl, any-none, keep-down, and-false}
 use Rattle.identifiers.specs.Names.{Name, among}
 use Rattle.accounts.specs.Ledger.{Ledger, live, existing, opens, closes, including, counts, removes}
 use Rattle.accounts.proofs.Numbers.{among-itself}
@@ -19,15 +19,11 @@ live-counts l n =
     any-among (λ m. ltb 0 (counts l n .count m (l .last))) (including (l .identifiers) n) n (among-itself (l .identifiers) n)
     (rw (same-refl n, eq-eqb (l .last) (l .last) refl) (lt-ltb 0 (suc (l .count n (l .last))) (omega arith)))
 
-never : (t : Bool) → (t && false) ≡ false
-never true = refl
-never false = refl
-
 -- every other window after an event
 pub live-counts-other : (l : Ledger) (n : Name) (v : ℕ) → (among n (l .identifiers) ≡ false → l .count n v ≡ 0) → (l .last ≡ v → ⊥) → live (counts l n) v ≡ live l v
 unfolding live counts
 live-counts-other l n v new d =
-    ap (λ (t : Name → Bool). any t (including (l .identifiers) n)) (fun-ext λ m. rw (ne-eqb (l .last) v d, never (same n m)))
+    ap (λ (t : Name → Bool). any t (including (l .identifiers) n)) (fun-ext λ m. rw (ne-eqb (l .last) v d, and-false (same n m)))
     ∙ any-including (λ m. ltb 0 (l .count m v)) (l .identifiers) n (λ z. ap (ltb 0) (new z))
 
 -- after a removal

@@ -1,5 +1,5 @@
 -- Identifiers by name and by number: one identifier more changes no number, and numbers differ where names do.
-use Rattle.lists.proofs.Prelude.{Bool, true, false, _||_, not, cond, or-false, or-comm, true≢false, List, [], _∷_, _++_, map, _≡_, refl, sym, ap, ap₂, _∙_, ℕ, zero, suc, _≤_, arith, eqb, ltb, leb, length, getD, length-append, List·getD-eq-default, eqb-true, eqb-false, eq-eqb, ne-eqb, ltb-true, ltb-false, lt-ltb, le-ltb, le-leb, lt-leb, every, elem, different, same, by-test, and-left, and-right, and-both, or-right, same-refl, same-true, every-append}
+use Rattle.lists.proofs.Prelude.{Bool, true, false, _||_, not, cond, or-false, or-comm, true≢false, List, [], _∷_, _++_, map, _≡_, refl, sym, ap, ap₂, _∙_, ℕ, zero, suc, _≤_, arith, eqb, ltb, leb, length, getD, length-append, List·getD-eq-default, eqb-true, eqb-false, eq-eqb, ne-eqb, ltb-true, ltb-false, lt-ltb, le-ltb, le-leb, lt-leb, every, elem, different, same, by-test, and-left, and-right, and-both, or-right, same-refl, same-true, every-append, map-append}
 use Rattle.identifiers.specs.Names.{Name, badLength, among, distinct, numberOf}
 use Rattle.identifiers.proofs.Names.{number-there, number-none, number-among, number-at, number-added, number-kept, number-place, among-snoc, distinct-snoc}
 use Rattle.accounts.specs.Ledger.{including}
@@ -124,10 +124,6 @@ elem-numbers ms (m ∷ ns) n h = ap₂ _||_ (number-same ms m n (within-first ms
 pub map-numbers : (ms ns : List Name) (n : Name) → Within ns ms → map (numberOf (including ms n)) ns ≡ map (numberOf ms) ns
 map-numbers ms [] n h = refl
 map-numbers ms (m ∷ ns) n h = ap₂ _∷_ (number-still ms n m (within-first ms ns m h)) (map-numbers ms ns n (within-rest ms ns m h))
-
-map-append : {A B : Type 0} (f : A → B) (xs ys : List A) → map f (xs ++ ys) ≡ map f xs ++ map f ys
-map-append f [] ys = refl
-map-append f (x ∷ xs) ys = ap (λ l. f x ∷ l) (map-append f xs ys)
 
 -- one identifier more, among all and in the list
 pub numbers-including : (ms ns : List Name) (n : Name) → Within ns ms

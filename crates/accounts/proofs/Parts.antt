@@ -1,6 +1,5 @@
 -- Sums over a part of the postings: those that pass a test, those of one window, those of one identifier; and pairs whose sums fit.
-use Rattle.lists.proofs.Prelude.{Bool, true, false, _&&_, List, [], _∷_, _≡_, refl, sym, ℕ, _≤_, arith, eqb, pos, natAbs, +ℤ-idl, eqb-true, eqb-false, ne-eqb, le-leb, keep, every, by-test, and-left, and-right, every-kept}
-use Rattle.accounts.proofs.Members.{members-every}
+use Rattle.lists.proofs.Prelude.{Bool, true, false, _&&_, List, [], _∷_, _≡_, refl, sym, ℕ, _≤_, arith, eqb, pos, natAbs, +ℤ-idl, eqb-true, eqb-false, ne-eqb, le-leb, keep, every, by-test, and-left, and-right, every-kept, and-false, every-member}
 use Rattle.postings.specs.declared.Posting.{Posting}
 use Rattle.postings.specs.Merge.{pairs}
 use Rattle.postings.specs.Sums.{sum, under}
@@ -28,18 +27,10 @@ module _ (i w : ℕ) where
 -- ---- one window
 
 other-window : (i w v : ℕ) (p : Posting) → (w ≡ v → ⊥) → eqb (p .window) w ≡ true → ofPair i v p ≡ false
-other-window i w v p d y = rw (eqb-true (p .window) w y, ne-eqb w v d) (never (eqb (p .id) i))
-  where
-    never : (t : Bool) → (t && false) ≡ false
-    never true = refl
-    never false = refl
+other-window i w v p d y = rw (eqb-true (p .window) w y, ne-eqb w v d) (and-false (eqb (p .id) i))
 
 pub sum-window : (w i : ℕ) (l : List Posting) → sum (ofWindow w l) i w ≡ sum l i w
-sum-window w i l = sum-kept i w (λ p. eqb (p .window) w) (λ p n. rw n (never (eqb (p .id) i))) l
-  where
-    never : (t : Bool) → (t && false) ≡ false
-    never true = refl
-    never false = refl
+sum-window w i l = sum-kept i w (λ p. eqb (p .window) w) (λ p n. rw n (and-false (eqb (p .id) i))) l
 
 pub sum-other-window : (w i v : ℕ) (l : List Posting) → (w ≡ v → ⊥) → sum (ofWindow w l) i v ≡ pos 0
 sum-other-window w i v l d =
@@ -57,7 +48,7 @@ sum-other-identifier j i v l d =
 pub sums-in-range : (l : List Posting) → ((i w : ℕ) → natAbs (sum l i w) ≤ 32767) → sumsInRange l ≡ true
 unfolding sumsInRange
 sums-in-range l h =
-    members-every (λ p. inRange (p .count)) (pairs l)
+    every-member (λ p. inRange (p .count)) (pairs l)
     (λ p m. le-leb (natAbs (p .count)) 32767
     (rw (← ordered-sum (pairs l) (pairs-ordered l) m, sum-pairs (p .id) (p .window) l) (h (p .id) (p .window))))
 

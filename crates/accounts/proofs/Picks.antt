@@ -1,5 +1,6 @@
 -- What a test keeps of a list of identifiers, where one identifier is added to the list or changes its answer.
-use Rattle.lists.proofs.Prelude.{Bool, true, false, not, cond, or-false, List, [], _∷_, append-nil, _≡_, refl, sym, ap, _∙_, ℕ, zero, suc, _≤_, arith, length, length-append, eqb, eqb-true, eqb-false, ne-eqb, not-true, keep, any, same, down, by-test, and-left, and-right, or-right, or-none, same-true, same-swap, keep-append, any-append, keep-down}
+use Rattle.lists.proofs.Prelude.{Bool, true, false, not, cond, or-false, List, [], _∷_, append-nil, _≡_, refl, sym, ap, _∙_, ℕ, suc, _≤_, arith, length, length-append, eqb, ne-eqb, not-true, keep, any, same, down, by-test, and-left, and-right, or-right, or-none, same-true, same-swap, keep-append, any-append, keep-less, elem-down, eq-eqb}
+use Rattle.lists.proofs.TopK.{different-down}
 use Rattle.identifiers.specs.Names.{Name, among, distinct}
 use Rattle.accounts.specs.Ledger.{including}
 
@@ -53,15 +54,5 @@ module _ (t u : Name → Bool) (n : Name) (else : (m : Name) → same n m ≡ fa
 
 pub keep-out : (t u : ℕ → Bool) (w m : ℕ) → 1 ≤ w → w ≤ m → t w ≡ true → ((v : ℕ) → u v ≡ cond (eqb w v) false (t v))
     → length (keep t (down m)) ≡ suc (length (keep u (down m)))
-unfolding down
-keep-out t u w zero h k e d = absurd (omega arith)
-keep-out t u w (suc m) h k e d =
-    by-test (eqb w (suc m))
-    (λ y. let q = eqb-true w (suc m) y in
-    let now : u (suc m) ≡ false = d (suc m) ∙ rw y in
-    let before : t (suc m) ≡ true = ap t (sym q) ∙ e in
-    rw (now, before) (ap (λ l. suc (length l)) (keep-down t u m (λ v l. sym (d v ∙ rw (ne-eqb w v (λ r. omega arith)))))))
-    (λ n. let q = eqb-false w (suc m) n in
-    let f = keep-out t u w m h (omega arith) e d in
-    let same : u (suc m) ≡ t (suc m) = d (suc m) ∙ rw n in
-    rw same (by-test (t (suc m)) (λ y. rw y (ap suc f)) (λ x. rw x f)))
+keep-out t u w m h k e d =
+    keep-less t u w (λ v r. sym (d v ∙ rw (ne-eqb w v r))) e (d w ∙ rw (eq-eqb w w refl)) (down m) (different-down m) (elem-down m w h k)

@@ -1,5 +1,5 @@
 -- Stored postings have an identifier of the register and a window from 1 up to the last that has events.
-use Rattle.lists.proofs.Prelude.{Bool, true, false, _&&_, List, [], _∷_, map, foldr, _≡_, refl, sym, ap, _∙_, ℕ, suc, _*_, _<_, _≤_, arith, eqb, leb, ℤ, pos, negℤ, drop, ne-eqb, le-leb, leb-true, keep, every, by-test, and-left, and-right, and-both, every-append, every-keep, every-from, every-take, every-drop}
+use Rattle.lists.proofs.Prelude.{Bool, true, _&&_, List, [], _∷_, map, foldr, _≡_, refl, sym, ap, _∙_, ℕ, suc, _*_, _<_, _≤_, arith, eqb, leb, ℤ, pos, negℤ, drop, ne-eqb, le-leb, leb-true, keep, every, by-test, and-left, and-right, and-both, every-append, every-keep, every-from, every-take, every-drop, and-false}
 use Rattle.postings.specs.declared.Posting.{Posting}
 use Rattle.postings.specs.Merge.{counting, put, isCounted, nonzero, pairs, negated}
 use Rattle.postings.specs.Sums.{sum}
@@ -42,11 +42,7 @@ ranged-up t u h l e =
 -- windows above t have no sum
 pub sum-later : (t : ℕ) (l : List Posting) (i w : ℕ) → every (storedRule t) l ≡ true → t < w → sum l i w ≡ pos 0
 sum-later t l i w e h =
-    sum-apart i w (storedRule t) (λ p y. rw (ne-eqb (p .window) w (λ q. omega (arith, stored-kept t p y .most))) (never (eqb (p .id) i))) l e
-  where
-    never : (t : Bool) → (t && false) ≡ false
-    never true = refl
-    never false = refl
+    sum-apart i w (storedRule t) (λ p y. rw (ne-eqb (p .window) w (λ q. omega (arith, stored-kept t p y .most))) (and-false (eqb (p .id) i))) l e
 
 -- ---- partitions and buffer
 

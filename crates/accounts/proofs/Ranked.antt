@@ -1,5 +1,5 @@
 -- A query by number and by name, over all windows and over those given, finds the same.
-use Rattle.lists.proofs.Prelude.{Bool, false, _||_, cond, List, [], _∷_, foldr, map, _≡_, refl, sym, ap, ap₂, _∙_, fun-ext, ℕ, zero, suc, _+_, _*_, _-_, _<_, _≤_, arith, ltb, length, getD, take, keep, any, totalBy, down, by-test, any-none}
+use Rattle.lists.proofs.Prelude.{Bool, false, _||_, cond, List, [], _∷_, foldr, map, _≡_, refl, ap, ap₂, _∙_, fun-ext, ℕ, _+_, _*_, _<_, _≤_, arith, ltb, length, getD, take, keep, any, totalBy, down, by-test, any-none, keep-up}
 use Rattle.weights.specs.Weights.{tfWeight, idfWeight}
 use Rattle.identifiers.specs.Names.{Name, among, numbersOf}
 use Rattle.identifiers.proofs.Names.{number-at}
@@ -7,23 +7,6 @@ use Rattle.ranking.specs.Hits.{place, frequency, score, matching, ranked}
 use Rattle.accounts.proofs.Numbers.{known-is}
 
 -- ---- windows above the last one given do not matter
-
-keep-more : (t : ℕ → Bool) (m d : ℕ) → ((v : ℕ) → m < v → t v ≡ false) → keep t (down (d + m)) ≡ keep t (down m)
-unfolding down
-keep-more t m zero h = ap (λ n. keep t (down n)) (none m)
-  where
-    none : (m : ℕ) → zero + m ≡ m
-    none m = omega arith
-keep-more t m (suc d) h = ap (λ n. keep t (down n)) (one d m) ∙ rw (h (suc (d + m)) (omega arith)) (keep-more t m d h)
-  where
-    one : (d m : ℕ) → suc d + m ≡ suc (d + m)
-    one d m = omega arith
-
-pub keep-up : (t : ℕ → Bool) (m n : ℕ) → m ≤ n → ((v : ℕ) → m < v → t v ≡ false) → keep t (down n) ≡ keep t (down m)
-keep-up t m n h k = ap (λ x. keep t (down x)) (sym split) ∙ keep-more t m (n - m) k
-  where
-    split : n - m + m ≡ n
-    split = omega arith
 
 pub ranked-windows : {I : Type 0} (n : ℕ) (count : I → ℕ → ℕ) (m M k : ℕ) (is : List I) → m ≤ M → ((i : I) (v : ℕ) → m < v → count i v ≡ 0)
     → ranked n count (down M) k is ≡ ranked n count (down m) k is

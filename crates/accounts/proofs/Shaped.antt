@@ -1,6 +1,6 @@
 -- The account's own shape: partitions and buffer in order and without a count of 0, levels within their limits and never rising, and the merge in
 -- progress. Flushes, steps and what is added to the buffer keep it.
-use Rattle.lists.proofs.Prelude.{Bool, true, false, _||_, _&&_, not, List, [], _∷_, foldr, _≡_, refl, sym, ap, ap₂, _∙_, subst, ℕ, zero, suc, _+_, _*_, _≤_, arith, eqb, leb, pos, length, take, drop, eqb-true, eqb-false, eq-eqb, le-leb, leb-false, ltb-false, any, every, empty, by-test, and-both, every-append, every-take, every-drop, every-from, length-keep}
+use Rattle.lists.proofs.Prelude.{Bool, true, false, _||_, _&&_, not, List, [], _∷_, foldr, _≡_, refl, sym, ap, ap₂, _∙_, subst, ℕ, zero, suc, _+_, _*_, _≤_, arith, eqb, leb, pos, length, take, drop, eqb-true, eqb-false, eq-eqb, le-leb, leb-false, ltb-false, any, every, empty, by-test, and-both, every-append, every-take, every-drop, every-from, length-keep, not-false}
 use Rattle.postings.specs.declared.Posting.{Posting}
 use Rattle.postings.specs.Order.{samePair, ordered}
 use Rattle.postings.specs.Merge.{put, isCounted, nonzero}
@@ -168,13 +168,9 @@ overflows-is p a = ap (λ t. eqb (length (a .buffer)) 128 && not t) (turned (a .
 pub event-room : (p : Posting) (a b : Account) → Shaped b → Roomed (overflows p a) a b → length (nonzero (foldr put (b .buffer) (p ∷ []))) ≤ 128
 event-room p a b s (asBefore e) =
     by-test (eqb (length (a .buffer)) 128)
-    (λ y. let there : any (samePair p) (a .buffer) ≡ true = not-not (any (samePair p) (a .buffer)) (sym (ap (λ t. t && not (any (samePair p) (a .buffer))) y) ∙ sym (overflows-is p a) ∙ e) in
+    (λ y. let there : any (samePair p) (a .buffer) ≡ true = not-false (any (samePair p) (a .buffer)) (sym (ap (λ t. t && not (any (samePair p) (a .buffer))) y) ∙ sym (overflows-is p a) ∙ e) in
     omega (arith, length-nonzero (put p (a .buffer)), length-put-there p (a .buffer) (s .order) there, s .room))
     (λ n. let d = eqb-false (length (a .buffer)) 128 n in omega (arith, length-nonzero (put p (a .buffer)), length-put p (a .buffer), s .room))
-  where
-    not-not : (t : Bool) → not t ≡ false → t ≡ true
-    not-not true e = refl
-    not-not false e = cc
 event-room p a b s (emptied e) = omega (arith, length-nonzero (foldr put (b .buffer) (p ∷ [])), length-puts (p ∷ []) (b .buffer), ap length e)
 
 -- and so does a removal of at most 64 counts

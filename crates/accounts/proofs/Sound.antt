@@ -1,6 +1,6 @@
 -- Lists that stand for a ledger and its account keep every rule of the state, and what a call uses of them is well formed: refusals 1 and 3 have no
 -- cause.
-use Rattle.lists.proofs.Prelude.{Bool, true, false, _||_, _&&_, not, cond, List, [], _∷_, map, List·Memᴰ, _⊎_, inl, inr, _≡_, refl, sym, ap, ap₂, _∙_, ℕ, zero, suc, _+_, _*_, _<_, _≤_, arith, eqb, leb, pos, natAbs, _+ℤ_, length, getD, length-map, eqb-false, le-leb, lt-leb, leb-true, not-true, keep, every, empty, totalBy, down, by-test, and-left, and-right, and-both, every-from, every-keep, every-mem, length-keep, every-map}
+use Rattle.lists.proofs.Prelude.{Bool, true, false, _||_, _&&_, not, cond, List, [], _∷_, map, List·Memᴰ, _⊎_, inl, inr, _≡_, refl, sym, ap, ap₂, _∙_, ℕ, zero, suc, _+_, _*_, _<_, _≤_, arith, eqb, leb, pos, natAbs, _+ℤ_, length, getD, length-map, eqb-false, le-leb, lt-leb, leb-true, not-true, keep, every, empty, totalBy, down, by-test, and-left, and-right, and-both, every-from, every-keep, every-mem, length-keep, every-map, every-member, empty-is}
 use Rattle.postings.specs.declared.Posting.{Posting}
 use Rattle.postings.specs.Order.{ordered}
 use Rattle.postings.specs.Merge.{isZero, isCounted, pairs}
@@ -25,7 +25,6 @@ use Rattle.engine.specs.Calls.{Call, Open, Event, Close, Remove, Flush, Step, Q
 use Rattle.accounts.specs.Account.{Portion, Account, postingsIn, storedIn, blocksOf, blocksIn, blocksAhead, dueOf, inputsOf}
 use Rattle.accounts.specs.Ledger.{Ledger, live, existing, byNumber}
 use Rattle.accounts.specs.Lists.{Lists, recordLike, listsRule, identifierRule, windowRule, inputsRule, callRule}
-use Rattle.accounts.proofs.Members.{members-every}
 use Rattle.accounts.proofs.Parts.{sums-in-range, window-in-range, identifier-in-range}
 use Rattle.accounts.proofs.Stored.{levelOf, sum-stored}
 use Rattle.accounts.proofs.Steps.{progress-due}
@@ -159,7 +158,7 @@ module _ (blocks entries : ℕ) (l : Ledger) (a : Account) (k : Kept blocks entr
   pub buffer-hold : bufferRule (windowsOf l) (bufferOf (a .buffer)) ≡ true
   buffer-hold =
       buffer-rule (windowsOf l) (a .buffer) (k .shaped .room) (k .shaped .order)
-      (members-every (postingRule (windowsOf l)) (a .buffer) (λ p m. posting-rule (windowsOf l) p (kept p m)))
+      (every-member (postingRule (windowsOf l)) (a .buffer) (λ p m. posting-rule (windowsOf l) p (kept p m)))
     where
       kept : (p : Posting) → List·Memᴰ p (a .buffer) → PostingKept (windowsOf l) p
       kept p m =
@@ -189,11 +188,7 @@ module _ (blocks entries : ℕ) (l : Ledger) (a : Account) (k : Kept blocks entr
   merge-holds =
       by-test (eqb (a .steps) 0) (λ y. rw y)
       (λ n. let d = eqb-false (a .steps) 0 n in
-      rw n (by-test (empty (dueOf a)) (λ e. absurd (progress-due a (k .shaped .progress) (omega arith) (none (dueOf a) e))) (λ e. rw e)))
-    where
-      none : (vs : List ℕ) → empty vs ≡ true → vs ≡ []
-      none [] e = refl
-      none (v ∷ vs) e = cc
+      rw n (by-test (empty (dueOf a)) (λ e. absurd (progress-due a (k .shaped .progress) (omega arith) (empty-is (dueOf a) e))) (λ e. rw e)))
 
   pub rules-hold : entries ≤ 1024 → listsRule blocks (listsOf l a) ≡ true
   unfolding listsRule

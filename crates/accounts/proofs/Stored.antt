@@ -1,5 +1,5 @@
 -- What flushes, merge steps, events and removals do to the sums of what is stored. Each law stands for every account, whatever it holds.
-use Rattle.lists.proofs.Prelude.{Bool, true, false, cond, List, [], _∷_, _++_, foldr, append-nil, _≡_, refl, sym, ap, ap₂, _∙_, ℕ, suc, _*_, eqb, leb, ℤ, pos, negℤ, _+ℤ_, +ℤ-idl, +ℤ-invl, length, take, drop, take-append-drop, eqb-true, eqb-false, every, empty, by-test}
+use Rattle.lists.proofs.Prelude.{Bool, true, false, cond, List, [], _∷_, _++_, foldr, append-nil, _≡_, refl, sym, ap, ap₂, _∙_, ℕ, suc, _*_, eqb, leb, ℤ, pos, negℤ, _+ℤ_, +ℤ-idl, +ℤ-invl, length, take, drop, take-append-drop, eqb-true, eqb-false, every, empty, by-test, empty-is}
 use Rattle.lists.proofs.Ints.{sum-swap}
 use Rattle.lists.proofs.Stores.{joined-append}
 use Rattle.postings.specs.declared.Posting.{Posting}
@@ -69,11 +69,7 @@ merged-sums a i w = sum-merge i w (inputsOf a)
 -- as a partition or none it is the same postings
 pub portion-postings : (a : Account) → postingsIn (portionOf a) ≡ merged a
 portion-postings a =
-    by-test (empty (merged a)) (λ y. rw y (sym (none (merged a) y))) (λ n. rw n (append-nil (merged a)))
-  where
-    none : (l : List Posting) → empty l ≡ true → l ≡ []
-    none [] e = refl
-    none (p ∷ l) e = cc
+    by-test (empty (merged a)) (λ y. rw y (sym (empty-is (merged a) y))) (λ n. rw n (append-nil (merged a)))
 
 -- partitions with the sums of the inputs in the inputs' place
 pub sum-replaced : (vs : List ℕ) (ps result : List Portion) (i w : ℕ) → sum (postingsIn result) i w ≡ sum (postingsIn (oldest levelOf vs ps)) i w

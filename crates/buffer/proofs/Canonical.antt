@@ -1,7 +1,8 @@
 -- The canonical form of a buffer: which buffers have it, and what the helper functions make of it.
-use Rattle.lists.proofs.Prelude.{true, List, _≡_, sym, ap, ap₂, _∙_, ℕ, _+_, _-_, _<_, _≤_, add-one, arith, leb, eqb, length, set, length-set, length-take-le, take-append-seam, leb-true, eqb-true, every, and-left, and-right, every-from}
+use Rattle.lists.proofs.Prelude.{true, List, _≡_, sym, ap, ap₂, _∙_, ℕ, _+_, _-_, _<_, _≤_, add-one, arith, leb, eqb, length, set, length-set, length-take-le, take-append-seam, leb-true, eqb-true, every, and-left, and-right, every-from, refl}
 use Rattle.lists.proofs.Shifts.{raised, lowered}
-use Rattle.lists.proofs.Places.{length-insert, length-without, filled-from, filled-insert, filled-without, filled-set}
+use Rattle.lists.proofs.Places.{length-insert, length-without, filled-insert, filled-without}
+use Rattle.lists.proofs.Padding.{padded-form, padded-set}
 use Rattle.postings.specs.declared.Posting.{Posting}
 use Rattle.postings.specs.Order.{ordered}
 use Rattle.postings.specs.Merge.{isCounted}
@@ -35,7 +36,7 @@ module _ (w : Windows) (b : Buffer) (r : bufferRule w b ≡ true) where
       let s = and-right (leb (b .used) 128) _ r in
       let t = and-right (every (postingRule w) (buffered b)) _ (and-right (ordered (buffered b)) _ s) in
       let u : b .used ≡ length (buffered b) = sym (length-take-le (b .used) (b .postings) (omega arith)) in
-      let x : b .postings ≡ padded 128 noPosting (buffered b) = filled-from unusedPosting noPosting unused 128 (b .used) (b .postings) e h t in
+      let x : b .postings ≡ padded 128 noPosting (buffered b) = padded-form noPosting unusedPosting unused 128 (b .used) (b .postings) e h t in
       record { short = h; inOrder = and-left _ _ s; clean = λ k. record { used = u k; postings = x k } }
     where
       unused : (q : Posting) → unusedPosting q ≡ true → q ≡ noPosting
@@ -72,7 +73,7 @@ module _ (l : List Posting) (k : ℕ) where
       rw e (ap₂ made n (filled-without 128 noPosting l k h f))
 
   changed : (b : Buffer) → b ≡ bufferOf l → (p : Posting) → k < length l → made (b .used) (set (b .postings) k p) ≡ bufferOf (set l k p)
-  changed b e p h = rw e (ap₂ made (sym (length-set l k p)) (filled-set 128 noPosting l k p h))
+  changed b e p h = rw e (ap₂ made (sym (length-set l k p)) (padded-set noPosting 128 l _ k p refl h))
 
 module _ (b : Buffer) (c : Canonical b) (k : ℕ) where
   -- a posting put in, the rest having moved up

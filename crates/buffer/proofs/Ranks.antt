@@ -1,5 +1,5 @@
 -- The rank of a posting in an ordered list: what stands before it, and where its pair stands.
-use Rattle.lists.proofs.Prelude.{true, false, true≢false, List, [], _∷_, _≡_, refl, sym, _∙_, ℕ, zero, suc, _<_, _≤_, arith, ltb, length, getD, take, drop, ltb-true, ltb-false, any, every, by-test, and-left, and-right, and-both, or-none, every-at, length-keep, keep-none}
+use Rattle.lists.proofs.Prelude.{true, false, true≢false, List, [], _∷_, _≡_, refl, sym, _∙_, ℕ, zero, suc, _<_, _≤_, arith, ltb, length, getD, take, drop, ltb-true, ltb-false, any, every, by-test, and-left, and-right, and-both, or-none, every-at, length-keep, keep-none, take-nil, drop-nil}
 use Rattle.lists.proofs.Places.{any-at}
 use Rattle.postings.specs.declared.Posting.{Posting}
 use Rattle.postings.specs.Order.{precedes, samePair, ordered}
@@ -77,11 +77,7 @@ module _ (p : Posting) where
 
   -- those below the rank stand before p
   rank-front : (l : List Posting) → ordered l ≡ true → every (λ q. precedes q p) (take (placesBefore p l) l) ≡ true
-  rank-front [] o = rw (none (placesBefore p []))
-    where
-      none : (k : ℕ) → every (λ q. precedes q p) (take k []) ≡ true
-      none zero = refl
-      none (suc k) = refl
+  rank-front [] o = rw (take-nil (placesBefore p []))
   rank-front (q ∷ l) o =
       by-test (precedes q p)
       (λ y. rw (rank-more q l y) (and-both (precedes q p) _ y (rank-front l (and-right (every (precedes q) l) _ o))))
@@ -89,11 +85,7 @@ module _ (p : Posting) where
 
   -- and p stands before those from the rank on, where its pair is new
   rank-rest : (l : List Posting) → ordered l ≡ true → any (samePair p) l ≡ false → every (precedes p) (drop (placesBefore p l) l) ≡ true
-  rank-rest [] o e = none (placesBefore p [])
-    where
-      none : (k : ℕ) → every (precedes p) (drop k []) ≡ true
-      none zero = refl
-      none (suc k) = refl
+  rank-rest [] o e = rw (drop-nil (placesBefore p []))
   rank-rest (q ∷ l) o e =
       let m = or-none (samePair p q) _ e in
       by-test (precedes q p)

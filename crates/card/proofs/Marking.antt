@@ -1,5 +1,5 @@
 -- Marks bit by bit: setting one bit of one word marks one block more.
-use Rattle.lists.proofs.Prelude.{Bool, false, _&&_, _||_, List, _++_, _≡_, refl, sym, ap, _∙_, ℕ, zero, suc, _+_, _-_, _*_, _/_, _%_, _^_, _<_, _≤_, arith, eqb, ltb, lit≤, length, getD, set, replicate, getD-set-same, getD-set-other, eqb-true, eqb-false, eq-eqb, ne-eqb, ltb-true, ltb-false, elem, different, by-test, apart-append, apart-none}
+use Rattle.lists.proofs.Prelude.{Bool, false, _&&_, _||_, List, _++_, _≡_, refl, sym, ap, _∙_, ℕ, zero, suc, _+_, _-_, _*_, _/_, _%_, _^_, _<_, _≤_, arith, eqb, ltb, lit≤, length, getD, set, replicate, getD-set-same, getD-set-other, eqb-true, eqb-false, eq-eqb, ne-eqb, ltb-true, ltb-false, elem, different, by-test, apart-append, apart-none, getD-same}
 use lib.Bits.{bitOr, or-shr, or-mod, or-zero-r, shifted-even}
 use lib.Pow.{pow-add, pow-lt, shl-shr, shl-exact, shr-lt, shr-le}
 use Rattle.card.specs.declared.Marks.{Marks}
@@ -57,16 +57,11 @@ bits-set l b k h =
     (λ y. let q : b / 64 ≡ k / 64 → ⊥ = eqb-false _ _ y in
     rw (getD-set-other l (b / 64) (k / 64) (bitOr (getD l (b / 64) 0) (2 ^ (b % 64))) 0 (λ e. q (sym e)), ne-eqb b k (λ e. q (ap (λ (x : ℕ). x / 64) e))))
 
-zero-at : (n i : ℕ) → _≡_ {A = ℕ} (getD (replicate n 0) i 0) 0
-zero-at zero i = refl
-zero-at (suc n) zero = refl
-zero-at (suc n) (suc i) = zero-at n i
-
 -- no bit is set in words of zero
 pub bits-none : (n k : ℕ) → bitOf (replicate n 0) k ≡ false
 bits-none n k =
     let z : 0 / 2 ^ (k % 64) ≡ 0 = omega (arith, shr-le 0 (k % 64)) in
-    rw (zero-at n (k / 64), z)
+    rw (getD-same {A = ℕ} n (k / 64) 0, z)
 
 -- a one shifted up in a word of 64 bits
 pub one-at : (s : ℕ) → s < 64 → 1 * 2 ^ s % 2 ^ 64 ≡ 2 ^ s

@@ -1,5 +1,5 @@
 -- Orders by letter and fields.
-use Rattle.lists.proofs.Prelude.{Bool, true, false, cond, List, [], _∷_, map, _≡_, refl, sym, _∙_, ap, ℕ, _≤_, _<_, arith, length, getD, drop, length-map, ne-eqb, never}
+use Rattle.lists.proofs.Prelude.{List, [], _∷_, map, _≡_, refl, sym, _∙_, ap, ℕ, _≤_, _<_, arith, length, getD, drop, length-map, ne-eqb, never, cond-same}
 use mathlib.Core.Option.{Option, none, some}
 use denote.Ref.{RefT, now}
 use Rattle.identifiers.proofs.Lent.{nothing, lent-at}
@@ -10,10 +10,6 @@ use Rattle.commands.specs.declared.Change.the-variants as change
 use Rattle.commands.specs.declared.Order.{Order}
 use Rattle.commands.specs.declared.Order.the-variants as order
 use Rattle.commands.specs.Commands.{alone, eventIn, removeBy, removeIn, queryBy, queryIn, byLetter, callIn, meant, reach, removeOrder, queryOrder, Names, Means}
-
-either-same : {A : Type 0} (t : Bool) (x : A) → cond t x x ≡ x
-either-same true x = refl
-either-same false x = refl
 
 -- the letters that are a command by themselves
 pub opens : (b : ℕ) → b ≡ 79 → Names b [] order.Open
@@ -43,17 +39,17 @@ unknown b fs e = record { call = λ f. sym e; held = omega arith }
 -- letters that are no command by themselves
 pub none-alone : (b : ℕ) → (b ≡ 79 → ⊥) → (b ≡ 67 → ⊥) → (b ≡ 70 → ⊥) → (b ≡ 77 → ⊥) → byLetter b [] ≡ none
 unfolding byLetter alone eventIn removeIn queryIn
-none-alone b o c f m = simp (ne-eqb b 79 o, ne-eqb b 67 c, ne-eqb b 70 f, ne-eqb b 77 m, either-same)
+none-alone b o c f m = simp (ne-eqb b 79 o, ne-eqb b 67 c, ne-eqb b 70 f, ne-eqb b 77 m, cond-same)
 
 -- letters that take no field
 pub none-double : (b : ℕ) (g : Name) → (b ≡ 69 → ⊥) → (b ≡ 82 → ⊥) → (b ≡ 81 → ⊥) → byLetter b (g ∷ []) ≡ none
 unfolding byLetter alone
-none-double b g e r q = simp (ne-eqb b 69 e, ne-eqb b 82 r, ne-eqb b 81 q, either-same)
+none-double b g e r q = simp (ne-eqb b 69 e, ne-eqb b 82 r, ne-eqb b 81 q, cond-same)
 
 -- letters that take no two fields
 pub none-more : (b : ℕ) (g h : Name) (fs : List Name) → (b ≡ 81 → ⊥) → byLetter b (g ∷ h ∷ fs) ≡ none
 unfolding byLetter alone eventIn removeIn
-none-more b g h fs q = simp (ne-eqb b 81 q, either-same)
+none-more b g h fs q = simp (ne-eqb b 81 q, cond-same)
 
 -- what the orders with a number mean
 pub remove-named : (n : Option ℕ) (fs : List Name) → meant (removeOrder n) fs ≡ removeBy n

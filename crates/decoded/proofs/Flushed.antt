@@ -1,5 +1,5 @@
 -- After a flush the state and the card hold what the account holds after it.
-use Rattle.lists.proofs.Prelude.{Bool, true, false, _||_, _&&_, not, cond, true≢false, or-false, List, [], _∷_, _++_, map, append-nil, append-assoc, _≡_, refl, sym, ap, ap₂, _∙_, subst, ℕ, _*_, _<_, _≤_, arith, eqb, ltb, length, eqb-true, eqb-false, eq-eqb, ne-eqb, lt-ltb, not-true, AllOf, every, empty, elem, different, same, by-test, and-left, and-right, and-both, or-none, or-right, every-append, any-append, elem-every, different-insert}
+use Rattle.lists.proofs.Prelude.{Bool, true, false, _||_, _&&_, not, cond, true≢false, or-false, List, [], _∷_, _++_, map, append-nil, append-assoc, _≡_, refl, sym, ap, ap₂, _∙_, subst, ℕ, _*_, _<_, _≤_, arith, eqb, ltb, length, eqb-true, eqb-false, eq-eqb, ne-eqb, lt-ltb, not-true, AllOf, every, empty, elem, different, same, by-test, and-left, and-right, and-both, or-none, or-right, every-append, any-append, elem-every, different-insert, map-append}
 use Rattle.lists.proofs.Stores.{joined-append}
 use Rattle.words.specs.Words.{allOnes}
 use Rattle.postings.specs.declared.Posting.{Posting}
@@ -27,7 +27,6 @@ use Rattle.accounts.specs.Account.{Portion, dueOf, inputsOf, flushedAccount}
 use Rattle.accounts.specs.Lists.{Lists, withAccount}
 use Rattle.accounts.proofs.Steps.{Progress, progress-due, inputs-flushed}
 use Rattle.decoded.specs.Portions.{portionOn, outputOf, occupied, cleanPast}
-use Rattle.decoded.proofs.Maps.{map-append}
 use Rattle.decoded.proofs.Holds.{Holds, taking-is, buffer-is}
 use Rattle.decoded.proofs.Past.{past-agree, past-written}
 use Rattle.decoded.proofs.Unused.{output-kept, chains-once}
@@ -131,11 +130,7 @@ module _ (s : State) (W : List ℕ) (e : Lists) (h : Holds s W e) (b : ℕ) (on 
 
   -- the block was no one's
   unoccupied : elem b (occupied W s) ≡ false
-  unoccupied = not-not (elem b (occupied W s)) (sym (h .free b on) ∙ freed)
-    where
-      not-not : (t : Bool) → not t ≡ true → t ≡ false
-      not-not true q = sym q
-      not-not false q = refl
+  unoccupied = not-true (elem b (occupied W s)) (sym (h .free b on) ∙ freed)
 
   apart-from : (l : List ℕ) → elem b l ≡ false → apart l (b ∷ []) ≡ true
   apart-from l z =

@@ -1,9 +1,8 @@
 -- A flush on bytes comes to what a flush on lists comes to, with whatever follows it.
-use Rattle.lists.proofs.Prelude.{Bool, true, false, true≢false, List, [], _∷_, _≡_, refl, sym, ap, _∙_, subst, ℕ, suc, _+_, _*_, _<_, _≤_, arith, ltb, leb, length, every, empty}
+use Rattle.lists.proofs.Prelude.{Bool, true, false, List, _≡_, refl, sym, ap, _∙_, subst, ℕ, suc, _+_, _*_, _<_, _≤_, arith, ltb, leb, length, every, empty, empty-not}
 use Rattle.lists.proofs.Padding.{length-padded}
 use Rattle.words.specs.Words.{words, bytes}
 use Rattle.words.proofs.Views.{words-bytes, length-bytes}
-use Rattle.postings.specs.declared.Posting.{Posting}
 use Rattle.answers.specs.Answers.{Answer, Outcome, refuse, leave, refuseIf, choose, carry}
 use Rattle.state.specs.declared.Buffer.{Buffer}
 use Rattle.state.specs.declared.Partition.{Partition}
@@ -118,22 +117,14 @@ module _ (s : State) (card : List ℕ) (e : Lists) (h : Holds s (words card) e) 
             (unfold flushedTo in refl)
             (length-bytes (flushedCard s W b) ∙ omega (arith, there .long, same-blocks, lengths-kept (s .lengths) (h .lengths) .card, whole))
           where
-            one : (l : List ℕ) → empty l ≡ false → 1 ≤ length l
-            one [] q = absurd (true≢false q)
-            one (x ∷ l) q = omega arith
-
             same-blocks : blocks (flushedTo s b) ≡ blocks s
             same-blocks = unfold flushedTo in refl
 
             here : (b < blocks s) × (isFree W b ≡ true)
-            here = free-at W (blocks s) (s .taken) 0 (one (freeBlocks W (blocks s) (s .taken)) left)
+            here = free-at W (blocks s) (s .taken) 0 (empty-not (freeBlocks W (blocks s) (s .taken)) left)
 
             used : 1 ≤ s .buffer .used
-            used = omega (arith, buffer-used, full (e .account .buffer) some)
-              where
-                full : (l : List Posting) → empty l ≡ false → 1 ≤ length l
-                full [] q = absurd (true≢false q)
-                full (p ∷ l) q = omega arith
+            used = omega (arith, buffer-used, empty-not (e .account .buffer) some)
 
             there : Holds (flushedTo s b) (flushedCard s W b) (withAccount e (flushedAccount (e .account)))
             there = holds-flushed s W e h b (here .0) (here .1) buffer-few (buffer-writable (s .windows) (s .buffer) buffer-ruled buffer-long used) (fine .progress)

@@ -1,5 +1,5 @@
 -- What a state and the words of its card hold: lists of postings, window numbers, and the steps of the merge in progress.
-use Rattle.lists.proofs.Prelude.{true, not, List, _++_, map, _≡_, sym, ap, ap₂, _∙_, ℕ, _*_, _<_, eqb, length, every, elem, joined}
+use Rattle.lists.proofs.Prelude.{true, not, List, _++_, map, _≡_, sym, ap, ap₂, _∙_, ℕ, _*_, _<_, eqb, length, every, elem, joined, map-map}
 use Rattle.words.specs.Words.{words}
 use Rattle.postings.specs.declared.Posting.{Posting}
 use Rattle.postings.specs.Merge.{pairs}
@@ -22,7 +22,7 @@ use Rattle.accounts.specs.Account.{Portion, Account, postingsIn, storedIn, dueO
 use Rattle.accounts.specs.Lists.{Lists}
 use Rattle.accounts.proofs.Stored.{levelOf}
 use Rattle.decoded.specs.Portions.{portionOn, occupied, cleanPast}
-use Rattle.decoded.proofs.Maps.{map-map, due-map, oldest-map}
+use Rattle.decoded.proofs.Maps.{due-map, oldest-map}
 
 pub record Holds (s : State) (W : List ℕ) (e : Lists) : Type 0 where
   -- the buffers' lengths

@@ -1,24 +1,6 @@
 -- Partitions of one kind seen as another that has the same levels: due levels, oldest and replaced are seen the same.
-use Rattle.lists.proofs.Prelude.{Bool, cond, List, [], _∷_, _++_, map, _≡_, refl, sym, ap, _∙_, fun-ext, ℕ, zero, suc, eqb, leb, take, drop, keep, by-test}
+use Rattle.lists.proofs.Prelude.{Bool, cond, List, [], _∷_, map, _≡_, refl, sym, ap, _∙_, fun-ext, ℕ, suc, eqb, leb, take, drop, keep, by-test, map-take, map-drop}
 use Rattle.state.specs.Levels.{dueAt, levels, ofLevel, dueLevels, oldestAt, oldest}
-
-pub map-append : {A B : Type 0} (f : A → B) (xs ys : List A) → map f (xs ++ ys) ≡ map f xs ++ map f ys
-map-append f [] ys = refl
-map-append f (x ∷ xs) ys = ap (λ l. f x ∷ l) (map-append f xs ys)
-
-pub map-take : {A B : Type 0} (f : A → B) (n : ℕ) (l : List A) → map f (take n l) ≡ take n (map f l)
-map-take f zero l = refl
-map-take f (suc n) [] = refl
-map-take f (suc n) (x ∷ l) = ap (λ r. f x ∷ r) (map-take f n l)
-
-pub map-drop : {A B : Type 0} (f : A → B) (n : ℕ) (l : List A) → map f (drop n l) ≡ drop n (map f l)
-map-drop f zero l = refl
-map-drop f (suc n) [] = refl
-map-drop f (suc n) (x ∷ l) = map-drop f n l
-
-pub map-map : {A B C : Type 0} (g : B → C) (f : A → B) (l : List A) → map g (map f l) ≡ map (λ x. g (f x)) l
-map-map g f [] = refl
-map-map g f (x ∷ l) = ap (λ r. g (f x) ∷ r) (map-map g f l)
 
 module _ {P Q : Type 0} (f : P → Q) (level : Q → ℕ) where
   pub count-map : (v : ℕ) (ps : List P) → ofLevel level v (map f ps) ≡ ofLevel (λ p. level (f p)) v ps

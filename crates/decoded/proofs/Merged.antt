@@ -1,5 +1,5 @@
 -- After the step that ends a merge, state and card hold what the account holds after it: the result in its inputs' place, and the inputs' blocks free.
-use Rattle.lists.proofs.Prelude.{Bool, true, false, _||_, _&&_, not, cond, false≢true, List, [], _∷_, _++_, map, append-nil, _≡_, refl, sym, ap, ap₂, _∙_, ℕ, _*_, _<_, _≤_, arith, eqb, length, getD, take, drop, eq-eqb, AllOf, every, empty, elem, different, by-test, and-left, and-both, every-append, every-take, every-drop}
+use Rattle.lists.proofs.Prelude.{Bool, true, false, _||_, _&&_, not, cond, false≢true, List, [], _∷_, _++_, map, append-nil, _≡_, refl, sym, ap, ap₂, _∙_, ℕ, _*_, _<_, _≤_, arith, eqb, length, getD, take, drop, eq-eqb, AllOf, every, empty, elem, different, by-test, and-left, and-both, every-append, every-take, every-drop, map-append, map-take, map-drop, elem-append, elem-left, elem-right, empty-none, elem-neither}
 use Rattle.lists.proofs.Stores.{joined-append}
 use Rattle.words.specs.Words.{allOnes}
 use Rattle.postings.specs.declared.Posting.{Posting}
@@ -25,8 +25,8 @@ use Rattle.accounts.specs.Account.{Portion, dueOf, merged, portionOf, completed
 use Rattle.accounts.specs.Lists.{Lists, withAccount}
 use Rattle.accounts.proofs.Stored.{levelOf, parted}
 use Rattle.decoded.specs.Portions.{portionOn, outputOf, occupied, cleanPast}
-use Rattle.decoded.proofs.Maps.{map-append, map-take, map-drop, place-map}
-use Rattle.decoded.proofs.Disjoint.{Apart, elem-append, elem-left, elem-right, elem-neither, apart-swap, apart-left, apart-right, apart-join, apart-test, different-parts, different-join}
+use Rattle.decoded.proofs.Maps.{place-map}
+use Rattle.decoded.proofs.Disjoint.{Apart, apart-swap, apart-left, apart-right, apart-join, apart-test, different-parts, different-join}
 use Rattle.decoded.proofs.Holds.{Holds, due-is, taking-is}
 use Rattle.decoded.proofs.Past.{past-agree, past-written}
 use Rattle.decoded.proofs.Unused.{chains-once, each-formed}
@@ -154,11 +154,7 @@ module _ (s : State) (W : List ℕ) (e : Lists) (h : Holds s W e) (bs : List ℕ
   record-none y = ap (λ u. cond u [] (record { first = getD bs 0 noBlock; level = level; length = lengthOf r } ∷ [])) y
 
   no-blocks : empty r ≡ true → bs ≡ []
-  no-blocks y = none bs (out .size ∙ ap (λ u. cond u 0 (blocksFor (lengthOf r))) y)
-    where
-      none : (l : List ℕ) → length l ≡ 0 → l ≡ []
-      none [] z = refl
-      none (b ∷ l) z = absurd (omega arith)
+  no-blocks y = empty-none bs (omega (arith, out .size ∙ ap (λ u. cond u 0 (blocksFor (lengthOf r))) y))
 
   module _ (z : empty r ≡ false) where
     sized : length bs ≡ blocksFor (lengthOf r)

@@ -1,5 +1,5 @@
 -- The blocks that a step writes its output to: those that the output has, or the next free ones.
-use Rattle.lists.proofs.Prelude.{Bool, true, false, _&&_, not, cond, true≢false, List, [], _∷_, _++_, _≡_, refl, sym, ap, _∙_, ℕ, _<_, _≤_, ltb, length, take, length-take-le, ltb-true, ltb-false, every, elem, different, by-test, and-left, and-right, and-both, every-take, every-elem, different-take}
+use Rattle.lists.proofs.Prelude.{Bool, true, false, _&&_, not, cond, true≢false, List, [], _∷_, _++_, _≡_, refl, sym, ap, _∙_, ℕ, _<_, _≤_, ltb, length, take, length-take-le, ltb-true, ltb-false, every, elem, different, by-test, and-left, and-right, and-both, every-take, every-elem, different-take, elem-right, not-true}
 use Rattle.state.specs.declared.Partition.{Partition}
 use Rattle.state.specs.declared.State.{State}
 use Rattle.state.specs.Views.{blocks, finished}
@@ -13,7 +13,7 @@ use Rattle.plans.specs.Merging.{taking, result, outputBlocks}
 use Rattle.plans.specs.Step.{inProgress, outputChain, outputOn, lastOf}
 use Rattle.accounts.specs.Lists.{Lists}
 use Rattle.decoded.specs.Portions.{outputOf, occupied}
-use Rattle.decoded.proofs.Disjoint.{Apart, elem-right, apart-swap, apart-left, apart-right, apart-test, different-parts}
+use Rattle.decoded.proofs.Disjoint.{Apart, apart-swap, apart-left, apart-right, apart-test, different-parts}
 use Rattle.decoded.proofs.Holds.{Holds}
 use Rattle.decoded.proofs.Unused.{going}
 
@@ -28,11 +28,7 @@ pub record Output (W : List ℕ) (s : State) (bs : List ℕ) : Type 0 where
 module _ (s : State) (W : List ℕ) (e : Lists) (h : Holds s W e) where
   -- what is on the card and free is of no partition
   free-unoccupied : (b : ℕ) → b < blocks s → isFree W b ≡ true → elem b (occupied W s) ≡ false
-  free-unoccupied b low f = not-not (elem b (occupied W s)) (sym (h .free b low) ∙ f)
-    where
-      not-not : (t : Bool) → not t ≡ true → t ≡ false
-      not-not true q = sym q
-      not-not false q = refl
+  free-unoccupied b low f = not-true (elem b (occupied W s)) (sym (h .free b low) ∙ f)
 
   going-output : inProgress s ≡ true → Output W s (outputChain W s (taking W s))
   going-output y =

@@ -1,5 +1,5 @@
 -- A state that holds lists keeps its rules where the lists keep theirs: refusals 1 and 2 have no cause.
-use Rattle.lists.proofs.Prelude.{Bool, true, false, _||_, _&&_, not, cond, List, [], _∷_, map, _≡_, refl, sym, ap, ap₂, _∙_, subst, ℕ, _≤_, eqb, leb, length, length-map, eqb-true, eq-eqb, every, empty, by-test, and-left, and-right, every-from, map-where, every-map}
+use Rattle.lists.proofs.Prelude.{Bool, true, false, _||_, _&&_, not, cond, List, [], _∷_, map, _≡_, refl, sym, ap, ap₂, _∙_, subst, ℕ, _≤_, eqb, leb, length, length-map, eqb-true, eq-eqb, every, empty, by-test, and-left, and-right, every-from, map-where, every-map, map-map}
 use Rattle.state.specs.declared.Partition.{Partition}
 use Rattle.state.specs.declared.State.{State}
 use Rattle.state.specs.Views.{noPartition, noMerge, blocks, finished, listedOf, bufferOf, partitionsOf}
@@ -15,7 +15,7 @@ use Rattle.plans.specs.Merging.{dueIn}
 use Rattle.accounts.specs.Account.{dueOf}
 use Rattle.accounts.specs.Lists.{Lists, recordLike, listsRule}
 use Rattle.decoded.specs.Portions.{portionOn}
-use Rattle.decoded.proofs.Maps.{map-map, count-map}
+use Rattle.decoded.proofs.Maps.{count-map}
 use Rattle.decoded.proofs.Holds.{Holds, due-is}
 
 -- a record without its first block, of which no rule says anything

@@ -1,6 +1,5 @@
 -- Every call on bytes is the call on lists, as long as the lists stand for ledger and account; so every list of calls is answered the same.
-use Rattle.lists.proofs.Prelude.{true, false, _&&_, not, true≢false, List, [], _∷_, _≡_, refl, sym, ap, ap₂, _∙_, subst, ℕ, _/_, _≤_, arith, leb, pos, length, le-leb, every, empty, and-both, every-from, every-keep}
-use Rattle.postings.specs.declared.Posting.{Posting}
+use Rattle.lists.proofs.Prelude.{true, false, _&&_, not, List, [], _∷_, _≡_, refl, sym, ap, ap₂, _∙_, subst, ℕ, _/_, _≤_, leb, pos, le-leb, every, empty, and-both, every-from, every-keep, empty-not}
 use Rattle.postings.specs.Order.{ordered}
 use Rattle.postings.specs.Merge.{isZero, isCounted, nonzero, pairs}
 use Rattle.postings.specs.Sums.{sum}
@@ -36,7 +35,7 @@ use Rattle.decoded.proofs.StepCall.{step-same}
 -- a result can be written
 result-writable : (n m : ℕ) (l : Ledger) (a : Account) → Kept n m l a → empty (merged a) ≡ false → Writable (merged a)
 result-writable n m l a k some = record {
-  some = full (merged a) some;
+  some = empty-not (merged a) some;
   formed = unfold listRule in and-both (ordered (merged a)) _ (merged-ordered a)
       (every-from isCounted (storedRule (top l)) (λ p. leb 1 (p .window) && not (isZero (p .count)))
       (λ p c r. and-both (leb 1 (p .window)) _ (le-leb _ _ (stored-kept (top l) p r .some)) c) (merged a) (merged-counts a) ranged);
@@ -44,10 +43,6 @@ result-writable n m l a k some = record {
   fitting = fit;
 }
   where
-    full : (m : List Posting) → empty m ≡ false → 1 ≤ length m
-    full [] e = absurd (true≢false e)
-    full (p ∷ m) e = omega arith
-
     ranged : every (storedRule (top l)) (merged a) ≡ true
     ranged = merged-ranged (top l) a (ranged-partitions (top l) a (k .ranged))
 

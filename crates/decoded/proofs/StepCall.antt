@@ -1,5 +1,5 @@
 -- The merge step on bytes is that on lists.
-use Rattle.lists.proofs.Prelude.{Bool, true, false, _||_, _&&_, not, cond, true≢false, List, [], _∷_, _≡_, refl, sym, ap, ap₂, _∙_, subst, ℕ, suc, _+_, _*_, _/_, _<_, arith, eqb, ltb, leb, length, getD, eqb-false, ltb-true, ltb-false, lt-ltb, le-ltb, every, empty, by-test, and-left, and-right, and-both, every-map}
+use Rattle.lists.proofs.Prelude.{Bool, true, false, _||_, _&&_, not, cond, true≢false, List, [], _∷_, _≡_, refl, sym, ap, ap₂, _∙_, subst, ℕ, suc, _+_, _*_, _/_, _<_, arith, eqb, ltb, leb, length, getD, eqb-false, ltb-true, ltb-false, lt-ltb, le-ltb, every, empty, by-test, and-left, and-right, and-both, every-map, Bool·not-not}
 use Rattle.words.specs.Words.{words, bytes}
 use Rattle.words.proofs.Views.{words-bytes, length-bytes}
 use Rattle.postings.specs.declared.Posting.{Posting}
@@ -83,11 +83,7 @@ module _ (s : State) (W : List ℕ) (e : Lists) (h : Holds s W e) (fine : Fine (
           idle y = unfold blocksAhead in ap (λ t. cond t 0 (blocksOf (merged a))) y
 
   thirteen-is : (not (inProgress s) && empty (dueIn s)) ≡ (eqb (a .steps) 0 && empty (dueOf a))
-  thirteen-is = ap₂ (λ t (us : List ℕ). not t && empty us) going-is (due-is s W a (h .portions)) ∙ twice (eqb (a .steps) 0) (empty (dueOf a))
-    where
-      twice : (t u : Bool) → (not (not t) && u) ≡ (t && u)
-      twice true u = refl
-      twice false u = refl
+  thirteen-is = ap₂ (λ t (us : List ℕ). not t && empty us) going-is (due-is s W a (h .portions)) ∙ ap (λ t. t && empty (dueOf a)) (Bool·not-not (eqb (a .steps) 0))
 
   -- ---- what is left
 

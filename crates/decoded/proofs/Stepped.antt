@@ -1,5 +1,5 @@
 -- After a step that does not end the merge, state and card hold what the account holds after it: the same partitions, and one step more.
-use Rattle.lists.proofs.Prelude.{Bool, true, false, _||_, _&&_, not, cond, true≢false, List, [], _∷_, _++_, map, _≡_, refl, sym, ap, ap₂, _∙_, ℕ, zero, suc, _+_, _*_, _<_, _≤_, arith, eqb, length, getD, take, replicate, length-append, length-map, length-replicate, eq-eqb, ne-eqb, not-true, AllOf, every, empty, elem, different, same, by-test, and-both, eq-same, every-elem}
+use Rattle.lists.proofs.Prelude.{Bool, true, false, _||_, _&&_, not, cond, true≢false, List, [], _∷_, _++_, map, _≡_, refl, sym, ap, ap₂, _∙_, ℕ, zero, suc, _+_, _*_, _<_, _≤_, arith, eqb, length, getD, take, replicate, length-append, length-map, length-replicate, eq-eqb, ne-eqb, not-true, AllOf, every, empty, elem, different, same, by-test, and-both, eq-same, every-elem, elem-left, elem-append}
 use Rattle.words.specs.Words.{allOnes}
 use Rattle.postings.specs.declared.Posting.{Posting}
 use Rattle.postings.specs.Merge.{isCounted, nonzero}
@@ -24,7 +24,7 @@ use Rattle.plans.specs.Step.{inProgress, outputChain, outputRule}
 use Rattle.accounts.specs.Account.{furthered}
 use Rattle.accounts.specs.Lists.{Lists, withAccount}
 use Rattle.decoded.specs.Portions.{portionOn, outputOf, occupied}
-use Rattle.decoded.proofs.Disjoint.{elem-left, elem-append, different-join}
+use Rattle.decoded.proofs.Disjoint.{different-join}
 use Rattle.decoded.proofs.Holds.{Holds, taking-is}
 use Rattle.decoded.proofs.Past.{past-agree}
 use Rattle.decoded.proofs.Unused.{chains-once}

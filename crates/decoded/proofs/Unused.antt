@@ -1,5 +1,5 @@
 -- How many blocks are free: all that neither a finished partition nor the output in progress has.
-use Rattle.lists.proofs.Prelude.{Bool, true, false, _&&_, not, cond, List, [], _∷_, _++_, map, _≡_, refl, sym, ap, ap₂, _∙_, ℕ, zero, suc, _+_, _*_, _<_, _≤_, arith, eqb, ltb, length, length-append, eqb-true, eqb-false, eq-eqb, ne-eqb, ltb-true, lt-ltb, le-ltb, not-true, keep, every, empty, elem, different, totalBy, joined, same, rising, upTo, by-test, and-left, and-right, and-both, every-append, keep-all, length-rising, every-rising, length-all, same-true}
+use Rattle.lists.proofs.Prelude.{Bool, true, false, _&&_, not, cond, List, [], _∷_, _++_, map, _≡_, refl, sym, ap, ap₂, _∙_, ℕ, suc, _+_, _*_, arith, eqb, ltb, length, length-append, eqb-true, lt-ltb, le-ltb, not-true, keep, every, empty, elem, different, totalBy, joined, same, upTo, by-test, and-left, and-right, and-both, every-append, length-all, same-true, keep-rising, keep-without, not-false}
 use Rattle.words.specs.Words.{allOnes}
 use Rattle.state.specs.declared.Partition.{Partition}
 use Rattle.state.specs.declared.State.{State}
@@ -20,37 +20,6 @@ use Rattle.accounts.specs.Lists.{Lists}
 use Rattle.accounts.proofs.Shaped.{portionRule}
 use Rattle.decoded.specs.Portions.{portionOn, outputOf, occupied}
 use Rattle.decoded.proofs.Holds.{Holds, taking-is}
-
--- ---- numbers that are not in a list
-
-keep-rising : (t u : ℕ → Bool) (n k : ℕ) → ((b : ℕ) → n ≤ b → b < n + k → t b ≡ u b) → keep t (rising n k) ≡ keep u (rising n k)
-unfolding rising
-keep-rising t u n zero h = refl
-keep-rising t u n (suc k) h = rw (h n (omega arith) (omega arith), keep-rising t u (suc n) k (λ b x y. h b (omega arith) (omega arith)))
-
--- one number less
-keep-less : (t u : ℕ → Bool) (x n k : ℕ) → n ≤ x → x < n + k → t x ≡ true → u x ≡ false → ((b : ℕ) → (x ≡ b → ⊥) → t b ≡ u b)
-    → length (keep t (rising n k)) ≡ suc (length (keep u (rising n k)))
-unfolding rising
-keep-less t u x n zero a b y z same = absurd (omega arith)
-keep-less t u x n (suc k) a b y z same =
-    by-test (eqb n x)
-    (λ e. let q = eqb-true n x e in
-    rw (q, y, z) (ap (λ l. suc (length l)) (ap (λ m. keep t (rising (suc m) k)) (sym q) ∙ keep-rising t u (suc n) k (λ c x y. same c (λ r. omega arith)) ∙ ap (λ m. keep u (rising (suc m) k)) q)))
-    (λ d. let apart = eqb-false n x d in
-    let f = keep-less t u x (suc n) k (omega arith) (omega arith) y z same in
-    rw (same n (λ r. omega arith)) (by-test (u n) (λ g. rw g (ap suc f)) (λ g. rw g f)))
-
-pub keep-without : (n : ℕ) (l : List ℕ) → different l ≡ true → every (λ b. ltb b n) l ≡ true → length (keep (λ b. not (elem b l)) (upTo n)) + length l ≡ n
-keep-without n [] d e = ap (λ m. m + 0) (ap length (keep-all (λ (b : ℕ). true) (upTo n) (every-rising (λ b. true) 0 n (λ j x y. refl))) ∙ length-rising 0 n) ∙ omega arith
-keep-without n (x ∷ l) d e =
-    let low : x < n = ltb-true x n (and-left (ltb x n) _ e) in
-    let new : elem x l ≡ false = not-true _ (and-left (not (elem x l)) _ d) in
-    omega (
-      arith,
-      keep-without n l (and-right (not (elem x l)) _ d) (and-right (ltb x n) _ e),
-      keep-less (λ b. not (elem b l)) (λ b. not (elem b (x ∷ l))) x 0 n (omega arith) (omega arith) (rw new) (rw (eq-eqb x x refl)) (λ b r. rw (ne-eqb x b r)),
-    )
 
 -- ---- the blocks of finished partitions
 
@@ -188,17 +157,9 @@ module _ (s : State) (W : List ℕ) (e : Lists) (h : Holds s W e) where
     output-length =
         by-test (inProgress s)
         (λ y. ap length (output-going y) ∙ length-chain W (s .merge .first) (outputBlocks (result (taking W s))) ∙ result-is
-        ∙ sym (ahead-is (not-not (eqb (e .account .steps) 0) (sym progress-is ∙ y))))
-        (λ n. ap length (output-idle n) ∙ sym (none-ahead (not-idle (eqb (e .account .steps) 0) (sym progress-is ∙ n))))
+        ∙ sym (ahead-is (not-true (eqb (e .account .steps) 0) (sym progress-is ∙ y))))
+        (λ n. ap length (output-idle n) ∙ sym (none-ahead (not-false (eqb (e .account .steps) 0) (sym progress-is ∙ n))))
       where
-        not-not : (t : Bool) → not t ≡ true → t ≡ false
-        not-not true e = sym e
-        not-not false e = refl
-
-        not-idle : (t : Bool) → not t ≡ false → t ≡ true
-        not-idle true e = refl
-        not-idle false e = sym e
-
         ahead-is : eqb (e .account .steps) 0 ≡ false → blocksAhead (e .account) ≡ blocksOf (merged (e .account))
         ahead-is n = unfold blocksAhead in ap (λ t. cond t 0 (blocksOf (merged (e .account)))) n
 

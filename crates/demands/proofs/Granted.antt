@@ -1,5 +1,6 @@
 -- What a call that is not refused has found and left.
 use Rattle.lists.proofs.Prelude.{Bool, true, false, _&&_, not, cond, List, [], _∷_, _++_, _≡_, refl, sym, ap, _∙_, subst, ℕ, _+_, _*_, _≤_, arith, leb, length, eqb-true, leb-false, not-true, not-false, any, down, by-test, and-right, and-both}
+use Rattle.lists.proofs.TopK.{different-down}
 use Rattle.words.specs.Words.{words}
 use Rattle.answers.specs.Answers.{Answer, done, number, hits, refused, Outcome, leave, refuseIf, choose, answerOf, stateOf}
 use Rattle.answers.specs.declared.Hit.{Hit}
@@ -16,7 +17,7 @@ use Rattle.queries.specs.Query.{countIn, numbers, takenUp, queryFormed, hitsOf,
 use Rattle.accounts.specs.Ledger.{including}
 use Rattle.accounts.proofs.Numbers.{new-is}
 use Rattle.demands.specs.Words.{Fit, Listing}
-use Rattle.demands.proofs.Listing.{listed-scores, listed-falls, left-out-only-when-full, all-once}
+use Rattle.demands.proofs.Listing.{listed-scores, listed-falls, left-out-only-when-full}
 
 -- where a is answered, what is left is as G says
 pub record Where {S : Type 0} (s : S) (a : Answer) (G : S → Type 0) (o : Outcome S) : Type 0 where
@@ -137,8 +138,8 @@ query-answered p ns places found taken e = query-where p ns places found taken .
 pub ranked-listing : {I : Type 0} (N : ℕ) (count : I → ℕ → ℕ) (last k : ℕ) (is : List I) → Listing N count (down last) k is (ranked N count (down last) k is)
 ranked-listing N count last k is = record {
   exact = listed-scores N count (down last) k is;
-  falling = listed-falls N count (down last) k is (all-once last);
-  full = left-out-only-when-full N count (down last) k is (all-once last);
+  falling = listed-falls N count (down last) k is (different-down last);
+  full = left-out-only-when-full N count (down last) k is (different-down last);
 }
 
 -- so are those of an answer

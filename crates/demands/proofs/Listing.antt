@@ -1,17 +1,11 @@
 -- What the hits of a query are, read off their definition: exact scores, in falling order, and cut only where the list is full.
-use Rattle.lists.proofs.Prelude.{Bool, true, false, _||_, _&&_, not, cond, true≢false, List, [], _∷_, foldr, map, _≡_, refl, sym, ap, ap₂, _∙_, ℕ, zero, suc, eqb, length, take, eqb-true, eqb-false, eq-eqb, not-true, any, every, elem, different, down, by-test, and-left, and-right, and-both, or-none, or-swap, every-from, every-take, elem-every, different-keep}
-use Rattle.lists.proofs.TopK.{falling-different, down-falling}
+use Rattle.lists.proofs.Prelude.{Bool, true, false, _||_, _&&_, not, cond, true≢false, List, [], _∷_, foldr, map, _≡_, refl, sym, ap, ap₂, _∙_, ℕ, zero, suc, eqb, length, take, eqb-true, eqb-false, eq-eqb, not-true, any, every, elem, different, by-test, and-left, and-right, and-both, or-none, or-swap, every-from, every-take, elem-every, different-keep, and-past, any-map}
 use Rattle.answers.specs.declared.Hit.{Hit}
 use Rattle.ranking.specs.Hits.{outranks, place, score, matching, ranked}
 use Rattle.ranking.proofs.Ranking.{ranks}
 use Rattle.demands.specs.Words.{falls}
 
 -- ---- placing keeps what is there
-
-and-past : (a b c : Bool) → (a && (b && c)) ≡ (b && (a && c))
-and-past true b c = refl
-and-past false true c = refl
-and-past false false c = refl
 
 every-place : (t : Hit → Bool) (g : Hit) (l : List Hit) → every t (place g l) ≡ (t g && every t l)
 every-place t g [] = refl
@@ -122,10 +116,6 @@ module _ {I : Type 0} (n : ℕ) (count : I → ℕ → ℕ) (windows : List ℕ)
   windows-of [] = refl
   windows-of (w ∷ l) = ap {B = List ℕ} (λ r. w ∷ r) (windows-of l)
 
-  any-window : (w : ℕ) (l : List ℕ) → any (λ (h : Hit). eqb (h .window) w) (map hitOf l) ≡ elem w l
-  any-window w [] = refl
-  any-window w (v ∷ l) = ap (λ u. eqb v w || u) (any-window w l)
-
   module _ (once : different windows ≡ true) where
     falls-all : falls (foldr place [] (map hitOf found)) ≡ true
     falls-all = falls-placed (map hitOf found) (ap different (windows-of found) ∙ (unfold matching in different-keep _ windows once))
@@ -141,14 +131,10 @@ module _ {I : Type 0} (n : ℕ) (count : I → ℕ → ℕ) (windows : List ℕ)
     unfolding ranked
     left-out-only-when-full w m out =
         cut-away exact (λ h. eqb (h .window) w) (hitOf w) told k (foldr place [] (map hitOf found)) exact-placed
-        (any-placed (λ h. eqb (h .window) w) (map hitOf found) ∙ any-window w found ∙ m) falls-all out
+        (any-placed (λ h. eqb (h .window) w) (map hitOf found) ∙ any-map (λ h. eqb (h .window) w) hitOf found ∙ m) falls-all out
       where
         told : (h : Hit) → exact h ≡ true → eqb (h .window) w ≡ true → h ≡ hitOf w
         told h a b =
             let e : h .window ≡ w = eqb-true _ _ b in
             ap₂ (λ (v p : ℕ). record { window = v; score = p }) e
             (eqb-true _ _ (and-right (elem (h .window) found) _ a) ∙ ap (score n count windows is) e)
-
--- no number is twice among those from n down
-pub all-once : (n : ℕ) → different (down n) ≡ true
-all-once n = falling-different (down n) (down-falling n)

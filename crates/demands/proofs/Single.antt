@@ -1,5 +1,5 @@
 -- Two results that keep one promise are equal: the answer in the code's own form, the state, and every buffer.
-use Rattle.lists.proofs.Prelude.{List, [], _∷_, _≡_, refl, sym, ap, ap₂, _∙_, ℕ, _≤_, arith, length, getD, take, length-append, length-take}
+use Rattle.lists.proofs.Prelude.{List, [], _∷_, _≡_, refl, sym, ap, ap₂, _∙_, ℕ, _≤_, arith, length, getD, length-append, length-take-le}
 use Rattle.answers.specs.Answers.{Answer, done, number, hits, refused, Outcome}
 use Rattle.answers.specs.Numbers.{refusalNumber, replied, openedAs, foundAs}
 use Rattle.answers.specs.declared.Refusal.{Refusal}
@@ -73,10 +73,7 @@ foundOf (hits l n) = found.Hits (length l) n
 foundOf (refused n) = found.Refused (refusalOf n)
 
 found-back : (r : Found) (l : List Hit) → hitCount r ≤ length l → foundOf (foundAs r l) ≡ r
-found-back (found.Hits n taken) l h = ap (λ m. found.Hits m taken) (length-of n l h)
-  where
-    length-of : (n : ℕ) (l : List Hit) → n ≤ length l → length (take n l) ≡ n
-    length-of n l h = simp length-take (omega arith)
+found-back (found.Hits n taken) l h = ap (λ m. found.Hits m taken) (length-take-le n l h)
 found-back (found.Refused w) l h = ap found.Refused (refusal-back w)
 
 -- ---- promises

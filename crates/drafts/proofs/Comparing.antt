@@ -1,5 +1,5 @@
 -- The output in progress compared in three parts: the space of header and entries, the postings, and the rest.
-use Rattle.lists.proofs.Prelude.{Bool, true, false, _&&_, List, [], _∷_, _++_, append-assoc, _≡_, refl, sym, ap, ap₂, _∙_, ℕ, zero, suc, _+_, _-_, _*_, _≤_, arith, eqb, length, take, drop, replicate, length-append, length-take, length-drop, length-replicate, length-map, take-append-drop, take-all, length-take-le, every, same, eqb-swap, same-swap, keep-append}
+use Rattle.lists.proofs.Prelude.{Bool, _&&_, List, [], _∷_, _++_, append-assoc, _≡_, refl, sym, ap, ap₂, _∙_, ℕ, zero, suc, _+_, _-_, _*_, _≤_, arith, eqb, length, take, drop, replicate, length-append, length-take, length-drop, length-replicate, length-map, take-append-drop, take-all, length-take-le, every, same, eqb-swap, same-swap, keep-append, and-assoc, same-append}
 use Rattle.words.specs.Words.{allOnes}
 use Rattle.postings.specs.declared.Posting.{Posting}
 use Rattle.postings.specs.Merge.{nonzero, isCounted}
@@ -13,16 +13,6 @@ use Rattle.inputs.specs.Ahead.{outWords, Matched}
 use Rattle.drafts.specs.Drafted.{holdsDraft}
 
 -- Lists ------------------------------------------------------------------------------------------------------------------
-
-and-regroup : (a b c : Bool) → ((a && b) && c) ≡ (a && (b && c))
-and-regroup true b c = refl
-and-regroup false b c = refl
-
-same-append : (a b c d : List ℕ) → length a ≡ length c → same (a ++ b) (c ++ d) ≡ (same a c && same b d)
-same-append [] b [] d e = refl
-same-append [] b (y ∷ c) d e = absurd (omega arith)
-same-append (x ∷ a) b [] d e = absurd (omega arith)
-same-append (x ∷ a) b (y ∷ c) d e = ap (λ (t : Bool). eqb x y && t) (same-append a b c d (omega arith)) ∙ sym (and-regroup (eqb x y) (same a c) (same b d))
 
 same-replicate : (v n : ℕ) (l : List ℕ) → length l ≡ n → same l (replicate n v) ≡ every (eqb v) l
 same-replicate v zero [] e = refl
@@ -49,7 +39,7 @@ same-parts v m front ws c len room =
     ∙ ap (same (x ++ (p ++ q))) (append-assoc (replicate front v) ws (replicate k v))
     ∙ same-append x (p ++ q) (replicate front v) (ws ++ replicate k v) (lx ∙ sym lr)
     ∙ ap₂ _&&_ (same-replicate v front x lx) (same-append p q ws (replicate k v) lp ∙ ap₂ _&&_ (same-swap p ws) (same-replicate v k q lq))
-    ∙ sym (and-regroup (every (eqb v) x) (same ws p) (every (eqb v) q))
+    ∙ sym (and-assoc (every (eqb v) x) (same ws p) (every (eqb v) q))
 
 -- The output -------------------------------------------------------------------------------------------------------------
 

@@ -1,6 +1,6 @@
 -- Document 01's rule of a card's bytes, for every call on a probe whose card is bytes, refused or not: the card keeps its length, and a byte that
 -- changes was 255 before, or becomes 255 as all of its block does.
-use Rattle.lists.proofs.Prelude.{Bool, true, false, true≢false, List, [], _∷_, inl, inr, _≡_, refl, _∙_, ℕ, suc, _*_, _<_, arith, length, replicate, length-replicate, getD-replicate, eqb-true, not-false, empty, and-left, and-both}
+use Rattle.lists.proofs.Prelude.{Bool, true, false, List, [], _∷_, inl, inr, _≡_, refl, _∙_, ℕ, suc, _*_, arith, length, replicate, length-replicate, getD-replicate, eqb-true, not-false, empty, and-left, and-both, empty-not}
 use Rattle.words.specs.Words.{words, bytes, Below}
 use Rattle.words.proofs.Views.{length-words, length-bytes}
 use Rattle.answers.specs.declared.Hit.{Hit}
@@ -73,17 +73,13 @@ module _ (s : State) (card : List ℕ) (small : Below 256 card) (long : length c
   to-free : (c : List ℕ) → empty (freeBlocks (words card) (blocks s) (s .taken)) ≡ false → Moved card (bytes (store (words card) (nextFree s (words card) ∷ []) c))
   to-free c e =
       by-words card (blocks s) small long (store W (b ∷ []) c) (length-store W (b ∷ []) c)
-      (fills-moves W (store W (b ∷ []) c) (store-fills W (b ∷ []) c (and-both (isFree W b) true (free-at W (blocks s) (s .taken) 0 (some (freeBlocks W (blocks s) (s .taken)) e) .1) refl)))
+      (fills-moves W (store W (b ∷ []) c) (store-fills W (b ∷ []) c (and-both (isFree W b) true (free-at W (blocks s) (s .taken) 0 (empty-not (freeBlocks W (blocks s) (s .taken)) e) .1) refl)))
     where
       W : List ℕ
       W = words card
 
       b : ℕ
       b = nextFree s W
-
-      some : (l : List ℕ) → empty l ≡ false → 0 < length l
-      some [] f = absurd (true≢false f)
-      some (x ∷ l) f = omega arith
 
   flushed-moved : empty (freeBlocks (words card) (blocks s) (s .taken)) ≡ false → Moved card (bytes (flushedCard s (words card) (nextFree s (words card))))
   unfolding flushedCard

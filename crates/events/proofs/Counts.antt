@@ -1,5 +1,5 @@
 -- What counting an event asks for, from its admission and its flush's target.
-use Rattle.lists.proofs.Prelude.{Bool, true, false, _&&_, not, List, [], _≡_, refl, sym, ap, subst, _∙_, ℕ, zero, suc, _/_, _<_, _≤_, arith, eqb, leb, length, length-take, leb-true, leb-false, eqb-true, eqb-false, le-leb, lt-leb, not-false, any, elem, empty, by-test}
+use Rattle.lists.proofs.Prelude.{Bool, true, false, _&&_, not, List, [], _≡_, refl, sym, ap, subst, _∙_, ℕ, zero, suc, _/_, _<_, _≤_, arith, eqb, leb, length, length-take, leb-true, leb-false, eqb-true, eqb-false, le-leb, lt-leb, not-false, any, elem, empty, by-test, empty-length}
 use Rattle.postings.specs.Order.{samePair}
 use Rattle.state.specs.declared.State.{State}
 use Rattle.state.specs.Views.{registerSize, listed, buffered}
@@ -15,7 +15,7 @@ use Rattle.flushes.specs.Flush.{flushedTo}
 use Rattle.events.specs.Event.{isNew, once, eventFlushes}
 use Rattle.flushes.specs.Targets.{Aimed}
 use Rattle.events.specs.Verdicts.{Admitted, Countable, Placed}
-use Rattle.flushes.proofs.Targets.{empty-length, not-wanted-only}
+use Rattle.flushes.proofs.Targets.{not-wanted-only}
 use Rattle.admission.proofs.Laws.{register-size}
 use Rattle.events.proofs.Verdicts.{events-left}
 

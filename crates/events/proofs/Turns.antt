@@ -1,5 +1,5 @@
 -- What an event comes to, by what is judged first and by its turn.
-use Rattle.lists.proofs.Prelude.{Bool, true, false, not, List, [], _∷_, _≡_, refl, ap, _∙_, arith, eqb, leb, not-false}
+use Rattle.lists.proofs.Prelude.{Bool, true, false, not, List, [], _∷_, _≡_, refl, ap, _∙_, arith, eqb, leb, not-false, Bool·not-not}
 use Rattle.answers.specs.declared.Refusal.{Refusal}
 use Rattle.answers.specs.Answers.{Outcome, leave, done}
 use Rattle.answers.specs.Numbers.{refusalNumber}
@@ -26,10 +26,6 @@ five false false true d e h = absurd (omega arith)
 five false true c d e h = absurd (omega arith)
 five true b c d e h = absurd (omega arith)
 
-not-not : (t : Bool) → not (not t) ≡ t
-not-not true = refl
-not-not false = refl
-
 module _ (p : Probe) (n : Name) where
   -- refusals 1 to 3, and refusals 4 to 9, as the event's definition has them
   abbrev earlier : List Bool
@@ -53,7 +49,7 @@ module _ (p : Probe) (n : Name) where
     same-tests : turnTests (p .state .windows) (p .state .listed) (p .register) n ≡ later
     same-tests =
         let k = probe-sound (stateRule (p .state)) (p .state .lengths) (p .card) (p .register) told in
-        rw (placed (p .state) (p .register) n (k .formed) (register-size (p .state .lengths) (p .card) (p .register) (k .lengths)), not-not (eqb (p .state .windows .current) 0))
+        rw (placed (p .state) (p .register) n (k .formed) (register-size (p .state .lengths) (p .card) (p .register) (k .lengths)), Bool·not-not (eqb (p .state .windows .current) 0))
 
     -- judged by its turn
     pub event-judged : (v : Verdict) → Turned (p .state .windows) (p .state .listed) (p .register) n v → Judged p n v

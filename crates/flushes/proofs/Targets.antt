@@ -1,5 +1,5 @@
 -- What a flush that stands alone comes to, and that it tells what follows a flush whatever that is.
-use Rattle.lists.proofs.Prelude.{Bool, true, false, not, _||_, List, [], _∷_, _≡_, refl, sym, ap, _∙_, ℕ, suc, _*_, _<_, _≤_, arith, eqb, length, getD, ne-eqb, le-leb, lt-leb, lt-ltb, le-ltb, not-false, empty, by-test, or-none}
+use Rattle.lists.proofs.Prelude.{Bool, true, false, not, _||_, List, [], _∷_, _≡_, refl, sym, ap, _∙_, ℕ, suc, _*_, _<_, _≤_, arith, length, getD, le-leb, lt-leb, lt-ltb, le-ltb, not-false, empty, by-test, or-none, empty-not}
 use Rattle.words.specs.Words.{words, bytes}
 use Rattle.answers.specs.declared.Refusal.{Refusal}
 use Rattle.answers.specs.declared.Refusal.the-variants.{LevelFull, HalfFull, TooFewFree}
@@ -16,15 +16,6 @@ use Rattle.card.specs.Blocks.{freeBlocks}
 use Rattle.flushes.specs.declared.Target.{Target}
 use Rattle.flushes.specs.Flush.{finishedBlocks, flushing, flushingIf, flushedTo, flushedCard}
 use Rattle.flushes.specs.Targets.{written, Aimed}
-
--- an empty list, by its length
-pub empty-length : {A : Type 0} (l : List A) → eqb (length l) 0 ≡ empty l
-empty-length [] = refl
-empty-length (x ∷ l) = ne-eqb (suc (length l)) 0 (λ e. omega arith)
-
-length-some : {A : Type 0} (l : List A) → empty l ≡ false → 1 ≤ length l
-length-some [] e = let z : _≡_ {A = ℕ} 0 1 = cc in absurd (omega arith)
-length-some (x ∷ l) e = omega arith
 
 -- ---- from what is judged to the target
 
@@ -61,8 +52,8 @@ module _ (s : State) (card : List ℕ) (wanted : Bool) where
         pub first-free : empty free ≡ false → (b : ℕ) → b ≡ getD free 0 0 → Aimed wanted s card (Target.Block b)
         unfolding flushingIf flushing choose refuseIf
         first-free n b f =
-            let there : 1 ≤ length free = length-some free n in
-            let some : 1 ≤ length (buffered (s .buffer)) = length-some (buffered (s .buffer)) e in
+            let there : 1 ≤ length free = empty-not free n in
+            let some : 1 ≤ length (buffered (s .buffer)) = empty-not (buffered (s .buffer)) e in
             (rw (w, e, lt-leb _ _ room, le-ltb _ _ half, n, f), record { some = some; room = room; half = half; there = there; block = f })
 
 -- a block found is the first of the free ones

@@ -1,9 +1,9 @@
 -- The list that leads: what is taken under a key that no other list has.
-use Rattle.lists.proofs.Prelude.{true, and-true, List, [], _∷_, _++_, map, ⊎-elim, _≡_, refl, sym, ap, ap₂, _∙_, ℕ, zero, suc, _+_, _*_, _<_, _≤_, eq-or-lt-of-le, arith, ltb, pos, _+ℤ_, +ℤ-idl, +ℤ-idr, length, getD, set, length-append, set-append-left, set-append-seam, getD-at, ltb-true, ltb-false, le-ltb, AllOf, by-test}
+use Rattle.lists.proofs.Prelude.{true, and-true, List, [], _∷_, _++_, map, ⊎-elim, _≡_, refl, sym, ap, ap₂, _∙_, ℕ, zero, suc, _+_, _*_, _<_, _≤_, eq-or-lt-of-le, arith, ltb, pos, _+ℤ_, +ℤ-idl, +ℤ-idr, length, getD, set, length-append, set-append-left, set-append-seam, getD-at, ltb-true, ltb-false, le-ltb, AllOf, by-test, map-append, set-set, List·getD-append}
 use Rattle.keyed.specs.Keys.{Item, reach, larger, topFrom, rest, headVal, headFine, headVals, headsFine}
 use Rattle.keyed.proofs.Walk.{Under, none, more, under-top, larger-left, larger-right}
 use Rattle.kway.specs.Parts.{part, parts}
-use Rattle.kway.proofs.Parts.{putIn, put-here, put-before, put-later, map-more}
+use Rattle.kway.proofs.Parts.{putIn, put-here, put-before, put-later}
 use Rattle.kway.proofs.Turns.{missed, top-more}
 use Rattle.heads.specs.Leads.{Leads}
 
@@ -68,11 +68,6 @@ top-set : (t : ℕ) (ls : List (List Item)) (c : ℕ) (y : List Item) → c < le
 top-set t [] c y h = absurd (omega arith)
 top-set t (l ∷ ls) zero y h = top-larger t (reach y) ls ∙ ap (λ (x : ℕ). larger (topFrom x ls) (reach y)) (sym (larger-none t))
 top-set t (l ∷ ls) (suc c) y h = top-set (larger t (reach l)) ls c y (omega arith)
-
-set-again : (ls : List (List Item)) (c : ℕ) (y z : List Item) → set (set ls c y) c z ≡ set ls c z
-set-again [] c y z = refl
-set-again (l ∷ ls) zero y z = refl
-set-again (l ∷ ls) (suc c) y z = ap (λ x. l ∷ x) (set-again ls c y z)
 
 -- ---- the turns of the search for the list that leads
 
@@ -158,18 +153,13 @@ module _ (w : ℕ) (H h : List ℕ) (c : ℕ) (inside : w * c + w ≤ length H) 
 pub view-at : {X : Type 0} (view : List ℕ → X) (w n : ℕ) (H : List ℕ) (c : ℕ) (d : X) → c < n → getD (map view (parts w n H)) c d ≡ view (part w c H)
 unfolding parts
 view-at view w zero H c d q = absurd (omega arith)
-view-at {X = X} view w (suc n) H c d q =
+view-at view w (suc n) H c d q =
     let l = length-views view w n H in
-    ap (λ z. getD z c d) (map-more view (parts w n H) (part w n H))
+    ap (λ z. getD z c d) (map-append view (parts w n H) (part w n H ∷ []))
     ∙ ⊎-elim
     (λ e. rw e (getD-at (map view (parts w n H)) (view (part w n H)) [] d n l))
-    (λ h. early (map view (parts w n H)) c (omega arith) ∙ view-at view w n H c d h)
+    (λ h. List·getD-append (map view (parts w n H)) (view (part w n H) ∷ []) d c (omega arith) ∙ view-at view w n H c d h)
     (eq-or-lt-of-le {n = c} {m = n} (omega arith))
-  where
-    early : (xs : List X) (i : ℕ) → i < length xs → getD (xs ++ (view (part w n H) ∷ [])) i d ≡ getD xs i d
-    early [] i h = absurd (omega arith)
-    early (x ∷ xs) zero h = refl
-    early (x ∷ xs) (suc i) h = early xs i (omega arith)
 
 -- ---- what is taken of the list that leads
 
@@ -203,4 +193,4 @@ module _ (view : List ℕ → List Item) (K : List ℕ → Type 0) (n : ℕ) (H 
   led-top = rw (put-views 4 H h c room four view n inside, top-set 0 ls c (view h) (omega (arith, length-views view 4 n H)), ← leads)
 
   pub led-leads : Leads (map view (parts 4 n (putIn 4 H h c))) c o
-  led-leads = rw (put-views 4 H h c room four view n inside, set-again ls c (view h) []) leads
+  led-leads = rw (put-views 4 H h c room four view n inside, set-set ls c (view h) []) leads

@@ -1,5 +1,5 @@
 -- Pairs taken one by one: what is kept of them, and how the output is compared with them.
-use Rattle.lists.proofs.Prelude.{Bool, true, false, _&&_, and-assoc, List, [], _∷_, _++_, map, map-append, append-assoc, append-nil, _≡_, refl, sym, ap, _∙_, ℕ, zero, suc, _+_, _-_, _<_, _≤_, arith, eqb, length, take, drop, length-append, length-drop, drop-drop, same, by-test, keep-append}
+use Rattle.lists.proofs.Prelude.{Bool, _&&_, and-assoc, List, [], _∷_, _++_, map, map-append, append-assoc, append-nil, _≡_, refl, sym, ap, _∙_, ℕ, zero, suc, _+_, _-_, _<_, _≤_, arith, length, take, drop, length-append, length-drop, drop-drop, same, keep-append, and-true, same-append, take-add, length-take-le}
 use Rattle.postings.specs.declared.Posting.{Posting}
 use Rattle.postings.specs.Merge.{isCounted, nonzero}
 use Rattle.partitions.specs.Layout.{wordOf}
@@ -75,9 +75,9 @@ batch-done all kept l e a = sym (a ∙ ap (λ (r : List Posting). kept ++ nonzer
 -- words in two parts
 same-parts : (x y z : List ℕ) → length x + length y ≤ length z
     → same (x ++ y) (take (length (x ++ y)) z) ≡ (same x (take (length x) z) && same y (take (length y) (drop (length x) z)))
-same-parts [] y z h = refl
-same-parts (a ∷ x) y [] h = absurd (omega arith)
-same-parts (a ∷ x) y (b ∷ z) h = by-test (eqb a b) (λ t. rw t (same-parts x y z (omega arith))) (λ f. rw f)
+same-parts x y z h =
+    rw (length-append x y, take-add (length x) (length y) z)
+    (same-append x y (take (length x) z) (take (length y) (drop (length x) z)) (sym (length-take-le (length x) z (omega arith))))
 
 -- what is told of all words, where `r` is told of those compared and these are to be compared at the output
 pub record Comparing (out : List ℕ) (words : List ℕ) (all : Bool) (end : List ℕ) (r : Bool) : Type 0 where
@@ -100,8 +100,4 @@ module _ (out words : List ℕ) (all : Bool) (end : List ℕ) (r : Bool) (c : Co
 
   -- none is left
   pub compare-done : words ≡ [] → (all ≡ r) × (end ≡ out)
-  compare-done e = (c .same ∙ rw e (right r), c .rest ∙ rw e)
-    where
-      right : (t : Bool) → (t && true) ≡ t
-      right true = refl
-      right false = refl
+  compare-done e = (c .same ∙ rw e (and-true r), c .rest ∙ rw e)

@@ -1,5 +1,5 @@
 -- Totals fit: under each identifier there are at most 65,535 windows.
-use Rattle.lists.proofs.Prelude.{Bool, true, false, not, cond, List, [], _∷_, map, _⊎_, inl, inr, ⊎-elim, _≡_, refl, sym, _∙_, ℕ, zero, suc, _+_, _<_, _≤_, add-one, arith, eqb, leb, ltb, ℤ, length, getD, set, replicate, length-set, getD-set-same, getD-set-other, leb-true, le-ltb, eqb-true, eqb-false, eq-eqb, ne-eqb, AllOf, keep, every, by-test, and-left, and-right, length-keep}
+use Rattle.lists.proofs.Prelude.{Bool, true, false, not, cond, List, [], _∷_, map, _⊎_, inl, inr, ⊎-elim, _≡_, refl, sym, _∙_, ℕ, zero, suc, _+_, _<_, _≤_, add-one, arith, eqb, leb, ltb, ℤ, length, getD, set, replicate, length-set, getD-set-same, getD-set-other, leb-true, le-ltb, eqb-true, eqb-false, eq-eqb, ne-eqb, AllOf, keep, every, by-test, and-left, and-right, length-keep, getD-same}
 use Rattle.keyed.specs.Keys.{topFrom, larger, headFine, headsFine}
 use Rattle.words.specs.Words.{Below}
 use Rattle.postings.specs.declared.Posting.{Posting}
@@ -32,16 +32,11 @@ room-small t ns bound r =
 
 -- at first there is room
 pub room-none : Room (zeros true) (replicate 1024 0) 67108864
-room-none = record { long = refl; pairs = omega arith; postings = omega arith; terms = sym (none 1024); counts = λ i h. inl (all 1024 i) }
+room-none = record { long = refl; pairs = omega arith; postings = omega arith; terms = sym (none 1024); counts = λ i h. inl (getD-same {A = ℕ} 1024 i 0) }
   where
     none : (n : ℕ) → length (keep some (replicate n 0)) ≡ 0
     none zero = refl
     none (suc n) = none n
-
-    all : (n i : ℕ) → getD {A = ℕ} (replicate n 0) i 0 ≡ 0
-    all zero i = refl
-    all (suc n) zero = refl
-    all (suc n) (suc i) = all n i
 
 -- one more under an identifier
 count-set : (l : List ℕ) (i : ℕ) → i < length l → length (keep some (set l i (getD l i 0 + 1))) ≡ risen (length (keep some l)) (getD l i 0)

@@ -1,5 +1,5 @@
 -- The pairs by a test of every key are the pairs by insertion.
-use Rattle.lists.proofs.Prelude.{Bool, true, false, cond, _||_, or-assoc, List, [], _∷_, _≡_, refl, sym, ap, _∙_, ℕ, zero, suc, _<_, _≤_, arith, ltb, eqb, ℤ, pos, _+ℤ_, +ℤ-idl, +ℤ-idr, +ℤ-assoc, ltb-true, ltb-false, eqb-true, eqb-false, eq-eqb, ne-eqb, by-test, and-left, and-right, or-none, or-swap}
+use Rattle.lists.proofs.Prelude.{Bool, true, false, cond, _||_, or-assoc, List, [], _∷_, _≡_, refl, sym, ap, _∙_, ℕ, zero, suc, _<_, _≤_, arith, ltb, eqb, ℤ, pos, _+ℤ_, +ℤ-idl, +ℤ-idr, +ℤ-assoc, ltb-true, ltb-false, eqb-true, eqb-false, eq-eqb, ne-eqb, by-test, and-left, and-right, or-none, or-swap, or-self-left}
 use Rattle.keyed.specs.Keys.{Item, falls, allFall, sumOf, sums, heldIn, held, overKeys, Pair, addPair, keyPairs}
 use Rattle.keyed.specs.Collect.{putItem, putAll, collect}
 use Rattle.lists.proofs.Ints.{sum-swap}
@@ -51,12 +51,8 @@ module _ (k : ℕ) (x : Item) where
   put-held (p ∷ ps) =
       by-test (ltb (p .key) (x .key)) (λ e. rw e)
       (λ e. by-test (eqb (p .key) (x .key))
-      (λ q. let z = eqb-true (p .key) (x .key) q in rw (e, q, z) (same (eqb (x .key) k) (heldP k ps)))
+      (λ q. let z = eqb-true (p .key) (x .key) q in rw (e, q, z) (sym (or-self-left (eqb (x .key) k) (heldP k ps))))
       (λ q. rw (e, q, put-held ps) (or-swap (eqb (p .key) k) (eqb (x .key) k) (heldP k ps))))
-    where
-      same : (a b : Bool) → (a || b) ≡ (a || (a || b))
-      same true b = refl
-      same false b = refl
 
   put-sum : (ps : List Pair) → sumP k (putItem x ps) ≡ cond (eqb (x .key) k) (x .val) (pos 0) +ℤ sumP k ps
   unfolding sumP

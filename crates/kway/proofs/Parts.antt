@@ -1,5 +1,5 @@
 -- A part put back into an array: it stands in its place, and the others are as they were.
-use Rattle.lists.proofs.Prelude.{List, [], _∷_, _++_, map, ⊎-elim, _≡_, refl, sym, ap, _∙_, ℕ, zero, suc, _+_, _-_, _*_, _<_, _≤_, eq-or-lt-of-le, mul-suc, mul-le-mul-left, add-one, arith, length, getD, take, drop, take-append-drop, length-drop, length-take-le, take-at, drop-at, take-append-le, drop-append-le, drop-drop, take-suc, AllOf}
+use Rattle.lists.proofs.Prelude.{List, [], _∷_, _++_, map, ⊎-elim, _≡_, refl, sym, ap, _∙_, ℕ, zero, suc, _+_, _-_, _*_, _<_, _≤_, eq-or-lt-of-le, mul-suc, mul-le-mul-left, add-one, arith, length, getD, take, drop, take-append-drop, length-drop, length-take-le, take-at, drop-at, take-append-le, drop-append-le, drop-drop, take-suc, AllOf, map-append}
 use borrow.Rule.Slice.PartMut.{putMid, same-len-mid, mid-len, drop-put}
 use Rattle.kway.specs.Parts.{part, parts}
 
@@ -46,10 +46,6 @@ module _ (w : ℕ) (H P : List ℕ) (i : ℕ) (inside : w * i + w ≤ length H) 
 
 -- ---- one more at the end
 
-pub map-more : {A B : Type 0} (f : A → B) (l : List A) (x : A) → map f (l ++ (x ∷ [])) ≡ map f l ++ (f x ∷ [])
-map-more f [] x = refl
-map-more f (y ∷ l) x = rw (map-more f l x)
-
 pub all-more : {A : Type 0} (P : A → Type 0) (l : List A) (x : A) → AllOf P l → P x → AllOf P (l ++ (x ∷ []))
 unfolding AllOf
 all-more P [] x a p = (p, tt)
@@ -76,7 +72,7 @@ parts-same w (suc n) H H′ e = rw (parts-same w n H H′ (λ j h. e j (omega ar
 
 pub views-more : {X : Type 0} (view : List ℕ → X) (w n : ℕ) (H : List ℕ) → map view (parts w (n + 1) H) ≡ map view (parts w n H) ++ (view (part w n H) ∷ [])
 unfolding parts
-views-more view w n H = rw (add-one n) (map-more view (parts w n H) (part w n H))
+views-more view w n H = rw (add-one n) (map-append view (parts w n H) (part w n H ∷ []))
 
 -- ---- parts that are moved in place, from the first on: view is what a part stands for, K what holds of it, f the move
 
@@ -108,7 +104,7 @@ module _ {X : Type 0} (view : List ℕ → X) (K : List ℕ → Type 0) (f : X �
       long = put-length w H h i inside long ∙ t .long;
       later = λ j l. put-later w H h i inside long j (omega arith) ∙ t .later j (omega arith);
       kept = rw (add-one i) (all-more K (parts w i (putIn w H h i)) (part w i (putIn w H h i)) (rw same (t .kept)) (rw (put-here w H h i inside long) g));
-      moved = now-more ∙ rw (t .moved, e, views-more view w i H₀) (sym (map-more f (map view (parts w i H₀)) (view (part w i H₀))));
+      moved = now-more ∙ rw (t .moved, e, views-more view w i H₀) (sym (map-append f (map view (parts w i H₀)) (view (part w i H₀) ∷ [])));
     }
 
 -- ---- parts that are put one after another, from the first on, each for the same place of a list: view is what a part stands for, f what is to stand there
@@ -136,5 +132,5 @@ module _ {X Y : Type 0} (view : List ℕ → X) (K : List ℕ → Type 0) (f : Y
     opened-more long₀ t l d g e = record {
       long = put-length w H h i inside long ∙ t .long;
       kept = rw (add-one i) (all-more K (parts w i (putIn w H h i)) (part w i (putIn w H h i)) (rw others (t .kept)) (rw (put-here w H h i inside long) g));
-      shown = shown-more ∙ rw (t .shown, e, add-one i, take-suc ys i d l) (sym (map-more f (take i ys) (getD ys i d)));
+      shown = shown-more ∙ rw (t .shown, e, add-one i, take-suc ys i d l) (sym (map-append f (take i ys) (getD ys i d ∷ [])));
     }

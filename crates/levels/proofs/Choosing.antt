@@ -1,5 +1,5 @@
 -- The highest due level, as code finds it, and the part of the list that is merged.
-use Rattle.lists.proofs.Prelude.{Bool, true, false, cond, List, [], _∷_, _++_, append-nil, _≡_, refl, sym, ap, _∙_, ℕ, _+_, _-_, _≤_, arith, eqb, length, getD, take, drop, length-drop, drop-of-length-le, take-add, drop-at, length-take-le}
+use Rattle.lists.proofs.Prelude.{Bool, true, false, cond, List, [], _∷_, _++_, append-nil, _≡_, refl, sym, ap, _∙_, ℕ, _+_, _-_, _≤_, arith, eqb, length, getD, take, drop, length-drop, drop-of-length-le}
 use Rattle.state.specs.declared.Partition.{Partition}
 use Rattle.levels.specs.declared.Due.{Due}
 use Rattle.state.specs.Views.{finished, partitionsOf, noPartition}
@@ -61,11 +61,8 @@ due-some v = go (eqb v 5)
 pub finished-of : (l : List Partition) → finished (partitionsOf l) ≡ l
 finished-of l = held 51 noPartition l
 
--- the front of a list, and a part of that
+-- the front of a list
 pub front-cut : (l : List Partition) (end used : ℕ) → length l ≡ used → take end l ++ drop (used - end) (drop end l) ≡ take end l
 front-cut l end used e =
     let h : length (drop end l) ≤ used - end = omega (arith, length-drop end l) in
     ap (λ (r : List Partition). take end l ++ r) (drop-of-length-le (drop end l) h) ∙ append-nil (take end l)
-
-pub part-cut : (l : List Partition) (at count : ℕ) → at + count ≤ length l → drop at (take (at + count) l) ≡ take count (drop at l)
-part-cut l at count h = ap (drop at) (take-add at count l) ∙ drop-at (take at l) (take count (drop at l)) at (length-take-le at l (omega arith))

@@ -1,6 +1,6 @@
 -- Cases by a test, and what a conjunction or a disjunction tells of its parts.
-use mathlib.Core.Bool.{Bool, true, false, _&&_, _||_}
-use mathlib.Core.Path.{_≡_, refl}
+use mathlib.Core.Bool.{Bool, true, false, _&&_, _||_, not, cond, and-assoc, and-comm, or-false}
+use mathlib.Core.Path.{_≡_, refl, sym, ap, _∙_}
 
 -- both cases of a test, each with what the test says
 pub by-test : {A : Type 0} → (t : Bool) → (t ≡ true → A) → (t ≡ false → A) → A
@@ -37,3 +37,30 @@ pub or-swap : (a b c : Bool) → (a || (b || c)) ≡ (b || (a || c))
 or-swap true true c = refl
 or-swap true false c = refl
 or-swap false b c = refl
+
+-- a conjunct moves past another
+pub and-past : (a b c : Bool) → (a && (b && c)) ≡ (b && (a && c))
+and-past true b c = refl
+and-past false true c = refl
+and-past false false c = refl
+
+-- and past two
+pub and-past-two : (a b c d : Bool) → (a && (b && (c && d))) ≡ ((b && c) && (a && d))
+and-past-two a b c d = ap (λ (t : Bool). a && t) (sym (and-assoc b c d)) ∙ and-past a (b && c) d
+
+-- four conjuncts in another order
+pub and-turned : (a b c d : Bool) → ((a && (b && c)) && d) ≡ (b && (a && (d && c)))
+and-turned true true c d = and-comm c d
+and-turned true false c d = refl
+and-turned false true c d = refl
+and-turned false false c d = refl
+
+-- one of two by a test
+pub choose : (a b c : Bool) → ((a && b) || (not a && c)) ≡ cond a b c
+choose true b c = or-false b
+choose false b c = refl
+
+-- one of two that are the same
+pub cond-same : {A : Type 0} (t : Bool) (x : A) → cond t x x ≡ x
+cond-same true x = refl
+cond-same false x = refl

@@ -1,7 +1,7 @@
 -- Numbers by falling value: what a test keeps of all numbers, it keeps of those that matter.
-use mathlib.Core.Bool.{Bool, true, false, _||_, cond}
+use mathlib.Core.Bool.{Bool, false, _||_, cond, or-self-left}
 use mathlib.Core.List.{List, [], _∷_}
-use mathlib.Core.Path.{_≡_, refl}
+use mathlib.Core.Path.{_≡_, refl, sym}
 use Prim.Native.Nat.{ℕ, zero, suc, _<_, _≤_}
 use native.Mathlib.Omega.{arith}
 use lib.Dec.{ltb, eqb}
@@ -14,7 +14,8 @@ pub data Falling : ℕ → List ℕ → Type 0 where
   none : {m : ℕ} → Falling m []
   more : {m n : ℕ} {l : List ℕ} → 1 ≤ n → n < m → Falling n l → Falling m (n ∷ l)
 
-falling-high : (m k : ℕ) (l : List ℕ) → m ≤ k → Falling m l → elem k l ≡ false
+-- no number from the bound on is there
+pub falling-high : (m k : ℕ) (l : List ℕ) → m ≤ k → Falling m l → elem k l ≡ false
 falling-high m k [] h none = refl
 falling-high m k (n ∷ l) h (more a b f) = rw (ne-eqb n k (λ q. omega arith)) (falling-high n k l (omega arith) f)
 
@@ -54,9 +55,5 @@ elem-insert j n [] = refl
 elem-insert j n (k ∷ l) =
     by-test (ltb k n) (λ y. rw y)
     (λ y. by-test (eqb k n)
-    (λ e. let q : k ≡ n = eqb-true k n e in rw (y, e, q) (twice (eqb n j) (elem j l)))
+    (λ e. let q : k ≡ n = eqb-true k n e in rw (y, e, q) (sym (or-self-left (eqb n j) (elem j l))))
     (λ e. rw (y, e, elem-insert j n l) (or-swap (eqb k j) (eqb n j) (elem j l))))
-  where
-    twice : (a b : Bool) → (a || b) ≡ (a || (a || b))
-    twice true b = refl
-    twice false b = refl

@@ -51,6 +51,10 @@ module _ {A : Type 0} (d : A) where
       sym (take-append-drop n all) ∙ ap (λ (r : List A). take n all ++ r) (all-same t is (drop n all) e) ∙ rw (b, a)
 
 module _ {A : Type 0} where
+  -- any place of a list of one value
+  pub getD-same : (n k : ℕ) (d : A) → getD (replicate n d) k d ≡ d
+  getD-same n k d = getD-padded d n [] k
+
   -- the rest of a list of one value
   pub drop-replicate : (k n : ℕ) (d : A) → drop k (replicate n d) ≡ replicate (n - k) d
   drop-replicate zero n d = rw (sub-zero n)

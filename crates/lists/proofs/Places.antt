@@ -1,12 +1,12 @@
 -- An array of which the first places are used and the others hold d: one place more, one less, one changed.
 use mathlib.Core.Bool.{Bool, true, false, _||_, cond}
 use mathlib.Core.List.{List, [], _∷_, _++_, append-assoc, List·Memᴰ, List·Memᴰ·head, List·Memᴰ·tail}
-use mathlib.Core.Path.{_≡_, refl, sym, ap, ap₂, _∙_}
+use mathlib.Core.Path.{_≡_, refl, ap, _∙_}
 use Prim.Native.Nat.{ℕ, zero, suc, _+_, _-_, _<_, _≤_}
 use native.Mathlib.Numerals.{add-one}
 use native.Mathlib.Omega.{arith}
-use lib.ListN.{length, getD, take, drop, set, replicate, length-append, length-drop, length-set, take-append-drop, drop-of-length-le}
-use lib.Seq.{length-take-le, take-append-le, take-append-seam, drop-append-seam, drop-cons, getD-take, set-append-left}
+use lib.ListN.{length, getD, take, drop, set, replicate, length-append, drop-of-length-le}
+use lib.Seq.{length-take-le, take-append-le, take-append-seam, drop-append-seam, drop-cons, getD-take}
 use Rattle.lists.specs.Lists.{keep, any, every}
 use Rattle.lists.proofs.Bools.{by-test, and-left, and-right, and-both, or-right}
 use Rattle.lists.proofs.Tests.{keep-all}
@@ -66,20 +66,10 @@ module _ {A : Type 0} where
       let r = keep-set t k a l (omega arith) (and-right (t x) _ e) in
       by-test (t a) (λ y. rw (and-left (t x) _ e, r, y)) (λ n. rw (and-left (t x) _ e, r, n))
 
-  -- a list whose elements all are d
-  pub all-replicate : (t : A → Bool) (d : A) → ((x : A) → t x ≡ true → x ≡ d) → (l : List A) → every t l ≡ true → l ≡ replicate (length l) d
-  all-replicate t d h [] e = refl
-  all-replicate t d h (x ∷ l) e = ap₂ {C = List A} _∷_ (h x (and-left (t x) _ e)) (all-replicate t d h l (and-right (t x) _ e))
-
   -- ---- the array of n places
 
-  -- an array whose places from u on all are d
-  pub filled-from : (t : A → Bool) (d : A) → ((x : A) → t x ≡ true → x ≡ d) → (n u : ℕ) (l : List A) → length l ≡ n → u ≤ n → every t (drop u l) ≡ true → l ≡ take u l ++ replicate (n - length (take u l)) d
-  filled-from t d h n u l e f r =
-      let k : length (drop u l) ≡ n - length (take u l) = omega (arith, length-drop u l, length-take-le u l (omega arith)) in
-      sym (take-append-drop u l) ∙ rw (← k) (ap (λ (m : List A). take u l ++ m) (all-replicate t d h (drop u l) r))
-
-  past : (l r : List A) (a : A) → drop (suc (length l)) (l ++ a ∷ r) ≡ r
+  -- past a list and one element
+  pub past : (l r : List A) (a : A) → drop (suc (length l)) (l ++ a ∷ r) ≡ r
   past [] r a = refl
   past (x ∷ l) r a = past l r a
 
@@ -104,7 +94,3 @@ module _ {A : Type 0} where
         rw (e, append-assoc (take k l) (drop (suc k) l) (d ∷ r))
         (lowered-done k (length l - 1) (l ++ r) d (omega arith) g
         ∙ rw (s, take-append-le k l r (omega arith), take-append-seam l r, drop-append-seam l r))
-
-    -- one place changed
-    pub filled-set : (a : A) → k < length l → set (l ++ replicate (n - length l) d) k a ≡ set l k a ++ replicate (n - length (set l k a)) d
-    filled-set a h = rw (length-set l k a) (set-append-left l (replicate (n - length l) d) k a h)

@@ -1,15 +1,15 @@
 -- Numbers in a row, and lists that are told by the numbers of their places.
-use mathlib.Core.Bool.{Bool, true, false, _&&_}
+use mathlib.Core.Bool.{Bool, true, false, _&&_, _||_}
 use mathlib.Core.List.{List, [], _∷_, _++_, map, map-append, append-assoc, append-nil}
 use mathlib.Core.Path.{_≡_, refl, sym, ap, ap₂, _∙_}
-use Prim.Native.Nat.{ℕ, zero, suc, _+_, _*_, _-_, _<_, _≤_}
+use Prim.Native.Nat.{ℕ, zero, suc, _+_, _*_, _<_, _≤_}
 use native.Mathlib.Nat.{add-zero, add-suc, suc-add, zero-add}
 use native.Mathlib.Omega.{arith}
 use lib.Dec.{eqb, ltb}
 use lib.ListN.{length, getD, take, drop, length-append, length-map, List·getD-append}
 use lib.Seq.{getD-append-add, take-at, drop-at}
 use borrow.Author.Tests.{ltb-true, ltb-false, eqb-true, eqb-false, ne-eqb}
-use Rattle.lists.specs.Lists.{keep, every, totalBy, joined, elem, different, rising, upTo}
+use Rattle.lists.specs.Lists.{keep, any, every, totalBy, joined, elem, different, down, rising, upTo}
 use Rattle.lists.proofs.Bools.{by-test, and-left, and-right, and-both, or-right}
 use Rattle.lists.proofs.Tests.{keep-append}
 
@@ -34,6 +34,12 @@ unfolding rising
 total-rising f g n zero h = refl
 total-rising f g n (suc k) h = ap₂ _+_ (h n (omega arith) (omega arith)) (total-rising f g (suc n) k (λ j a b. h j (omega arith) (omega arith)))
 
+-- two tests that agree over the row keep the same of it
+pub keep-rising : (t u : ℕ → Bool) (n k : ℕ) → ((b : ℕ) → n ≤ b → b < n + k → t b ≡ u b) → keep t (rising n k) ≡ keep u (rising n k)
+unfolding rising
+keep-rising t u n zero h = refl
+keep-rising t u n (suc k) h = rw (h n (omega arith) (omega arith), keep-rising t u (suc n) k (λ b x y. h b (omega arith) (omega arith)))
+
 -- every number of the row is in it
 pub elem-rising : (n k j : ℕ) → n ≤ j → j < n + k → elem j (rising n k) ≡ true
 unfolding rising
@@ -44,7 +50,15 @@ elem-rising n (suc k) j a b =
     (λ l. elem-rising (suc n) k j (omega (arith, ltb-true n j l)) (omega arith))
     (λ l. absurd (eqb-false n j f (omega (arith, ltb-false n j l))))))
 
--- and none below the first
+-- and so is every number of 1 to n among those from n down
+pub elem-down : (n k : ℕ) → 1 ≤ k → k ≤ n → elem k (down n) ≡ true
+unfolding down
+elem-down zero k a b = absurd (omega arith)
+elem-down (suc n) k a b =
+    by-test (eqb (suc n) k) (λ y. rw y)
+    (λ f. let d = eqb-false (suc n) k f in or-right (eqb (suc n) k) _ (elem-down n k a (omega arith)))
+
+-- no number below the first is in the row
 pub rising-none : (n k j : ℕ) → j < n → elem j (rising n k) ≡ false
 unfolding rising
 rising-none n zero j h = refl
@@ -84,6 +98,17 @@ module _ {A B : Type 0} where
   map-upTo g f l d k e h =
       rw (← e) (map-rising g f l d 0 (λ j a. ap g (zero-add j) ∙ h j (omega arith)))
 
+  -- a part of what f gives is what f gives of the part
+  pub map-take : (f : A → B) (n : ℕ) (l : List A) → map f (take n l) ≡ take n (map f l)
+  map-take f zero l = refl
+  map-take f (suc n) [] = refl
+  map-take f (suc n) (x ∷ l) = ap (λ (r : List B). f x ∷ r) (map-take f n l)
+
+  pub map-drop : (f : A → B) (n : ℕ) (l : List A) → map f (drop n l) ≡ drop n (map f l)
+  map-drop f zero l = refl
+  map-drop f (suc n) [] = refl
+  map-drop f (suc n) (x ∷ l) = map-drop f n l
+
   -- two functions that are equal on what passes a test, on a list that passes it
   pub map-where : (t : A → Bool) (f g : A → B) → ((x : A) → t x ≡ true → f x ≡ g x) → (l : List A) → every t l ≡ true → map f l ≡ map g l
   map-where t f g h [] e = refl
@@ -101,6 +126,14 @@ module _ {A B : Type 0} where
   pub every-map : (t : B → Bool) (f : A → B) (l : List A) → every t (map f l) ≡ every (λ x. t (f x)) l
   every-map t f [] = refl
   every-map t f (x ∷ l) = ap (λ (b : Bool). t (f x) && b) (every-map t f l)
+
+  pub any-map : (t : B → Bool) (f : A → B) (l : List A) → any t (map f l) ≡ any (λ x. t (f x)) l
+  any-map t f [] = refl
+  any-map t f (x ∷ l) = ap (λ (b : Bool). t (f x) || b) (any-map t f l)
+
+  pub keep-map : (t : B → Bool) (f : A → B) (l : List A) → keep t (map f l) ≡ map f (keep (λ x. t (f x)) l)
+  keep-map t f [] = refl
+  keep-map t f (x ∷ l) = by-test (t (f x)) (λ y. rw (y, keep-map t f l)) (λ n. rw (n, keep-map t f l))
 
   -- and so is a sum
   pub total-map : (t : B → ℕ) (f : A → B) (l : List A) → totalBy t (map f l) ≡ totalBy (λ x. t (f x)) l
@@ -132,6 +165,11 @@ module _ {A B : Type 0} where
   length-all e (x ∷ l) = omega (arith, length-append (e x) (joined (map e l)), length-all e l)
 
 module _ {A : Type 0} where
+  -- a sum with one summand more
+  pub total-more : (f : A → ℕ) (l : List A) (x : A) → totalBy f (l ++ (x ∷ [])) ≡ totalBy f l + f x
+  total-more f [] x = omega arith
+  total-more f (y ∷ l) x = let r = total-more f l x in omega arith
+
   -- what is kept of lists one after another is what is kept of each
   pub keep-joined : {B : Type 0} (t : A → Bool) (e : B → List A) (l : List B) → keep t (joined (map e l)) ≡ joined (map (λ x. keep t (e x)) l)
   keep-joined t e [] = refl

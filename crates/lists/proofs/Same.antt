@@ -1,5 +1,5 @@
 -- Equality of lists of numbers as a test, tests of parts of a list, and runs of stores.
-use mathlib.Core.Bool.{Bool, true, false, _&&_}
+use mathlib.Core.Bool.{Bool, true, false, _&&_, and-assoc}
 use mathlib.Core.List.{List, [], _∷_, _++_}
 use mathlib.Core.Path.{_≡_, refl, sym, ap, ap₂, _∙_}
 use Prim.Native.Nat.{ℕ, zero, suc, _+_, _<_, _≤_}
@@ -8,7 +8,7 @@ use native.Mathlib.Omega.{arith}
 use borrow.Author.Tests.{eqb-true, eq-eqb}
 use lib.Dec.{eqb}
 use lib.ListN.{length, getD, take, drop, set}
-use lib.Seq.{sets, drop-cons, take-set-le, drop-set-add, getD-set-other}
+use lib.Seq.{sets, drop-cons, take-set-le, drop-set-add}
 use Rattle.lists.specs.Lists.{any, every, same}
 use Rattle.lists.proofs.Bools.{by-test, and-left, and-right, and-both, or-none}
 
@@ -53,6 +53,13 @@ same-swap a b =
 pub same-length : (a b : List ℕ) → (length a ≡ length b → ⊥) → same a b ≡ false
 same-length a b n = ne-same a b (λ e. n (ap length e))
 
+-- lists in two parts
+pub same-append : (a b c d : List ℕ) → length a ≡ length c → same (a ++ b) (c ++ d) ≡ (same a c && same b d)
+same-append [] b [] d e = refl
+same-append [] b (y ∷ c) d e = absurd (omega arith)
+same-append (x ∷ a) b [] d e = absurd (omega arith)
+same-append (x ∷ a) b (y ∷ c) d e = ap (λ (t : Bool). eqb x y && t) (same-append a b c d (omega arith)) ∙ sym (and-assoc (eqb x y) (same a c) (same b d))
+
 -- two lists from place i on
 pub same-step : (a b : List ℕ) (i : ℕ) → i < length a → i < length b
     → same (drop i a) (drop i b) ≡ (eqb (getD a i 0) (getD b i 0) && same (drop (suc i) a) (drop (suc i) b))
@@ -90,14 +97,6 @@ module _ {A : Type 0} where
   drop-sets-add n l i [] = refl
   drop-sets-add n l i (v ∷ vs) =
       rw (← add-suc n i) (drop-sets-add n (set l (n + i) v) (suc i) vs) ∙ ap (λ (k : List A). sets k (suc i) vs) (drop-set-add n l i v)
-
-  -- a place outside the run keeps its element
-  pub getD-sets-other : (l : List A) (i : ℕ) (vs : List A) (k : ℕ) (d : A) → (i ≤ k → k < i + length vs → ⊥)
-      → getD (sets l i vs) k d ≡ getD l k d
-  getD-sets-other l i [] k d h = refl
-  getD-sets-other l i (v ∷ vs) k d h =
-      getD-sets-other (set l i v) (suc i) vs k d (λ p q. h (omega arith) (omega arith))
-      ∙ getD-set-other l i k v d (λ e. h (omega arith) (omega arith))
 
   -- a list put over the start of another, up to a place past it
   pub take-over : (n : ℕ) (vs l : List A) → length vs ≤ n → length vs ≤ length l → take n (vs ++ drop (length vs) l) ≡ vs ++ drop (length vs) (take n l)

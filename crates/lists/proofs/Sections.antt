@@ -1,11 +1,12 @@
 -- Parts of lists, places in use of an array, and tests that can go.
 use mathlib.Core.Bool.{Bool, true, false, _&&_, and-false}
-use mathlib.Core.List.{List, _∷_, _++_}
+use mathlib.Core.List.{List, [], _∷_, _++_}
 use mathlib.Core.Path.{_≡_, refl, ap, _∙_}
-use Prim.Native.Nat.{ℕ, suc, _+_, _<_, _≤_}
+use Prim.Native.Nat.{ℕ, zero, suc, _+_, _-_, _<_, _≤_}
+use native.Mathlib.Nat.{zero-add, suc-add}
 use native.Mathlib.Omega.{arith}
-use lib.ListN.{length, getD, take, drop}
-use lib.Seq.{drop-cons, take-add, drop-drop, getD-take, length-take-le}
+use lib.ListN.{length, getD, take, drop, length-drop}
+use lib.Seq.{drop-cons, take-add, drop-drop, getD-take, length-take-le, take-nil, take-all}
 use Rattle.lists.specs.Lists.{every}
 use Rattle.lists.proofs.Tests.{every-at}
 
@@ -27,6 +28,16 @@ module _ {A : Type 0} where
       (ap (λ (k : ℕ). drop k l) a ∙ drop-cons l (1 + i) d (omega arith)
       ∙ ap (λ (r : List A). getD l (1 + i) d ∷ r)
       (ap (λ (k : ℕ). drop k l) b ∙ drop-cons l (2 + i) d (omega arith) ∙ ap (λ (k : ℕ). getD l (2 + i) d ∷ drop k l) c))
+
+  -- a part from a place on, cut first
+  pub take-drop : (a n : ℕ) (l : List A) → take n (drop a l) ≡ drop a (take (a + n) l)
+  take-drop zero n l = rw (zero-add n)
+  take-drop (suc a) n [] = rw (suc-add a n, take-nil n)
+  take-drop (suc a) n (x ∷ l) = rw (suc-add a n) (take-drop a n l)
+
+  -- all from a place on
+  pub take-rest : (n : ℕ) (l : List A) → take (length l - n) (drop n l) ≡ drop n l
+  take-rest n l = take-all (length l - n) (drop n l) (omega (arith, length-drop n l))
 
   -- a part in two
   pub part-add : (l : List A) (i m n : ℕ) → take (m + n) (drop i l) ≡ take m (drop i l) ++ take n (drop (i + m) l)

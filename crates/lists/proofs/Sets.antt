@@ -1,17 +1,19 @@
 -- Runs of stores into a list, padding, and lists of numbers of which none stands twice.
-use mathlib.Core.Bool.{Bool, true, false, not, true≢false, and-comm}
+use mathlib.Core.Bool.{Bool, true, false, not, _&&_, _||_, true≢false, and-comm}
 use mathlib.Core.List.{List, [], _∷_, _++_, append-assoc, append-nil}
 use mathlib.Core.Path.{_≡_, refl, sym, ap, _∙_}
 use Prim.Native.Nat.{ℕ, zero, suc, _+_, _-_, _<_, _≤_}
 use native.Mathlib.Nat.{zero-add, suc-sub-suc, suc-add, sub-zero}
 use native.Mathlib.Omega.{arith}
-use lib.Dec.{eqb}
+use lib.Dec.{eqb, ltb}
 use lib.ListN.{length, getD, take, drop, set, replicate, length-append, take-append-drop, replicate-append-replicate}
-use lib.Seq.{sets, sets-eq, take-set-le, drop-set-lt, length-take-le, take-at, drop-at}
-use borrow.Author.Tests.{eqb-true, eqb-false, eq-eqb, ne-eqb, not-true}
-use Rattle.lists.specs.Lists.{keep, any, every, elem, different}
+use lib.Seq.{sets, sets-eq, take-set-le, drop-set-lt, length-take-le, take-suc, take-at, drop-at}
+use borrow.Author.Tests.{eqb-true, eqb-false, eq-eqb, ne-eqb, ltb-true, not-true}
+use Rattle.lists.specs.Lists.{keep, any, every, elem, different, upTo}
 use Rattle.lists.proofs.Bools.{by-test, and-left, and-right, and-both, or-right, or-none}
-use Rattle.lists.proofs.Tests.{keep-append, every-append, any-append}
+use Rattle.lists.proofs.Tests.{keep-append, keep-all, every-append, any-append}
+use Rattle.lists.proofs.Runs.{apart as apartBy, apart-append, apart-none}
+use Rattle.lists.proofs.Ranges.{length-rising, every-rising, different-rising, elem-rising}
 
 -- Stores ------------------------------------------------------------------------------------------------------------
 
@@ -83,6 +85,22 @@ elem-every t [] h = refl
 elem-every t (x ∷ l) h =
     and-both (t x) _ (h x (rw (eq-eqb x x refl))) (elem-every t l (λ n m. h n (or-right (eqb x n) _ m)))
 
+-- a number of two lists, one after the other
+pub elem-append : (b : ℕ) (x y : List ℕ) → elem b (x ++ y) ≡ (elem b x || elem b y)
+elem-append b x y = any-append (λ m. eqb m b) x y
+
+pub elem-left : (b : ℕ) (x y : List ℕ) → elem b x ≡ true → elem b (x ++ y) ≡ true
+elem-left b x y e = elem-append b x y ∙ ap (λ (t : Bool). t || elem b y) e
+
+pub elem-right : (b : ℕ) (x y : List ℕ) → elem b y ≡ true → elem b (x ++ y) ≡ true
+elem-right b x y e = elem-append b x y ∙ or-right (elem b x) _ e
+
+pub elem-neither : (b : ℕ) (x y : List ℕ) → elem b x ≡ false → elem b y ≡ false → elem b (x ++ y) ≡ false
+elem-neither b x y e f = elem-append b x y ∙ rw (e, f)
+
+pub elem-none : (b : ℕ) (x y : List ℕ) → elem b (x ++ y) ≡ false → (elem b x ≡ false) × (elem b y ≡ false)
+elem-none b x y e = or-none (elem b x) (elem b y) (sym (elem-append b x y) ∙ e)
+
 -- a number that passes the test is kept
 pub elem-keep : (t : ℕ → Bool) (l : List ℕ) (n : ℕ) → t n ≡ true → elem n l ≡ true → elem n (keep t l) ≡ true
 elem-keep t [] n e m = m
@@ -123,7 +141,7 @@ different-insert [] b x n e = rw n e
 different-insert (y ∷ a) b x n e =
     let o = or-none (eqb y x) (elem x (a ++ b)) n in
     let f = not-true (elem y (a ++ b)) (and-left (not (elem y (a ++ b))) _ e) in
-    let g = or-none (elem y a) (elem y b) (sym (any-append (λ m. eqb m y) a b) ∙ f) in
+    let g = elem-none y a b f in
     let d : eqb x y ≡ false = ne-eqb x y (λ q. eqb-false y x (o .0) (sym q)) in
     and-both (not (elem y (a ++ (x ∷ b)))) _
     (rw (any-append (λ m. eqb m y) a (x ∷ b), g .0, d, g .1))
@@ -134,8 +152,78 @@ pub different-swap : (a b : List ℕ) → different (a ++ b) ≡ true → differ
 different-swap [] b e = rw (append-nil b) e
 different-swap (x ∷ a) b e =
     let n = not-true (elem x (a ++ b)) (and-left (not (elem x (a ++ b))) _ e) in
-    let g = or-none (elem x a) (elem x b) (sym (any-append (λ m. eqb m x) a b) ∙ n) in
+    let g = elem-none x a b n in
     different-insert b a x (rw (any-append (λ m. eqb m x) b a, g .1) (g .0)) (different-swap a b (and-right (not (elem x (a ++ b))) _ e))
+
+-- a list that has no number twice, in two parts: neither has one twice, and no number stands in both
+pub record Parted (a b : List ℕ) : Type 0 where
+  pub left : different a ≡ true
+  pub right : different b ≡ true
+  pub apart : every (λ d. not (elem d a)) b ≡ true
+
+pub different-parts : (a b : List ℕ) → different (a ++ b) ≡ true → Parted a b
+different-parts a b e =
+    let none : ℕ → Bool = λ k. false in
+    let d : (apartBy none a && apartBy (λ k. elem k a) b) ≡ true = sym (apart-append none (λ k. elem k a) a b (λ k. refl)) ∙ apart-none none (a ++ b) (λ k. refl) ∙ e in
+    let r = and-right (apartBy none a) _ d in
+    record {
+      left = sym (apart-none none a (λ k. refl)) ∙ and-left (apartBy none a) _ d;
+      right = and-left (different b) _ r;
+      apart = and-right (different b) _ r;
+    }
+
+-- two lists without repetition that share no number
+pub different-join : (a b : List ℕ) → different a ≡ true → different b ≡ true → every (λ d. not (elem d a)) b ≡ true → different (a ++ b) ≡ true
+different-join a b x y z =
+    let none : ℕ → Bool = λ k. false in
+    sym (apart-none none (a ++ b) (λ k. refl)) ∙ apart-append none (λ k. elem k a) a b (λ k. refl)
+    ∙ and-both (apartBy none a) _ (apart-none none a (λ k. refl) ∙ x) (and-both (different b) _ y z)
+
+-- Kept but for one -------------------------------------------------------------------------------------------------
+
+-- two tests that agree on every number but x
+module _ (t u : ℕ → Bool) (x : ℕ) (else : (b : ℕ) → (x ≡ b → ⊥) → t b ≡ u b) where
+  keep-else : (l : List ℕ) → elem x l ≡ false → keep t l ≡ keep u l
+  keep-else [] e = refl
+  keep-else (n ∷ l) e =
+      let o = or-none (eqb n x) _ e in
+      rw (else n (λ r. eqb-false n x (o .0) (sym r)), keep-else l (o .1))
+
+  -- where x passes only one of them, the other keeps one number less of different numbers
+  pub keep-less : t x ≡ true → u x ≡ false → (l : List ℕ) → different l ≡ true → elem x l ≡ true → length (keep t l) ≡ suc (length (keep u l))
+  keep-less y z [] d m = absurd (true≢false (sym m))
+  keep-less y z (n ∷ l) d m =
+      by-test (eqb n x)
+      (λ e. let q = eqb-true n x e in
+      let o : elem x l ≡ false = ap (λ (k : ℕ). elem k l) (sym q) ∙ not-true (elem n l) (and-left (not (elem n l)) _ d) in
+      rw (q, y, z, keep-else l o))
+      (λ e. let f = keep-less y z l (and-right (not (elem n l)) _ d) (rw e at m) in
+      rw (else n (λ r. eqb-false n x e (sym r))) (by-test (u n) (λ g. rw g (ap suc f)) (λ g. rw g f)))
+
+-- of the numbers below n, those that are not in a list of different ones
+pub keep-without : (n : ℕ) (l : List ℕ) → different l ≡ true → every (λ b. ltb b n) l ≡ true → length (keep (λ b. not (elem b l)) (upTo n)) + length l ≡ n
+keep-without n [] d e = ap (λ (m : ℕ). m + 0) (ap length (keep-all (λ (b : ℕ). true) (upTo n) (every-rising (λ b. true) 0 n (λ j x y. refl))) ∙ length-rising 0 n) ∙ omega arith
+keep-without n (x ∷ l) d e =
+    let low : x < n = ltb-true x n (and-left (ltb x n) _ e) in
+    let new : elem x l ≡ false = not-true _ (and-left (not (elem x l)) _ d) in
+    omega (
+      arith,
+      keep-without n l (and-right (not (elem x l)) _ d) (and-right (ltb x n) _ e),
+      keep-less (λ b. not (elem b l)) (λ b. not (elem b (x ∷ l))) x (λ b r. rw (ne-eqb x b r)) (rw new) (rw (eq-eqb x x refl)) (upTo n) (different-rising 0 n) (elem-rising 0 n x (omega arith) (omega arith)),
+    )
+
+-- all but one, of a list that ends with it and another
+pub keep-others : (l : List ℕ) (x y : ℕ) → different ((l ++ (x ∷ [])) ++ (y ∷ [])) ≡ true → keep (λ d. not (eqb d x)) ((l ++ (x ∷ [])) ++ (y ∷ [])) ≡ l ++ (y ∷ [])
+keep-others [] x y d =
+    let o = or-none (eqb y x) false (not-true _ (and-left (not (elem x (y ∷ []))) _ d)) in
+    rw (eq-eqb x x refl, o .0)
+keep-others (g ∷ l) x y d =
+    let e = not-true (elem g ((l ++ (x ∷ [])) ++ (y ∷ []))) (and-left (not (elem g ((l ++ (x ∷ [])) ++ (y ∷ [])))) _ d) in
+    let r = and-right (not (elem g ((l ++ (x ∷ [])) ++ (y ∷ [])))) _ d in
+    let p = elem-none g l (x ∷ []) (elem-none g (l ++ (x ∷ [])) (y ∷ []) e .0) .1 in
+    let q = or-none (eqb x g) false p .0 in
+    let s : eqb g x ≡ false = ne-eqb g x (λ z. eqb-false x g q (sym z)) in
+    rw (s, keep-others l x y r)
 
 -- A list turned, so that another element comes first ---------------------------------------------------------------
 
@@ -156,3 +244,30 @@ module _ {A : Type 0} (k : ℕ) (l : List A) where
 -- and different numbers stay different
 pub different-turned : (k : ℕ) (l : List ℕ) → different l ≡ true → different (drop k l ++ take k l) ≡ true
 different-turned k l e = different-swap (take k l) (drop k l) (rw (take-append-drop k l) e)
+
+-- the first element that a list keeps: what stands before it is not kept
+pub record FirstKept (t : ℕ → Bool) (l : List ℕ) (b : ℕ) (rest : List ℕ) (i : ℕ) : Type 0 where
+  pub inside : i < length l
+  pub here : getD l i 0 ≡ b
+  pub passes : t b ≡ true
+  pub none : keep t (take i l) ≡ []
+  pub later : keep t (drop (suc i) l) ≡ rest
+
+pub first-kept : (t : ℕ → Bool) (l : List ℕ) (b : ℕ) (rest : List ℕ) → keep t l ≡ b ∷ rest → (i : ℕ) × FirstKept t l b rest i
+first-kept t [] b rest e = let z : _≡_ {A = ℕ} 0 1 = cc in absurd (omega arith)
+first-kept t (x ∷ l) b rest e =
+    by-test (t x)
+    (λ y. let f : x ∷ keep t l ≡ b ∷ rest = rw y at e in
+    let g : x ≡ b = cc in
+    let h : keep t l ≡ rest = cc in
+    (0, record { inside = omega arith; here = g; passes = rw g at y; none = refl; later = h }))
+    (λ n. let r = first-kept t l b rest (rw n at e) in
+    (suc (r .0), record { inside = omega (arith, r .1 .inside); here = r .1 .here; passes = r .1 .passes; none = rw n (r .1 .none); later = r .1 .later }))
+
+-- kept of a list that is turned round past the first kept
+pub keep-turned : (t : ℕ → Bool) (l : List ℕ) (b : ℕ) (rest : List ℕ) (i : ℕ) → FirstKept t l b rest i → keep t (drop (suc i) l ++ take (suc i) l) ≡ rest ++ (b ∷ [])
+keep-turned t l b rest i f =
+    let k = f .inside in
+    let e : take (suc i) l ≡ take i l ++ (b ∷ []) = rw (← f .here) (take-suc l i 0 k) in
+    keep-append t (drop (suc i) l) (take (suc i) l)
+    ∙ rw (f .later, e) (ap (λ (r : List ℕ). rest ++ r) (keep-append t (take i l) (b ∷ []) ∙ rw (f .none, f .passes)))

@@ -1,7 +1,7 @@
 -- Runs of stores in parts, place by place, and of what stands there already; and joined lists in parts.
 use mathlib.Core.List.{List, [], _∷_, _++_, map, append-assoc}
 use mathlib.Core.Path.{_≡_, refl, sym, ap, _∙_}
-use Prim.Native.Nat.{ℕ, zero, suc, _+_, _<_, _≤_}
+use Prim.Native.Nat.{ℕ, zero, suc, _+_, _*_, _<_, _≤_}
 use native.Mathlib.Nat.{add-zero}
 use native.Mathlib.Numerals.{add-one}
 use native.Mathlib.Omega.{arith}
@@ -36,3 +36,22 @@ module _ {A : Type 0} where
 pub joined-append : {A B : Type 0} (f : A → List B) (l m : List A) → joined (map f (l ++ m)) ≡ joined (map f l) ++ joined (map f m)
 joined-append f [] m = refl
 joined-append f (x ∷ l) m = ap (λ r. f x ++ r) (joined-append f l m) ∙ sym (append-assoc (f x) (joined (map f l)) (joined (map f m)))
+
+-- lists of three elements each, stored one after another from place k on
+module _ {A : Type 0} (f : A → List ℕ) (k : ℕ) where
+  -- storing from word k on the parts of l is, after i of them, storing those that are left
+  abbrev pub Parts : List ℕ → List A → List ℕ → ℕ → Type 0
+  Parts W₀ l W i = sets W₀ k (joined (map f l)) ≡ sets W (k + 3 * i) (joined (map f (drop i l)))
+
+  -- one part more
+  pub parts-turn : (W : List ℕ) (l : List A) (i : ℕ) (d : A) → i < length l → length (f (getD l i d)) ≡ 3
+      → sets W (k + 3 * i) (joined (map f (drop i l))) ≡ sets (sets W (k + 3 * i) (f (getD l i d))) (k + 3 * (i + 1)) (joined (map f (drop (i + 1) l)))
+  parts-turn W l i d h e =
+      let more : k + 3 * i + length (f (getD l i d)) ≡ k + 3 * (i + 1) = omega arith in
+      rw (add-one i, drop-cons l i d h)
+      (sets-append W (k + 3 * i) (f (getD l i d)) (joined (map f (drop (suc i) l)))
+      ∙ rw (more, add-one i))
+
+  -- none is left
+  pub parts-end : (W : List ℕ) (l : List A) (i : ℕ) → length l ≤ i → sets W (k + 3 * i) (joined (map f (drop i l))) ≡ W
+  parts-end W l i h = rw (drop-of-length-le l h)

@@ -1,12 +1,14 @@
 -- Laws of tests over lists.
-use mathlib.Core.Bool.{Bool, true, false, _&&_, _||_}
-use mathlib.Core.List.{List, [], _∷_, _++_, List·Memᴰ, List·Memᴰ·not-nil, List·Memᴰ·cases-cons}
+use mathlib.Core.Bool.{Bool, true, false, _&&_, _||_, true≢false}
+use mathlib.Core.List.{List, [], _∷_, _++_, List·Memᴰ, List·Memᴰ·not-nil, List·Memᴰ·cases-cons, List·Memᴰ·head, List·Memᴰ·tail}
 use mathlib.Core.Logic.{⊎-elim}
 use mathlib.Core.Path.{_≡_, refl, ap, ap₂, _∙_}
 use Prim.Native.Nat.{ℕ, zero, suc, _+_, _<_, _≤_}
 use native.Mathlib.Omega.{arith}
 use lib.ListN.{length, getD, take, drop, replicate}
-use Rattle.lists.specs.Lists.{keep, any, every, down}
+use lib.Dec.{eqb}
+use borrow.Author.Tests.{eqb-true, eqb-false, ne-eqb}
+use Rattle.lists.specs.Lists.{keep, any, every, empty, down}
 use Rattle.lists.proofs.Bools.{by-test, and-left, and-right, and-both, or-none}
 
 module _ {A : Type 0} where
@@ -44,6 +46,11 @@ module _ {A : Type 0} where
   every-mem t (y ∷ l) e m =
       ⊎-elim (λ q. ap t q ∙ and-left (t y) _ e) (λ r. every-mem t l (and-right (t y) _ e) r) (List·Memᴰ·cases-cons m)
 
+  -- and the way back
+  pub every-member : (t : A → Bool) (l : List A) → ((x : A) → List·Memᴰ x l → t x ≡ true) → every t l ≡ true
+  every-member t [] h = refl
+  every-member t (x ∷ l) h = and-both (t x) _ (h x (List·Memᴰ·head refl)) (every-member t l (λ y m. h y (List·Memᴰ·tail m)))
+
   -- what all pass, all that are kept pass
   pub every-keep : (t u : A → Bool) (l : List A) → every u l ≡ true → every u (keep t l) ≡ true
   every-keep t u [] e = refl
@@ -65,6 +72,14 @@ module _ {A : Type 0} where
   pub keep-none : (t : A → Bool) (l : List A) → any t l ≡ false → keep t l ≡ []
   keep-none t [] e = refl
   keep-none t (x ∷ l) e = let n = or-none (t x) (any t l) e in rw (n .0, keep-none t l (n .1))
+
+  -- kept by two tests, one after the other
+  pub keep-both : (s t u : A → Bool) → ((x : A) → u x ≡ (s x && t x)) → (l : List A) → keep u l ≡ keep s (keep t l)
+  keep-both s t u e [] = refl
+  keep-both s t u e (x ∷ l) =
+      by-test (t x)
+      (λ y. by-test (s x) (λ z. rw (e x, y, z, keep-both s t u e l)) (λ z. rw (e x, y, z, keep-both s t u e l)))
+      (λ y. by-test (s x) (λ z. rw (e x, y, z, keep-both s t u e l)) (λ z. rw (e x, y, z, keep-both s t u e l)))
 
   -- a test over two lists, one after the other
   pub every-append : (t : A → Bool) (l m : List A) → every t (l ++ m) ≡ (every t l && every t m)
@@ -91,8 +106,34 @@ module _ {A : Type 0} where
   every-replicate t zero a e = refl
   every-replicate t (suc n) a e = and-both (t a) _ e (every-replicate t n a e)
 
+  -- a list is empty where its length is 0
+  pub empty-length : (l : List A) → eqb (length l) 0 ≡ empty l
+  empty-length [] = refl
+  empty-length (x ∷ l) = ne-eqb (suc (length l)) 0 (λ e. omega arith)
+
+  pub empty-none : (l : List A) → length l ≤ 0 → l ≡ []
+  empty-none [] h = refl
+  empty-none (x ∷ l) h = absurd (omega arith)
+
+  -- by the test: it has no element, or one
+  pub empty-is : (l : List A) → empty l ≡ true → l ≡ []
+  empty-is [] e = refl
+  empty-is (x ∷ l) e = cc
+
+  pub empty-not : (l : List A) → empty l ≡ false → 1 ≤ length l
+  empty-not [] e = absurd (true≢false e)
+  empty-not (x ∷ l) e = omega arith
+
 -- two tests that agree on 1 to n keep the same of them
 pub keep-down : (t u : ℕ → Bool) (n : ℕ) → ((w : ℕ) → w ≤ n → t w ≡ u w) → keep t (down n) ≡ keep u (down n)
 unfolding down
 keep-down t u zero h = refl
 keep-down t u (suc n) h = rw (h (suc n) (omega arith), keep-down t u n (λ w k. h w (omega arith)))
+
+-- a test that nothing above m passes keeps of 1 to n what it keeps of 1 to m
+pub keep-up : (t : ℕ → Bool) (m n : ℕ) → m ≤ n → ((v : ℕ) → m < v → t v ≡ false) → keep t (down n) ≡ keep t (down m)
+unfolding down
+keep-up t m zero h k = let e : m ≡ 0 = omega arith in rw e
+keep-up t m (suc n) h k =
+    by-test (eqb m (suc n)) (λ y. rw (eqb-true m (suc n) y))
+    (λ f. let d = eqb-false m (suc n) f in rw (k (suc n) (omega arith)) (keep-up t m n (omega arith) k))

@@ -7,12 +7,12 @@ use native.Mathlib.Omega.{arith}
 use lib.ListN.{length, getD, take, drop, set, replicate, length-append}
 use lib.Seq.{take-take, take-nil, take-all, take-suc, take-append-le, take-append-seam, length-take-le}
 use lib.Dec.{eqb}
-use borrow.Author.Tests.{eqb-true, eqb-false, ne-eqb, not-true}
+use borrow.Author.Tests.{eqb-true, eqb-false, not-true}
 use Rattle.lists.specs.Lists.{elem, different, down}
 use Rattle.lists.proofs.Bools.{by-test, and-left, and-right, and-both, or-none}
-use Rattle.lists.proofs.Falling.{Falling, none, more}
+use Rattle.lists.proofs.Falling.{Falling, none, more, falling-high}
 use Rattle.lists.proofs.Shifts.{raised, raised-done}
-use Rattle.lists.proofs.Places.{length-insert, filled-insert}
+use Rattle.lists.proofs.Places.{length-insert, past, filled-insert}
 
 -- put inserts an element before the first that it outranks
 pub record Inserts {A : Type 0} (outranks : A → A → Bool) (put : A → List A → List A) : Type 0 where
@@ -101,11 +101,7 @@ module _ {A : Type 0} where
   insert-over k a x l r h =
       let g : length l < length (l ++ x ∷ r) = rw length-append (omega arith) in
       raised-done (length l) k (l ++ x ∷ r) a h g
-      ∙ rw (take-append-le k l (x ∷ r) h, take-append-seam l (x ∷ r), beyond l, append-assoc (take k l) (a ∷ drop k l) r)
-    where
-      beyond : (l : List A) → drop (suc (length l)) (l ++ x ∷ r) ≡ r
-      beyond [] = refl
-      beyond (y ∷ l) = beyond l
+      ∙ rw (take-append-le k l (x ∷ r) h, take-append-seam l (x ∷ r), past l r x, append-assoc (take k l) (a ∷ drop k l) r)
 
   -- the rest moved up from place k, over the last or the first free place, and a put there
   pub filled-over : (n : ℕ) (d : A) (l : List A) (k last : ℕ) (a : A) → k ≤ last → last ≤ length l → length l ≤ suc last → last < n
@@ -134,14 +130,14 @@ module _ {A : Type 0} where
 -- no number of a falling list is there twice
 pub falling-different : {m : ℕ} (l : List ℕ) → Falling m l → different l ≡ true
 falling-different [] none = refl
-falling-different (n ∷ l) (more a b f) = and-both (not (elem n l)) _ (rw (high n l (omega arith) f)) (falling-different l f)
-  where
-    high : {m : ℕ} (k : ℕ) (l : List ℕ) → m ≤ k → Falling m l → elem k l ≡ false
-    high k [] h none = refl
-    high k (n ∷ l) h (more a b f) = rw (ne-eqb n k (λ q. omega arith)) (high k l (omega arith) f)
+falling-different (n ∷ l) (more a b f) = and-both (not (elem n l)) _ (rw (falling-high n n l (omega arith) f)) (falling-different l f)
 
 -- n, .., 1 fall
 pub down-falling : (n : ℕ) → Falling (suc n) (down n)
 unfolding down
 down-falling zero = none
 down-falling (suc n) = more {m = suc (suc n)} {n = suc n} (omega arith) (omega arith) (down-falling n)
+
+-- so none of them is there twice
+pub different-down : (n : ℕ) → different (down n) ≡ true
+different-down n = falling-different (down n) (down-falling n)

@@ -1,5 +1,5 @@
 -- What a merge step does to the card's words: its output goes to free blocks, or fills its own chain further, and the last step frees the inputs.
-use Rattle.lists.proofs.Prelude.{Bool, true, false, _||_, _&&_, not, cond, List, [], _++_, map, append-assoc, _⊎_, inl, inr, _≡_, refl, sym, ap, _∙_, subst, ℕ, suc, _+_, _*_, _-_, _<_, _≤_, arith, eqb, ltb, length, getD, take, drop, replicate, length-append, length-map, length-replicate, getD-replicate, List·getD-append, getD-append-add, take-add, ltb-true, ltb-false, every, empty, different, same, joined, by-test, and-left, and-right, length-joined, same-true, every-take}
+use Rattle.lists.proofs.Prelude.{Bool, true, false, _||_, _&&_, not, cond, List, [], _++_, map, append-assoc, _⊎_, inl, inr, _≡_, refl, sym, ap, _∙_, subst, ℕ, suc, _+_, _*_, _-_, _<_, _≤_, arith, eqb, ltb, length, getD, take, drop, replicate, length-append, length-map, length-replicate, getD-replicate, List·getD-append, getD-append-add, take-add, ltb-true, ltb-false, every, empty, different, same, joined, by-test, and-left, and-right, length-joined, same-true, every-take, map-append, different-parts}
 use Rattle.words.specs.Words.{allOnes}
 use Rattle.postings.specs.declared.Posting.{Posting}
 use Rattle.postings.specs.Merge.{nonzero}
@@ -18,10 +18,9 @@ use Rattle.blocks.proofs.Refills.{refills}
 use Rattle.partitions.specs.Layout.{identifiersOf, termCount, lengthOf, header, entryOf, wordOf, encode}
 use Rattle.partitions.specs.Reading.{postingsOf}
 use Rattle.partitions.specs.Formed.{partitionsFormed, chainsOf, listRule, inRange}
-use Rattle.outputs.proofs.Freeing.{different-parts}
 use Rattle.plans.specs.Merging.{inputs, taking, result, outputLength, outputBlocks, progress, isLast, outputLevel, outputContent}
 use Rattle.plans.specs.Step.{inProgress, outputChain, outputRule, stepFormed, outputOn, writtenOn}
-use Rattle.plans.proofs.Progress.{front, nonzero-append, map-append, nonzero-take, length-progress, all-taken, result-room}
+use Rattle.plans.proofs.Progress.{front, nonzero-append, nonzero-take, length-progress, all-taken, result-room}
 use Rattle.plans.proofs.Drafting.{chain-first}
 
 -- Filled further ---------------------------------------------------------------------------------------------------------
@@ -69,7 +68,7 @@ module _ (s : State) (ps : List Posting) (j : ℕ) where
 
   -- together the words after the next step
   both : map wordOf (nonzero (take (16 * suc j) ps)) ≡ done ++ next
-  both = let e : 16 * suc j ≡ 16 * j + 16 = omega arith in rw (e, take-add (16 * j) 16 ps, nonzero-append, map-append)
+  both = let e : 16 * suc j ≡ 16 * j + 16 = omega arith in rw (e, take-add (16 * j) 16 ps, nonzero-append, map-append wordOf)
 
   -- header and entries, or the space for them
   abbrev heading : Bool → List ℕ

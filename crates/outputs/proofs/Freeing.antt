@@ -1,5 +1,5 @@
 -- The blocks of partitions freed, one partition after another.
-use Rattle.lists.proofs.Prelude.{Bool, true, false, _&&_, not, List, [], _∷_, _++_, map, _≡_, refl, sym, _∙_, ℕ, _+_, _*_, _<_, _≤_, arith, length, getD, take, drop, replicate, sets, AllOf, every, elem, different, joined, and-left, and-right, and-both, apart as apartBy, apart-append, apart-none, every-append, used-turn, used-end}
+use Rattle.lists.proofs.Prelude.{Bool, true, not, List, [], _∷_, _++_, map, _≡_, refl, sym, _∙_, ℕ, _+_, _*_, _<_, _≤_, arith, length, getD, take, drop, replicate, sets, AllOf, every, elem, different, joined, and-left, and-right, and-both, every-append, used-turn, used-end, Parted, different-parts}
 use Rattle.words.specs.Words.{allOnes}
 use Rattle.state.specs.declared.Partition.{Partition}
 use Rattle.card.specs.Chains.{blocksFor}
@@ -15,23 +15,6 @@ pub release-append : (W a b : List ℕ) → release W (a ++ b) ≡ release (rele
 unfolding release
 release-append W [] b = refl
 release-append W (d ∷ a) b = release-append (sets W (1024 * d) (replicate 1024 allOnes)) a b
-
--- a list that has no number twice, in two parts: neither has one twice, and no number stands in both
-pub record Parted (a b : List ℕ) : Type 0 where
-  pub left : different a ≡ true
-  pub right : different b ≡ true
-  pub apart : every (λ d. not (elem d a)) b ≡ true
-
-pub different-parts : (a b : List ℕ) → different (a ++ b) ≡ true → Parted a b
-different-parts a b e =
-    let none : ℕ → Bool = λ k. false in
-    let d : (apartBy none a && apartBy (λ k. elem k a) b) ≡ true = sym (apart-append none (λ k. elem k a) a b (λ k. refl)) ∙ apart-none none (a ++ b) (λ k. refl) ∙ e in
-    let r = and-right (apartBy none a) _ d in
-    record {
-      left = sym (apart-none none a (λ k. refl)) ∙ and-left (apartBy none a) _ d;
-      right = and-left (different b) _ r;
-      apart = and-right (different b) _ r;
-    }
 
 -- a test of all of joined lists is a test of each
 every-joined : (t : ℕ → Bool) (f : Partition → List ℕ) (qs : List Partition) → every t (joined (map f qs)) ≡ true → every (λ q. every t (f q)) qs ≡ true

@@ -1,5 +1,5 @@
 -- Free blocks linked one to the next, in the order of taking.
-use Rattle.lists.proofs.Prelude.{true, false, not, _&&_, List, [], _∷_, _++_, _≡_, refl, sym, ap, _∙_, ℕ, suc, _+_, _-_, _*_, _<_, _≤_, add-one, arith, eqb, ltb, length, getD, set, take, drop, length-set, length-append, drop-of-length-le, drop-cons, getD-take, getD-set-same, drop-set-lt, length-take-le, eqb-true, eqb-false, ltb-true, ltb-false, keep, every, by-test, and-left, and-right, part-set, every-append}
+use Rattle.lists.proofs.Prelude.{true, false, not, _&&_, List, [], _∷_, _++_, _≡_, refl, sym, ap, _∙_, ℕ, suc, _+_, _-_, _*_, _<_, _≤_, add-one, arith, eqb, ltb, length, getD, set, take, drop, length-set, length-append, drop-of-length-le, drop-cons, getD-take, getD-set-same, drop-set-lt, length-take-le, eqb-true, eqb-false, ltb-true, ltb-false, keep, every, by-test, and-left, and-right, part-set, every-append, keep-others, keep-both}
 use Rattle.words.specs.Words.{allOnes}
 use Rattle.card.specs.Blocks.{noBlock, block, link, isFree, afterTaken, freeBlocks}
 use Rattle.blocks.specs.declared.Free.{Free}
@@ -7,7 +7,7 @@ use Rattle.blocks.specs.Free.{firstOf}
 use Rattle.blocks.specs.Writes.{putBlock, store}
 use Rattle.blocks.proofs.FreeBlocks.{free-at, free-free, free-different, free-link}
 use Rattle.outputs.proofs.Free.{put-free}
-use Rattle.outputs.proofs.Turning.{free-turned, keep-others, keep-both}
+use Rattle.outputs.proofs.Turning.{free-turned}
 
 -- a block found is the first of a list
 pub found-first : (l : List ℕ) (b : ℕ) → Free.Block b ≡ firstOf l → b ≡ getD l 0 0

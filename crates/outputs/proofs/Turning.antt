@@ -1,58 +1,7 @@
 -- The order of taking from another block on: the blocks turned round.
-use Rattle.lists.proofs.Prelude.{Bool, true, false, not, _&&_, List, [], _∷_, _++_, _⊎_, inl, inr, ⊎-elim, _≡_, refl, sym, ap, _∙_, ℕ, suc, _+_, _-_, _<_, arith, eqb, ltb, length, getD, take, drop, length-append, length-drop, List·getD-append, length-take-le, getD-append-add, getD-take, getD-drop, take-suc, ext-getD, ltb-true, ltb-false, eqb-false, eq-eqb, ne-eqb, not-true, keep, elem, different, by-test, and-left, and-right, or-none, keep-append, any-append}
+use Rattle.lists.proofs.Prelude.{List, [], _∷_, _++_, _⊎_, inl, inr, ⊎-elim, _≡_, sym, ap, _∙_, ℕ, suc, _+_, _-_, _<_, arith, ltb, length, getD, take, drop, length-append, length-drop, List·getD-append, length-take-le, getD-append-add, getD-take, getD-drop, ext-getD, ltb-true, ltb-false, keep, by-test, first-kept, keep-turned}
 use Rattle.card.specs.Blocks.{isFree, afterTaken, freeBlocks}
 use Rattle.blocks.proofs.Taking.{length-after, after-up, after-round}
-
--- Lists --------------------------------------------------------------------------------------------------------------
-
--- the first element that a list keeps: what stands before it is not kept
-pub record FirstKept (t : ℕ → Bool) (l : List ℕ) (b : ℕ) (rest : List ℕ) (i : ℕ) : Type 0 where
-  pub inside : i < length l
-  pub here : getD l i 0 ≡ b
-  pub passes : t b ≡ true
-  pub none : keep t (take i l) ≡ []
-  pub later : keep t (drop (suc i) l) ≡ rest
-
-first-kept : (t : ℕ → Bool) (l : List ℕ) (b : ℕ) (rest : List ℕ) → keep t l ≡ b ∷ rest → (i : ℕ) × FirstKept t l b rest i
-first-kept t [] b rest e = let z : _≡_ {A = ℕ} 0 1 = cc in absurd (omega arith)
-first-kept t (x ∷ l) b rest e =
-    by-test (t x)
-    (λ y. let f : x ∷ keep t l ≡ b ∷ rest = rw y at e in
-    let g : x ≡ b = cc in
-    let h : keep t l ≡ rest = cc in
-    (0, record { inside = omega arith; here = g; passes = rw g at y; none = refl; later = h }))
-    (λ n. let r = first-kept t l b rest (rw n at e) in
-    (suc (r .0), record { inside = omega (arith, r .1 .inside); here = r .1 .here; passes = r .1 .passes; none = rw n (r .1 .none); later = r .1 .later }))
-
--- kept of a list that is turned round past the first kept
-keep-turned : (t : ℕ → Bool) (l : List ℕ) (b : ℕ) (rest : List ℕ) (i : ℕ) → FirstKept t l b rest i → keep t (drop (suc i) l ++ take (suc i) l) ≡ rest ++ (b ∷ [])
-keep-turned t l b rest i f =
-    let k = f .inside in
-    let e : take (suc i) l ≡ take i l ++ (b ∷ []) = rw (← f .here) (take-suc l i 0 k) in
-    keep-append t (drop (suc i) l) (take (suc i) l)
-    ∙ rw (f .later, e) (ap (λ (r : List ℕ). rest ++ r) (keep-append t (take i l) (b ∷ []) ∙ rw (f .none, f .passes)))
-
--- all but one, of a list that ends with it and another
-pub keep-others : (l : List ℕ) (x y : ℕ) → different ((l ++ (x ∷ [])) ++ (y ∷ [])) ≡ true → keep (λ d. not (eqb d x)) ((l ++ (x ∷ [])) ++ (y ∷ [])) ≡ l ++ (y ∷ [])
-keep-others [] x y d =
-    let o = or-none (eqb y x) false (not-true _ (and-left (not (elem x (y ∷ []))) _ d)) in
-    rw (eq-eqb x x refl, o .0)
-keep-others (g ∷ l) x y d =
-    let e = not-true (elem g ((l ++ (x ∷ [])) ++ (y ∷ []))) (and-left (not (elem g ((l ++ (x ∷ [])) ++ (y ∷ [])))) _ d) in
-    let r = and-right (not (elem g ((l ++ (x ∷ [])) ++ (y ∷ [])))) _ d in
-    let o = or-none (elem g (l ++ (x ∷ []))) _ (sym (any-append (λ m. eqb m g) (l ++ (x ∷ [])) (y ∷ [])) ∙ e) .0 in
-    let p = or-none (elem g l) _ (sym (any-append (λ m. eqb m g) l (x ∷ [])) ∙ o) .1 in
-    let q = or-none (eqb x g) false p .0 in
-    let s : eqb g x ≡ false = ne-eqb g x (λ z. eqb-false x g q (sym z)) in
-    rw (s, keep-others l x y r)
-
--- kept by two tests, one after the other
-pub keep-both : (s t u : ℕ → Bool) → ((x : ℕ) → u x ≡ (s x && t x)) → (l : List ℕ) → keep u l ≡ keep s (keep t l)
-keep-both s t u e [] = refl
-keep-both s t u e (x ∷ l) =
-    by-test (t x)
-    (λ y. by-test (s x) (λ z. rw (e x, y, z, keep-both s t u e l)) (λ z. rw (e x, y, z, keep-both s t u e l)))
-    (λ y. by-test (s x) (λ z. rw (e x, y, z, keep-both s t u e l)) (λ z. rw (e x, y, z, keep-both s t u e l)))
 
 -- The order of taking --------------------------------------------------------------------------------------------------
 

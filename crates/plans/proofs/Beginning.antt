@@ -1,5 +1,5 @@
 -- A merge begins: on its blocks, linked and all ones, the output stands as after no step.
-use Rattle.lists.proofs.Prelude.{Bool, true, false, not, List, [], _∷_, _++_, _≡_, refl, sym, ap, _∙_, ℕ, suc, _+_, _-_, _*_, _<_, _≤_, arith, eqb, ltb, length, getD, take, drop, replicate, length-replicate, replicate-append-replicate, length-take-le, eqb-true, eqb-false, every, elem, empty, different, by-test, and-left, and-right, and-both, apart as apartBy, apart-append, apart-none, different-take, every-take, every-append}
+use Rattle.lists.proofs.Prelude.{Bool, true, false, not, List, [], _∷_, _≡_, refl, sym, ap, _∙_, ℕ, suc, _+_, _-_, _*_, _<_, _≤_, arith, eqb, ltb, length, getD, take, drop, replicate, length-replicate, replicate-append-replicate, length-take-le, eqb-true, eqb-false, every, elem, empty, different, by-test, and-left, and-right, and-both, different-take, every-take, every-append, different-join, empty-none}
 use Rattle.words.specs.Words.{allOnes}
 use Rattle.postings.specs.declared.Posting.{Posting}
 use Rattle.postings.specs.Merge.{nonzero, pairs}
@@ -34,13 +34,6 @@ use Rattle.plans.proofs.Refusing.{blocks-told, some-there}
 
 -- Lists ------------------------------------------------------------------------------------------------------------------
 
--- two lists without repetition that share no number
-different-join : (a b : List ℕ) → different a ≡ true → different b ≡ true → every (λ d. not (elem d a)) b ≡ true → different (a ++ b) ≡ true
-different-join a b x y z =
-    let none : ℕ → Bool = λ k. false in
-    sym (apart-none none (a ++ b) (λ k. refl)) ∙ apart-append none (λ k. elem k a) a b (λ k. refl)
-    ∙ and-both (apartBy none a) _ (apart-none none a (λ k. refl) ∙ x) (and-both (different b) _ y z)
-
 every-chains : (t : ℕ → Bool) (W : List ℕ) (qs : List Partition) → every (λ q. every t (chainOf W q)) qs ≡ true → every t (chainsOf W qs) ≡ true
 unfolding chainsOf
 every-chains t W [] e = refl
@@ -60,10 +53,6 @@ last-at t (b ∷ c ∷ bs) h =
 pub first-at : (bs : List ℕ) → 1 ≤ length bs → getD bs 0 0 ≡ getD bs 0 noBlock
 first-at [] h = absurd (omega arith)
 first-at (b ∷ bs) h = refl
-
-empty-list : (l : List ℕ) → length l ≡ 0 → l ≡ []
-empty-list [] e = refl
-empty-list (b ∷ l) e = absurd (omega arith)
 
 -- Free blocks that are taken --------------------------------------------------------------------------------------------
 
@@ -176,7 +165,7 @@ module _ (W : List ℕ) (s : State) (is : Partitions) (t : Totals) (g : Judged W
   -- Either way ---------------------------------------------------------------------------------------------------------------
 
   none-bs : n ≡ 0 → bs ≡ []
-  none-bs z = empty-list bs (f .many ∙ z)
+  none-bs z = empty-none bs (omega (arith, f .many, z))
 
   none-same : n ≡ 0 → W₁ ≡ W
   unfolding store

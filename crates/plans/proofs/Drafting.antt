@@ -1,5 +1,5 @@
 -- The output on its blocks, from one step to the next.
-use Rattle.lists.proofs.Prelude.{Bool, true, false, cond, List, _++_, map, _≡_, refl, sym, ap, _∙_, ℕ, zero, suc, _+_, _*_, _<_, _≤_, arith, leb, eqb, length, getD, take, drop, length-append, length-map, sets, length-sets, eqb-true, eqb-false, AllOf, every, empty, joined, different, upTo, by-test, and-left, and-right, every-take, every-drop, every-keep, length-joined, length-rising}
+use Rattle.lists.proofs.Prelude.{Bool, true, false, cond, List, _++_, map, _≡_, refl, sym, ap, _∙_, ℕ, zero, suc, _+_, _*_, _<_, _≤_, arith, leb, eqb, length, getD, take, drop, length-append, length-map, sets, length-sets, eqb-true, eqb-false, AllOf, every, empty, joined, different, upTo, by-test, and-left, and-right, every-take, every-drop, every-keep, length-joined, length-rising, Parted, different-parts}
 use Rattle.postings.specs.declared.Posting.{Posting}
 use Rattle.postings.specs.Order.{ordered}
 use Rattle.postings.specs.Merge.{isCounted, nonzero, pairs}
@@ -30,7 +30,7 @@ use Rattle.outputs.specs.Contents.{written}
 use Rattle.outputs.specs.Entries.{entriesBy}
 use Rattle.outputs.proofs.Contents.{Blocks, Holds, holds-store, store-past, store-over}
 use Rattle.outputs.proofs.Entries.{entries-by}
-use Rattle.outputs.proofs.Freeing.{Parted, different-parts, every-chains}
+use Rattle.outputs.proofs.Freeing.{every-chains}
 use Rattle.plans.specs.declared.Output.{Output}
 use Rattle.plans.specs.Merging.{dueIn, inputs, taking, result, outputBlocks, outputLevel, progress, isLast, outputContent}
 use Rattle.plans.specs.Step.{writtenOn}

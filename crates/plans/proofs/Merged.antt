@@ -1,5 +1,5 @@
 -- The inputs of a merge are a part of the list of finished partitions: what holds of all holds of them.
-use Rattle.lists.proofs.Prelude.{Bool, true, false, cond, List, [], _∷_, _++_, map, _≡_, refl, sym, ap, _∙_, ℕ, zero, suc, _*_, _≤_, arith, eqb, leb, length, take, drop, length-take, take-append-drop, AllOf, every, joined, different, upTo, and-left, and-right, and-both, every-append, every-take, every-drop, every-keep}
+use Rattle.lists.proofs.Prelude.{Bool, true, false, cond, List, [], _∷_, _++_, map, _≡_, refl, sym, ap, _∙_, ℕ, zero, suc, _*_, _≤_, arith, eqb, leb, length, take, drop, length-take, take-append-drop, AllOf, every, joined, different, upTo, and-left, and-right, and-both, every-append, every-take, every-drop, every-keep, different-parts}
 use Rattle.lists.proofs.Stores.{joined-append}
 use Rattle.postings.specs.declared.Posting.{Posting}
 use Rattle.postings.specs.Pack.{posted}
@@ -15,7 +15,6 @@ use Rattle.partitions.specs.Formed.{partitionRule, chainsOf, ascending}
 use Rattle.partitions.specs.Terms.{Readable}
 use Rattle.partitions.proofs.Starts.{rule-readable}
 use Rattle.partitions.proofs.Kept.{AgreeAll}
-use Rattle.outputs.proofs.Freeing.{different-parts}
 use Rattle.levels.proofs.Choosing.{levelOf}
 
 -- A part of a list -----------------------------------------------------------------------------------------------------

@@ -1,5 +1,5 @@
 -- The content of the output, from step to step.
-use Rattle.lists.proofs.Prelude.{true, false, List, [], _∷_, _++_, map, append-nil, append-assoc, _≡_, refl, sym, ap, _∙_, ℕ, suc, _+_, _*_, _≤_, arith, leb, length, take, drop, replicate, length-take, length-drop, length-append, length-map, length-replicate, take-append-drop, sets, sets-eq, take-all, take-add, drop-at, leb-true, leb-false, le-leb, lt-leb, joined, empty, by-test, keep-append, length-joined}
+use Rattle.lists.proofs.Prelude.{true, false, List, _++_, map, append-nil, append-assoc, _≡_, refl, sym, ap, _∙_, ℕ, suc, _+_, _*_, _≤_, arith, leb, length, take, drop, replicate, length-take, length-drop, length-append, length-map, length-replicate, take-append-drop, sets, sets-eq, take-all, take-add, drop-at, leb-true, leb-false, le-leb, lt-leb, joined, empty, by-test, keep-append, length-joined, map-append}
 use Rattle.lists.proofs.Stores.{sets-append}
 use Rattle.words.specs.Words.{allOnes}
 use Rattle.postings.specs.declared.Posting.{Posting}
@@ -13,10 +13,6 @@ use Rattle.plans.specs.Merging.{result, outputBlocks, progress, isLast}
 pub nonzero-append : (a b : List Posting) → nonzero (a ++ b) ≡ nonzero a ++ nonzero b
 unfolding nonzero
 nonzero-append a b = keep-append isCounted a b
-
-pub map-append : (a b : List Posting) → map wordOf (a ++ b) ≡ map wordOf a ++ map wordOf b
-map-append [] b = refl
-map-append (p ∷ a) b = rw (map-append a b)
 
 -- of the first n pairs there are no more than of all
 pub nonzero-take : (n : ℕ) (ps : List Posting) → length (nonzero (take n ps)) ≤ length (nonzero ps)
@@ -35,7 +31,7 @@ module _ (ps : List Posting) where
   unfolding progress
   progress-more j =
       let e : 16 * suc j ≡ 16 * j + 16 = omega arith in
-      rw (e, take-add (16 * j) 16 ps, nonzero-append, map-append) (sym (append-assoc (replicate front allOnes) _ _))
+      rw (e, take-add (16 * j) 16 ps, nonzero-append, map-append wordOf) (sym (append-assoc (replicate front allOnes) _ _))
 
   -- how long it is
   pub length-progress : (j : ℕ) → length (progress ps j) ≡ front + length (nonzero (take (16 * j) ps))

@@ -1,5 +1,5 @@
 -- The rule of the output in progress, test by test.
-use Rattle.lists.proofs.Prelude.{Bool, true, false, cond, _&&_, List, [], _∷_, _≡_, refl, sym, ap, _∙_, ℕ, suc, _+_, _*_, _<_, _≤_, arith, eqb, length, take, drop, length-append, take-append-drop, eqb-true, eq-eqb, ne-eqb, le-leb, lt-leb, empty, by-test, and-left, and-right, same-true}
+use Rattle.lists.proofs.Prelude.{Bool, true, false, cond, _&&_, List, [], _≡_, sym, ap, _∙_, ℕ, suc, _+_, _*_, _<_, _≤_, arith, eqb, length, take, drop, length-append, take-append-drop, eqb-true, eq-eqb, ne-eqb, le-leb, lt-leb, empty, by-test, and-left, and-right, same-true, empty-length, empty-none}
 use Rattle.postings.specs.declared.Posting.{Posting}
 use Rattle.postings.specs.Merge.{nonzero, pairs}
 use Rattle.state.specs.declared.Partition.{Partition}
@@ -22,16 +22,6 @@ use Rattle.levels.proofs.Choosing.{finished-of}
 use Rattle.plans.proofs.Progress.{nonzero-append, nonzero-take, result-room, last-taken}
 use Rattle.plans.proofs.Drafting.{terms-told, postings-told, pairs-told}
 
--- Lists ------------------------------------------------------------------------------------------------------------------
-
-empty-length : (r : List Posting) → empty r ≡ eqb (length r) 0
-empty-length [] = refl
-empty-length (p ∷ r) = sym (ne-eqb (suc (length r)) 0 (λ e. omega arith))
-
-none-length : (l : List Posting) → length l ≤ 0 → l ≡ []
-none-length [] h = refl
-none-length (p ∷ l) h = absurd (omega arith)
-
 -- Told by the totals -----------------------------------------------------------------------------------------------------
 
 module _ (W : List ℕ) (s : State) (is : Partitions) (t : Totals) (g : Judged W s is t) where
@@ -39,7 +29,7 @@ module _ (W : List ℕ) (s : State) (is : Partitions) (t : Totals) (g : Judged W
   ps = taking W s
 
   pub empty-told : eqb (t .postings) 0 ≡ empty (result ps)
-  empty-told = ap (λ (k : ℕ). eqb k 0) (postings-told W s is t g) ∙ sym (empty-length (result ps))
+  empty-told = ap (λ (k : ℕ). eqb k 0) (postings-told W s is t g) ∙ empty-length (result ps)
 
   pub length-told : lengthFrom t ≡ outputLength (result ps)
   unfolding lengthOf
@@ -118,9 +108,9 @@ module _ (W : List ℕ) (s : State) (is : Partitions) (t : Totals) (g : Judged W
     -- an empty result
     pub acts-none : n ≡ 0 → s .merge .first ≡ noBlock → o .written ≡ 0 → b .used ≡ 0 → b .taken ≡ 16 → Acts W s o b
     acts-none z e w u k =
-        let nothing : length (nonzero ps) ≡ 0 = eqb-true (length (nonzero ps)) 0 (sym (empty-length (nonzero ps)) ∙ none-empty z) in
+        let nothing : length (nonzero ps) ≡ 0 = eqb-true (length (nonzero ps)) 0 (empty-length (nonzero ps) ∙ none-empty z) in
         let after : nonzero (take 16 (drop (16 * j) ps)) ≡ [] =
-        none-length (nonzero (take 16 (drop (16 * j) ps)))
+        empty-none (nonzero (take 16 (drop (16 * j) ps)))
         (omega (arith, nonzero-take 16 (drop (16 * j) ps), ap (λ (l : List Posting). length (nonzero l)) (take-append-drop (16 * j) ps), ap length (nonzero-append (take (16 * j) ps) (drop (16 * j) ps)), length-append (nonzero (take (16 * j) ps)) (nonzero (drop (16 * j) ps)))) in
         record {
           blocks = many ∙ blocks-told;

@@ -1,5 +1,5 @@
 -- A step as its definition says: what is judged, the refusals in their order, and what is left.
-use Rattle.lists.proofs.Prelude.{Bool, true, false, cond, not, _&&_, _||_, List, [], _∷_, _≡_, refl, sym, ap, _∙_, ℕ, zero, suc, _*_, _%_, _<_, _≤_, arith, eqb, leb, ltb, length, getD, take, eq-eqb, ne-eqb, eqb-true, leb-true, leb-false, lt-ltb, le-ltb, not-true, not-false, AllOf, every, empty, by-test, and-left, and-right, and-both, never}
+use Rattle.lists.proofs.Prelude.{Bool, true, false, cond, not, _&&_, _||_, List, [], _∷_, _≡_, refl, sym, ap, _∙_, ℕ, zero, suc, _*_, _%_, _<_, _≤_, arith, eqb, leb, ltb, length, getD, take, eq-eqb, ne-eqb, eqb-true, leb-true, leb-false, lt-ltb, le-ltb, not-true, not-false, AllOf, every, empty, by-test, and-left, and-right, and-both, never, and-assoc}
 use Rattle.words.specs.Words.{words, bytes}
 use Rattle.words.proofs.Views.{length-words}
 use Rattle.postings.specs.declared.Posting.{Posting}
@@ -145,11 +145,7 @@ module _ (W : List ℕ) (s : State) where
   module _ (p : partitionsFormed W (blocks s) (finished (s .partitions)) ≡ true) where
     formed-rest : stepFormed W s ≡ (inputsFormed W (inputs s) && (not (inProgress s) || outputRule W s (taking W s)))
     unfolding stepFormed inputsFormed taking
-    formed-rest = rw p (sym (regroup (every (λ q. listRule (postingsOf W q)) (inputs s)) (allInRange (pairs (inPartitions W (inputs s)))) _))
-      where
-        regroup : (a b c : Bool) → ((a && b) && c) ≡ (a && (b && c))
-        regroup true b c = refl
-        regroup false b c = refl
+    formed-rest = rw p (sym (and-assoc (every (λ q. listRule (postingsOf W q)) (inputs s)) (allInRange (pairs (inPartitions W (inputs s)))) _))
 
     pub formed-inputs : inputsFormed W (inputs s) ≡ false → stepFormed W s ≡ false
     formed-inputs e = formed-rest ∙ rw e

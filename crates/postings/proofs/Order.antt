@@ -1,5 +1,5 @@
 -- The order of postings is strict and leaves no two pairs aside, and an ordered list has each pair once.
-use Rattle.lists.proofs.Prelude.{Bool, true, false, _&&_, true≢false, and-false, List, [], _∷_, _⊎_, inl, inr, _≡_, refl, sym, ap₂, ℕ, _<_, _≤_, arith, ltb, eqb, ltb-true, ltb-false, eqb-true, eqb-false, lt-ltb, le-ltb, eq-eqb, ne-eqb, keep, any, every, by-test, and-left, and-right, and-both, or-right, every-from, every-keep}
+use Rattle.lists.proofs.Prelude.{Bool, true, false, _&&_, true≢false, and-false, List, [], _∷_, _⊎_, inl, inr, _≡_, refl, ap₂, _<_, _≤_, arith, ltb, eqb, ltb-true, ltb-false, eqb-true, eqb-false, lt-ltb, le-ltb, eq-eqb, keep, any, every, by-test, and-left, and-right, and-both, or-right, every-from, every-keep, eqb-swap, near-next}
 use Rattle.postings.specs.Order.{precedes, samePair, ordered}
 use Rattle.postings.specs.declared.Posting.{Posting}
 
@@ -53,10 +53,7 @@ precedes-total p q e f =
 
 -- of one pair, either way round
 pub same-swap : (p q : Posting) → samePair p q ≡ samePair q p
-same-swap p q = ap₂ _&&_ (swap (p .id) (q .id)) (swap (p .window) (q .window))
-  where
-    swap : (a b : ℕ) → eqb a b ≡ eqb b a
-    swap a b = by-test (eqb a b) (λ y. rw (y, eq-eqb b a (sym (eqb-true a b y)))) (λ n. rw (n, ne-eqb b a (λ e. eqb-false a b n (sym e))))
+same-swap p q = ap₂ _&&_ (eqb-swap (p .id) (q .id)) (eqb-swap (p .window) (q .window))
 
 -- a posting that stands before another is of another pair
 pub precedes-apart : (p q : Posting) → precedes p q ≡ true → samePair p q ≡ false
@@ -75,12 +72,7 @@ before-all p q l e o =
 
 -- a list is ordered where each posting stands before the next
 pub ordered-next : (p q : Posting) (l : List Posting) → ordered (p ∷ q ∷ l) ≡ (precedes p q && ordered (q ∷ l))
-ordered-next p q l = same (precedes p q) (every (precedes p) l) (ordered (q ∷ l)) (λ y o. and-right (precedes p q) _ (before-all p q l y o))
-  where
-    same : (a b c : Bool) → (a ≡ true → c ≡ true → b ≡ true) → ((a && b) && c) ≡ (a && c)
-    same true b true h = rw (h refl refl)
-    same true b false h = and-false b
-    same false b c h = refl
+ordered-next = near-next ordered precedes (λ p l. refl) precedes-trans
 
 -- any part of an ordered list, as it stands, is ordered
 pub keep-ordered : (t : Posting → Bool) (l : List Posting) → ordered l ≡ true → ordered (keep t l) ≡ true

@@ -1,12 +1,12 @@
 -- What is gathered of a query's identifiers, identifier by identifier.
-use Rattle.lists.proofs.Prelude.{true, false, _&&_, List, [], _∷_, _++_, map, map-append, _≡_, refl, sym, ap, _∙_, subst, ℕ, _+_, _*_, _<_, _≤_, add-one, arith, ltb, length, getD, take, drop, length-take, length-append, drop-of-length-le, drop-cons, take-suc, take-all, take-append-le, lt-ltb, le-ltb, keep, every, totalBy, AllOf, never, keep-append}
+use Rattle.lists.proofs.Prelude.{true, false, _&&_, List, [], _∷_, _++_, map, map-append, _≡_, refl, sym, ap, _∙_, subst, ℕ, _+_, _*_, _<_, _≤_, add-one, arith, ltb, length, getD, take, drop, length-take, length-append, drop-of-length-le, drop-cons, take-suc, take-all, take-append-le, lt-ltb, le-ltb, keep, every, AllOf, never, keep-append, total-more}
 use Rattle.postings.specs.Sums.{under}
 use Rattle.state.specs.declared.State.{State}
 use Rattle.identifiers.specs.Names.{Name, numberOf, numbersOf}
 use Rattle.partitions.specs.Reading.{stored}
 use Rattle.partitions.specs.Formed.{identifierFormed}
 use Rattle.kway.specs.Parts.{parts}
-use Rattle.kway.proofs.Parts.{putIn, all-more, put-here, map-more}
+use Rattle.kway.proofs.Parts.{putIn, all-more, put-here}
 use Rattle.scores.specs.declared.counting.Counted.{Counted}
 use Rattle.scores.specs.Terms.{Term, KeptGroup, termOf, termsOf, Serves, CountedFor}
 use Rattle.terms.proofs.Fronts.{parts-front}
@@ -14,10 +14,6 @@ use Rattle.queries.specs.declared.judging.Known.{Known}
 use Rattle.queries.specs.Gathered.{storedUnder, Serving, none, more, Keeps, KeptOf, Gathered}
 
 -- ---- one term more
-
-total-more : (f : ℕ → ℕ) (is : List ℕ) (i : ℕ) → totalBy f (is ++ (i ∷ [])) ≡ totalBy f is + f i
-total-more f [] i = omega arith
-total-more f (j ∷ is) i = let r = total-more f is i in omega arith
 
 parts-put : (w n : ℕ) (H P : List ℕ) → w * n + w ≤ length H → length P ≡ w → parts w (n + 1) (putIn w H P n) ≡ parts w n H ++ (P ∷ [])
 unfolding parts
@@ -49,7 +45,7 @@ module _ (W R : List ℕ) (s : State) where
       let g = q .kept f in
       let p : parts size (r .used) (putIn size H P (k .used)) ≡ parts size (k .used) H ++ (P ∷ []) = ap (λ (n : ℕ). parts size n (putIn size H P (k .used))) nu ∙ parts-put size (k .used) H P fits (g .long) in
       let ts : termsOf W R (s .partitions .used + 1) (r .used) (putIn size H P (k .used)) ≡ termsOf W R (s .partitions .used + 1) (k .used) H ++ (termOf W R (s .partitions .used + 1) P ∷ []) =
-      ap (map (termOf W R (s .partitions .used + 1))) p ∙ map-more (termOf W R (s .partitions .used + 1)) (parts size (k .used) H) P in
+      ap (map (termOf W R (s .partitions .used + 1))) p ∙ map-append (termOf W R (s .partitions .used + 1)) (parts size (k .used) H) (P ∷ []) in
       let served : Serving W s is (termsOf W R (s .partitions .used + 1) (k .used) H) = subst (λ (l : List ℕ). Serving W s l (termsOf W R (s .partitions .used + 1) (k .used) H)) b (v .served) in
       let kt : k .taken ≡ storedUnder W s is = v .taken ∙ ap (storedUnder W s) b in
       record {

@@ -1,5 +1,5 @@
 -- Laws of the order of entries, and that identifiers whose places are in ascending order differ.
-use Rattle.lists.proofs.Prelude.{Bool, true, false, or-false, List, [], _∷_, _≡_, refl, sym, ap, _∙_, ⊎-elim, ℕ, zero, suc, _+_, _-_, _<_, _≤_, eq-or-lt-of-le, arith, ltb, leb, eqb, length, getD, take, drop, set, replicate, length-append, length-drop, List·getD-append, drop-cons, drop-at, getD-take, getD-drop, length-take-le, take-all, ext-getD, leb-true, ltb-true, ltb-false, lt-ltb, le-ltb, eqb-true, eq-eqb, ne-eqb, any, same, by-test, and-left, and-right, never, same-true, every-at}
+use Rattle.lists.proofs.Prelude.{Bool, true, false, or-false, List, [], _∷_, _≡_, refl, sym, ap, _∙_, ⊎-elim, ℕ, zero, suc, _+_, _-_, _<_, _≤_, eq-or-lt-of-le, arith, ltb, leb, eqb, length, getD, take, drop, set, replicate, length-append, length-drop, List·getD-append, drop-cons, drop-at, getD-take, getD-drop, length-take-le, take-all, ext-getD, leb-true, ltb-true, ltb-false, lt-ltb, le-ltb, eqb-true, eq-eqb, ne-eqb, any, same, by-test, and-left, and-right, never, same-true, every-at, List·getD-eq-default}
 use Rattle.words.specs.Words.{words, Below}
 use Rattle.words.proofs.Views.{length-words}
 use Rattle.identifiers.specs.Names.{Name, distinct}
@@ -73,11 +73,6 @@ below-set n (x ∷ l) (suc i) v b s (suc k) = below-set n l i v (λ j. b (suc j)
 
 -- ---- an entry is told by its identifier
 
-getD-past : (l : List ℕ) (k : ℕ) → length l ≤ k → getD l k 0 ≡ 0
-getD-past [] k h = refl
-getD-past (x ∷ l) zero h = absurd (omega arith)
-getD-past (x ∷ l) (suc k) h = getD-past l k (omega arith)
-
 -- the byte at a place of an entry whose identifier is n
 byteFrom : List ℕ → ℕ → ℕ
 byteFrom n zero = length n
@@ -103,7 +98,7 @@ module _ (e : List ℕ) (h : length e ≡ 65) (rule : entryRule e ≡ true) wher
       let z = every-at (λ b. eqb b 0) (drop (1 + size e) e) 0 (and-right (leb (size e) 64) _ rule) (j - size e) (omega (arith, length-drop (1 + size e) e)) in
       let q : 1 + size e + (j - size e) ≡ suc j = omega arith in
       let v : getD e (suc j) 0 ≡ 0 = rw q at (sym (getD-drop (1 + size e) e (j - size e) 0) ∙ eqb-true _ 0 z) in
-      v ∙ sym (getD-past (nameOf e) j (omega (arith, name-length))))
+      v ∙ sym (List·getD-eq-default (nameOf e) 0 {n = j} (omega (arith, name-length))))
 
 same-entry : (e g : List ℕ) → length e ≡ 65 → length g ≡ 65 → entryRule e ≡ true → entryRule g ≡ true → nameOf e ≡ nameOf g → e ≡ g
 same-entry e g a b p q n =

@@ -1,5 +1,5 @@
 -- A judged window's counts can be taken back from the buffer, with a flush first or without.
-use Rattle.lists.proofs.Prelude.{true, List, [], List·Memᴰ, _≡_, refl, ap, _∙_, ℕ, zero, suc, _+_, _≤_, arith, leb, ℤ, pos, negsuc, natAbs, negℤ, _+ℤ_, +ℤ-idr, +ℤ-invl, +ℤ-assoc, negℤ-+ℤ, length, leb-true, le-leb, eqb-true, ltb-false, every, empty, by-test, and-left, and-right, and-both}
+use Rattle.lists.proofs.Prelude.{true, List, [], List·Memᴰ, _≡_, refl, ap, _∙_, ℕ, zero, suc, _+_, _≤_, arith, leb, ℤ, pos, negsuc, natAbs, negℤ, _+ℤ_, +ℤ-idr, +ℤ-invl, +ℤ-assoc, negℤ-+ℤ, length, leb-true, le-leb, eqb-true, ltb-false, every, empty, by-test, and-left, and-right, and-both, every-member, empty-length}
 use Rattle.words.specs.Words.{words}
 use Rattle.postings.specs.declared.Posting.{Posting}
 use Rattle.postings.specs.Order.{ordered}
@@ -15,12 +15,12 @@ use Rattle.buffer.proofs.Canonical.{canonical-of, rule-canonical, rule-counts}
 use Rattle.flushes.specs.declared.Target.{Target}
 use Rattle.flushes.specs.Flush.{flushedTo}
 use Rattle.flushes.specs.Targets.{Aimed}
-use Rattle.flushes.proofs.Targets.{empty-length, not-wanted-only}
+use Rattle.flushes.proofs.Targets.{not-wanted-only}
 use Rattle.sums.specs.declared.Counts.{Counts}
 use Rattle.sums.specs.Views.{countsIn}
 use Rattle.removals.specs.Removal.{ofWindow, countsOf, listsFormed, removalFormed, removalFlushes}
 use Rattle.removals.specs.Taking.{takeable, Takeable, Removable}
-use Rattle.sums.proofs.Windowed.{every-member, window-fits, counts-ordered, counts-some, count-there}
+use Rattle.sums.proofs.Windowed.{window-fits, counts-ordered, counts-some, count-there}
 
 -- ---- signed numbers
 

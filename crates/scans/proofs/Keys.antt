@@ -1,5 +1,5 @@
 -- Keys of postings: their order is that of the postings, and their sums are those of the pairs.
-use Rattle.lists.proofs.Prelude.{Bool, true, false, _&&_, and-false, List, [], _∷_, map, _≡_, refl, sym, ap, ap₂, _∙_, ℕ, _<_, _≤_, arith, leb, ltb, eqb, leb-true, ltb-true, ltb-false, eqb-true, eqb-false, lt-ltb, le-ltb, eq-eqb, ne-eqb, every, joined, by-test, and-left, and-right}
+use Rattle.lists.proofs.Prelude.{Bool, true, _&&_, List, [], _∷_, map, _≡_, refl, sym, ap, ap₂, _∙_, ℕ, _<_, _≤_, arith, leb, ltb, eqb, leb-true, ltb-true, ltb-false, eqb-true, eqb-false, lt-ltb, le-ltb, eq-eqb, ne-eqb, every, joined, by-test, and-left, and-right, and-past-two}
 use Rattle.keyed.specs.Keys.{falls, allFall, sumOf, sums}
 use Rattle.postings.specs.declared.Posting.{Posting}
 use Rattle.postings.specs.Order.{precedes, samePair, ordered}
@@ -75,12 +75,7 @@ falls-next m p (q ∷ l) k =
     let a = and-left (isKeyed p) _ k in
     let r = and-right (isKeyed p) _ k in
     rw (falls-next (keyOf (p .id) (p .window)) q l r, key-precedes p q a (and-left (isKeyed q) _ r), ordered-next p q l)
-    (ap (λ (t : Bool). ltb (keyOf (p .id) (p .window)) m && t) (shuffle (rule p) (precedes p q) (ordered (q ∷ l)) (every rule (q ∷ l))))
-  where
-    shuffle : (f t o e : Bool) → (f && (t && (o && e))) ≡ ((t && o) && (f && e))
-    shuffle true true o e = refl
-    shuffle true false o e = refl
-    shuffle false t o e = sym (and-false (t && o))
+    (ap (λ (t : Bool). ltb (keyOf (p .id) (p .window)) m && t) (and-past-two (rule p) (precedes p q) (ordered (q ∷ l)) (every rule (q ∷ l))))
 
 pub falls-rule : (l : List Posting) → every isKeyed l ≡ true → falls 67108864 (map itemOf l) ≡ listRule l
 unfolding listRule

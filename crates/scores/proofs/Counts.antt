@@ -1,5 +1,5 @@
 -- How many postings heads have to come, and the numbers in front of a group's heads.
-use Rattle.lists.proofs.Prelude.{true, List, [], _∷_, _++_, map, _≡_, refl, sym, ap, _∙_, ℕ, zero, suc, _+_, _-_, _*_, _<_, _≤_, add-one, arith, ltb, length, getD, take, drop, set, length-map, length-take, length-drop, drop-of-length-le, length-append, getD-take, getD-drop, take-all, take-suc, take-suc-set, ltb-true, ltb-false, totalBy, AllOf, by-test, and-left, and-right}
+use Rattle.lists.proofs.Prelude.{true, List, [], _∷_, map, _≡_, refl, sym, ap, _∙_, ℕ, zero, suc, _+_, _-_, _*_, _<_, _≤_, add-one, arith, ltb, length, getD, take, drop, set, length-map, length-take, length-drop, drop-of-length-le, length-append, getD-take, getD-drop, take-all, take-suc, take-suc-set, ltb-true, ltb-false, totalBy, AllOf, by-test, and-left, and-right, total-more, append-nil}
 use borrow.Rule.Slice.PartMut.{putMid}
 use Rattle.keyed.specs.Keys.{Item, falls, allFall}
 use Rattle.card.proofs.Cursors.{length-ahead}
@@ -59,17 +59,9 @@ module _ (W R : List ℕ) where
     left-few = let f = falls-short 65536 (view W R (part 4 i H)) (all-at (λ x. falls 65536 (view W R x) ≡ true) 4 m H (each-falls (parts 4 m H) fall) i h) in omega (arith, left-at)
 
     pub left-more : (t : ℕ) → t ≡ totalBy length (views W R i H) → t + getD H (4 * i + 3) 0 ≡ totalBy length (views W R (i + 1) H)
-    left-more t e = rw (views-more (view W R) 4 i H, total-more (views W R i H) (view W R (part 4 i H)), ← e, left-at)
-      where
-        total-more : (l : List (List Item)) (x : List Item) → totalBy length (l ++ (x ∷ [])) ≡ totalBy length l + length x
-        total-more [] x = omega arith
-        total-more (y ∷ l) x = let r = total-more l x in omega arith
+    left-more t e = rw (views-more (view W R) 4 i H, total-more length (views W R i H) (view W R (part 4 i H)), ← e, left-at)
 
 -- ---- the numbers in front
-
--- all but four
-pub rest-four : (G : List ℕ) → 4 ≤ length G → take (length G - 4) (drop 4 G) ≡ drop 4 G
-rest-four G h = take-all (length G - 4) (drop 4 G) (omega (arith, length-drop 4 G))
 
 -- four numbers, and others
 front : (Q : List ℕ → Type 0) → ((a b c d : ℕ) (G : List ℕ) → Q (a ∷ b ∷ c ∷ d ∷ G)) → (G : List ℕ) → 4 ≤ length G → Q G
@@ -92,11 +84,7 @@ headed G a b c d h = front (λ G. Headed a b c d (drop 4 G) (set (set (set (set 
 
 -- the numbers behind four put back
 pub put-behind : (G P : List ℕ) → 4 ≤ length G → length P ≡ length G - 4 → drop 4 (putMid 4 (length G - 4) G P) ≡ P
-put-behind G P h l = front (λ G. length P ≡ length G - 4 → drop 4 (putMid 4 (length G - 4) G P) ≡ P) (λ a b c d G l. rw (drop-of-length-le G {i = length (a ∷ b ∷ c ∷ d ∷ G) - 4} (omega arith)) (end P)) G h l
-  where
-    end : (P : List ℕ) → P ++ [] ≡ P
-    end [] = refl
-    end (z ∷ P) = rw (end P)
+put-behind G P h l = front (λ G. length P ≡ length G - 4 → drop 4 (putMid 4 (length G - 4) G P) ≡ P) (λ a b c d G l. rw (drop-of-length-le G {i = length (a ∷ b ∷ c ∷ d ∷ G) - 4} (omega arith)) (append-nil P)) G h l
 
 pub put-behind-long : (G P : List ℕ) → 4 ≤ length G → length P ≡ length G - 4 → length (putMid 4 (length G - 4) G P) ≡ length G
 put-behind-long G P h l =

@@ -1,5 +1,5 @@
 -- From what the judging tells of an identifier's heads to its term.
-use Rattle.lists.proofs.Prelude.{true, false, List, [], _∷_, _++_, map, ⊎-elim, _≡_, sym, ap, ap₂, _∙_, subst, ℕ, zero, suc, _+_, _-_, _*_, _<_, _≤_, eq-or-lt-of-le, arith, ltb, ℤ, pos, _+ℤ_, +ℤ-assoc, +ℤ-idl, +ℤ-idr, length, drop, set, length-set, ltb-true, ltb-false, every, totalBy, AllOf, by-test, and-left, and-right, never}
+use Rattle.lists.proofs.Prelude.{true, false, List, [], _∷_, _++_, map, ⊎-elim, _≡_, sym, ap, ap₂, _∙_, subst, ℕ, zero, suc, _+_, _-_, _*_, _<_, _≤_, eq-or-lt-of-le, arith, ltb, ℤ, pos, _+ℤ_, +ℤ-assoc, +ℤ-idl, +ℤ-idr, length, drop, set, length-set, ltb-true, ltb-false, every, totalBy, AllOf, by-test, and-left, and-right, never, total-more}
 use borrow.Rule.Slice.PartMut.{putMid}
 use Rattle.keyed.specs.Keys.{Item, falls, allFall, sumOf, sums, overKeys, topFrom}
 use Rattle.keyed.specs.Groups.{Group, allFallAll}
@@ -36,10 +36,6 @@ sums-more k (x ∷ g) l = ap (λ (z : ℤ). sumOf k x +ℤ z) (sums-more k g l) 
 falls-more : (m : ℕ) (g : Group) (l : List Item) → allFall m g ≡ true → falls m l ≡ true → allFall m (g ++ (l ∷ [])) ≡ true
 falls-more m [] l e f = rw f
 falls-more m (x ∷ g) l e f = by-test (falls m x) (λ y. rw y (falls-more m g l (rw y at e) f)) (λ y. never (rw y at e))
-
-size-more : (g : Group) (l : List Item) → totalBy length (g ++ (l ∷ [])) ≡ totalBy length g + length l
-size-more [] l = omega arith
-size-more (x ∷ g) l = let r = size-more g l in omega arith
 
 -- ---- a test of every window says that of one
 
@@ -115,7 +111,7 @@ module _ (W R : List ℕ) (s : State) (i : ℕ) (H : List ℕ) (opens : Opens W 
 
     -- how many postings are stored
     pub all-size : totalBy length all ≡ length (under i (stored W s))
-    all-size = ap (totalBy length) all-parts ∙ size-more cards run ∙ sym (size-same W R s i H opens small few order rules)
+    all-size = ap (totalBy length) all-parts ∙ total-more length cards run ∙ sym (size-same W R s i H opens small few order rules)
 
     -- the term stands for the identifier
     pub all-serves : (t : Term) → t ≡ record { lists = all; weight = idfWeight (s .windows .live) n } → Serves W s i t

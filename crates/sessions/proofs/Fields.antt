@@ -1,5 +1,5 @@
 -- The order of lent fields, where it is known.
-use Rattle.lists.proofs.Prelude.{List, [], _∷_, map, _≡_, refl, sym, _∙_, ap, ℕ, zero, suc, _-_, _≤_, arith, length, take, drop, length-map, length-drop, take-all}
+use Rattle.lists.proofs.Prelude.{List, map, _≡_, sym, _∙_, ap, ℕ, _-_, _≤_, arith, length, take, drop, length-map, map-drop, take-rest}
 use mathlib.Core.Option.{some}
 use denote.Ref.{RefT, now}
 use Rattle.identifiers.specs.Names.{Name}
@@ -7,11 +7,6 @@ use Rattle.engine.specs.Calls.{Query}
 use Rattle.commands.specs.declared.Order.{Order}
 use Rattle.commands.specs.declared.Order.the-variants as order
 use Rattle.commands.specs.Commands.{callIn, meant, reach, Means}
-
-map-drop : (l : List (RefT (List ℕ))) (k : ℕ) → drop k (map now l) ≡ map now (drop k l)
-map-drop l zero = refl
-map-drop [] (suc k) = refl
-map-drop (x ∷ l) (suc k) = map-drop l k
 
 module _ (l : List (RefT (List ℕ))) {o p : Order} (m : Means (map now l) o) (e : o ≡ p) where
   -- as many fields as the order needs are lent
@@ -27,6 +22,5 @@ module _ (l : List (RefT (List ℕ))) {o p : Order} (m : Means (map now l) o) (e
 -- a query's identifiers, as they are lent
 pub called-query : (l : List (RefT (List ℕ))) {o : Order} (k : ℕ) → Means (map now l) o → o ≡ order.Query k → callIn (map now l) ≡ some (Query k (map now (take (length l - 2) (drop 2 l))))
 called-query l k m e =
-    let h : length (drop 2 l) ≤ length l - 2 = omega (arith, length-drop 2 l) in
-    let d : drop 2 (map now l) ≡ map now (take (length l - 2) (drop 2 l)) = map-drop l 2 ∙ ap (map now) (sym (take-all (length l - 2) (drop 2 l) h)) in
+    let d : drop 2 (map now l) ≡ map now (take (length l - 2) (drop 2 l)) = sym (ap (map now) (take-rest 2 l) ∙ map-drop now 2 l) in
     called l m e ∙ ap (λ (ids : List Name). some (Query k ids)) d

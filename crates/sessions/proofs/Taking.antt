@@ -1,5 +1,5 @@
 -- What the code has in its buffers, as what is in hand.
-use Rattle.lists.proofs.Prelude.{Bool, true, false, false≢true, List, [], _∷_, _++_, _≡_, refl, sym, _∙_, ap, ℕ, zero, suc, _+_, _-_, _≤_, _<_, add-one, arith, length, getD, take, drop, set, length-append, length-set, length-drop, take-all, take-add, take-suc, take-suc-set, take-append-le, take-append-add, length-take-le, getD-drop, eq-eqb, ne-eqb}
+use Rattle.lists.proofs.Prelude.{Bool, true, false, false≢true, List, [], _∷_, _++_, _≡_, refl, sym, _∙_, ap, ℕ, zero, suc, _+_, _-_, _≤_, _<_, add-one, arith, length, getD, take, drop, set, length-append, length-set, length-drop, take-all, take-add, take-suc, take-suc-set, take-append-le, take-append-add, length-take-le, getD-drop, eq-eqb, ne-eqb, take-rest}
 use borrow.Rule.Slice.PartMut.{putMid, postOf}
 use Rattle.state.specs.Probe.{Probe}
 use Rattle.commands.specs.Commands.{commandOf}
@@ -108,11 +108,8 @@ pub batch-none : {old new piece : List ℕ} {n m i : ℕ} (from : Hand) → Keep
 batch-none from k = record { same = λ h e. e; few = k .few; within = k .within; stops = k .stops }
 
 -- what is left of a piece, as it is lent
-rest-whole : (piece : List ℕ) (a : ℕ) → take (length piece - a) (drop a piece) ≡ drop a piece
-rest-whole piece a = take-all (length piece - a) (drop a piece) (omega (arith, length-drop a piece))
-
 pub rest-length : (piece : List ℕ) (a : ℕ) → length (take (length piece - a) (drop a piece)) ≡ length piece - a
-rest-length piece a = ap length (rest-whole piece a) ∙ length-drop a piece
+rest-length piece a = ap length (take-rest a piece) ∙ length-drop a piece
 
 -- a line obeyed, and the bytes of the next one
 module _ {from : Hand} {piece line line' : List ℕ} {p p' : Probe} {text text' : List ℕ} {i₀ i n m room used passed : ℕ}
@@ -122,7 +119,7 @@ module _ {from : Hand} {piece line line' : List ℕ} {p p' : Probe} {text text' 
   more-same : (h : Hand) → from ≡ taken h (take i₀ piece) → _≡_ {A = Hand} (record { probe = p'; line = take m line'; text = text' }) (taken h (take (i + 1 + passed) piece))
   more-same h e =
       k .same p' text'
-      ∙ ap (λ (r : List ℕ). taken (record { probe = p'; line = []; text = text' }) (take passed r)) (rest-whole piece (i + 1))
+      ∙ ap (λ (r : List ℕ). taken (record { probe = p'; line = []; text = text' }) (take passed r)) (take-rest (i + 1) piece)
       ∙ ap (λ (g : Hand). taken g (take passed (drop (i + 1) piece)))
       (a .hand ∙ sym (byte-feed _ (getD piece i 0) (eq-eqb (getD piece i 0) 10 (b .stops l))) ∙ ap (λ (g : Hand). takenByte g (getD piece i 0)) (b .same h e) ∙ sym (taken-next h piece i l))
       ∙ sym (taken-more h (take (i + 1) piece) (take passed (drop (i + 1) piece)))
@@ -135,7 +132,7 @@ module _ {from : Hand} {piece line line' : List ℕ} {p p' : Probe} {text text' 
         same = more-same;
         few = k .few;
         within = omega (arith, r, k .within);
-        stops = λ h. sym (getD-drop (i + 1) piece passed 0) ∙ sym (ap (λ (q : List ℕ). getD q passed 0) (rest-whole piece (i + 1))) ∙ k .stops (omega (arith, r));
+        stops = λ h. sym (getD-drop (i + 1) piece passed 0) ∙ sym (ap (λ (q : List ℕ). getD q passed 0) (take-rest (i + 1) piece)) ∙ k .stops (omega (arith, r));
       }
 
 -- a buffer with room for a line's text lets some bytes be taken in
@@ -167,7 +164,7 @@ unfolding written
 serve-more start piece i passed e t =
     ap written (t .hand ∙ ap (λ (g : Hand). taken g (take passed (take (length piece - i) (drop i piece)))) e)
     ∙ written-taken (taken start (take i piece)) (take passed (take (length piece - i) (drop i piece)))
-    ∙ ap written (ap (λ (r : List ℕ). taken (taken start (take i piece)) (take passed r)) (rest-whole piece i) ∙ sym (taken-more start (take i piece) (take passed (drop i piece)))
+    ∙ ap written (ap (λ (r : List ℕ). taken (taken start (take i piece)) (take passed r)) (take-rest i piece) ∙ sym (taken-more start (take i piece) (take passed (drop i piece)))
     ∙ ap (taken start) (sym (take-add i passed piece)))
 
 pub serve-ended : {start hand : Hand} {i n : ℕ} {good : Bool} (piece : List ℕ) → hand ≡ written (taken start (take i piece)) → length piece ≤ i → n ≤ 513 → Serves start piece good n hand

@@ -1,10 +1,9 @@
 -- One key more: what is told of the counts.
-use Rattle.lists.proofs.Prelude.{Bool, true, false, cond, _&&_, not, List, [], _∷_, _++_, _≡_, refl, sym, ap, _∙_, ℕ, _≤_, arith, ℤ, length, length-append, eq-eqb, ne-eqb, le-leb, lt-leb, leb-true, by-test, and-left, and-right, never}
+use Rattle.lists.proofs.Prelude.{Bool, true, false, cond, _&&_, not, [], _∷_, _++_, _≡_, sym, ap, _∙_, ℕ, _≤_, arith, ℤ, length, length-append, eq-eqb, ne-eqb, le-leb, lt-leb, leb-true, by-test, and-left, and-right, never, append-nil}
 use mir.Syntax.{w16, w32}
 use mir.Val.{SFits, toZ, ofZ}
 use mir.Facts.{toZ-ofZ}
 use Rattle.lists.proofs.Sizes.{small-fits}
-use Rattle.postings.specs.declared.Posting.{Posting}
 use Rattle.postings.specs.Merge.{isZero}
 use Rattle.postings.proofs.Sums.{is-zero}
 use Rattle.partitions.specs.Formed.{inRange}
@@ -14,10 +13,6 @@ use Rattle.sums.specs.declared.Judged.{Judged}
 use Rattle.sums.specs.Views.{countsIn, Neat}
 use Rattle.sums.specs.Steps.{countAt, Counted}
 use Rattle.sums.proofs.Tally.{faulty, tallied, totalAt, tallyIf, keptOf, told}
-
-pub append-none : (l : List Posting) → l ++ [] ≡ l
-append-none [] = refl
-append-none (p ∷ l) = ap (λ (m : List Posting). p ∷ m) (append-none l)
 
 -- ---- the cases of a key of the window
 
@@ -36,8 +31,8 @@ module _ (c : Counts) (k : ℕ) (sum total : ℤ) (neat : Neat c) where
     -- a total of 0
     pub kept-zero : isZero total ≡ true → Counted c k sum total (stays true)
     kept-zero z = record {
-      fine = rw (r, z, append-none (countsIn c), le-leb (length (countsIn c)) 64 short);
-      counts = λ e. rw (z, append-none (countsIn c));
+      fine = rw (r, z, append-nil (countsIn c), le-leb (length (countsIn c)) 64 short);
+      counts = λ e. rw (z, append-nil (countsIn c));
       neat = neat;
     }
 
@@ -75,7 +70,7 @@ module _ (w k : ℕ) (sum total : ℤ) (c : Counts) where
   -- of a key of another window nothing
   pub told-other : (keyWindow k ≡ w → ⊥) → Neat c → tallied (countsIn c) ≡ keptOf w k sum total (countsIn c)
   unfolding keptOf tallyIf
-  told-other n s = rw (ne-eqb (keyWindow k) w n, append-none (countsIn c), le-leb (length (countsIn c)) 64 (omega (arith, s .few, s .whole)))
+  told-other n s = rw (ne-eqb (keyWindow k) w n, append-nil (countsIn c), le-leb (length (countsIn c)) 64 (omega (arith, s .few, s .whole)))
 
   -- of one of its own what is kept
   pub told-own : keyWindow k ≡ w → (r : Judged) → Counted c k sum total r → told r ≡ keptOf w k sum total (countsIn c)

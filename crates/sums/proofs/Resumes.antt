@@ -1,5 +1,5 @@
 -- The walk as a whole computes the definition.
-use Rattle.lists.proofs.Prelude.{Bool, true, false, cond, _&&_, _||_, not, and-true, List, [], _∷_, _++_, map, append-assoc, _≡_, refl, sym, ap, ap₂, _∙_, ℕ, zero, suc, _<_, _≤_, arith, eqb, leb, ℤ, _+ℤ_, +ℤ-idr, length, length-append, le-leb, lt-leb, leb-false, AllOf, by-test}
+use Rattle.lists.proofs.Prelude.{Bool, true, false, cond, _&&_, _||_, not, and-true, List, [], _∷_, _++_, map, append-assoc, _≡_, refl, sym, ap, ap₂, _∙_, ℕ, zero, suc, _<_, _≤_, arith, eqb, leb, ℤ, _+ℤ_, +ℤ-idr, length, length-append, le-leb, lt-leb, leb-false, AllOf, by-test, append-nil, cond-same, and-false}
 use Rattle.keyed.specs.Keys.{Item, sums, overKeys, headVal, headVals, headFine, headsFine}
 use Rattle.keyed.specs.Groups.{Group, topAll, allFallAll, moveAll, headsFineAll}
 use Rattle.keyed.proofs.Walk.{over-none}
@@ -10,7 +10,6 @@ use Rattle.kway.specs.Ranges.{totalZ, inRanges}
 use Rattle.kway.proofs.Ranges.{total-none, quiet}
 use Rattle.scans.specs.Keys.{keyWindow}
 use Rattle.sums.proofs.Tally.{Tally, faulty, tallied, totalAt, checked, gathered, windowChecked, windowGathered, tallyIf, tallyOf, keptOf}
-use Rattle.sums.proofs.Keeps.{append-none}
 
 -- ---- more counts after those so far
 
@@ -21,11 +20,7 @@ tally-faulty false b l m e = refl
 tally-faulty true b l m e =
     by-test (leb (length l) 64)
     (λ y. let q : tallied l ≡ faulty = rw y at e in let z : _≡_ {A = ℕ} 0 1 = cc in absurd (omega arith))
-    (λ n. let h = leb-false (length l) 64 n in rw (lt-leb (length (l ++ m)) 64 (omega (arith, length-append l m))) (none b))
-  where
-    none : (b : Bool) → cond (b && false) (tallied (l ++ m)) faulty ≡ faulty
-    none true = refl
-    none false = refl
+    (λ n. let h = leb-false (length l) 64 n in rw (lt-leb (length (l ++ m)) 64 (omega (arith, length-append l m))) (rw (and-false b)))
 
 -- else the counts so far are told
 tally-told : (t : Bool) (l ds : List Posting) → tallyIf t l ≡ tallied ds → (t ≡ true) × (ds ≡ l)
@@ -74,7 +69,7 @@ module _ (w : ℕ) where
     unfolding tallyIf
     ended e h =
         G.ended-all anySum (λ v z. refl) tallying (true, []) still faulty (λ (x : Bool × List Posting). tallyIf (x .0) (cs ++ x .1)) m gs e
-        ∙ rw (append-none cs, le-leb (length cs) 64 h)
+        ∙ rw (append-nil cs, le-leb (length cs) 64 h)
 
     -- a head that reaches a key that was passed
     pub too-high : m < topAll 0 gs → resume m cs gs ≡ faulty
@@ -102,15 +97,11 @@ module _ (w : ℕ) where
         apart l =
             by-test (eqb (keyWindow k) w && not (isZero (totalZ (map (headVals k) gs))))
             (λ y. rw y (sym (append-assoc cs (totalAt k (totalZ (map (headVals k) gs)) ∷ []) l)))
-            (λ n. rw (n, append-none cs))
+            (λ n. rw (n, append-nil cs))
 
         constant : (x : Tally) (m : ℕ) (hs : List Group) → x ≡ faulty → G.resumeAll anySum (λ v z. refl) tallying (true, []) still faulty (λ (y : Bool × List Posting). x) m hs ≡ faulty
         unfolding G.resumeAll
-        constant x m hs e = rw e (same (allFallAll m hs && overKeys (λ (k : ℕ) (v : List ℤ) (b : Bool). b) true m (λ j. map (sums j) hs)))
-          where
-            same : (t : Bool) → cond t faulty faulty ≡ faulty
-            same true = refl
-            same false = refl
+        constant x m hs e = rw e (cond-same (allFallAll m hs && overKeys (λ (k : ℕ) (v : List ℤ) (b : Bool). b) true m (λ j. map (sums j) hs)) faulty)
 
         -- a sum out of range, or a 65th count
         pub refused : tallyIf test (cs ++ new) ≡ faulty → resume m cs gs ≡ faulty

@@ -1,5 +1,5 @@
 -- What the walk tells of one window is what a removal reads: its lists, its sums and its counts.
-use Rattle.lists.proofs.Prelude.{Bool, true, false, cond, _&&_, _||_, not, and-true, List, [], _∷_, _++_, map, _≡_, refl, sym, ap, ap₂, _∙_, ℕ, zero, suc, _+_, _<_, _≤_, arith, eqb, ltb, leb, ℤ, pos, natAbs, _+ℤ_, +ℤ-idl, +ℤ-idr, leb-true, le-leb, eqb-true, eqb-false, eq-eqb, ltb-true, ltb-false, lt-ltb, le-ltb, every, joined, by-test, and-left, and-right, and-both, every-from, every-mem, every-keep, every-kept, every-append}
+use Rattle.lists.proofs.Prelude.{Bool, true, false, cond, _&&_, _||_, not, and-true, List, [], _∷_, _++_, map, _≡_, refl, sym, ap, ap₂, _∙_, ℕ, zero, suc, _+_, _<_, _≤_, arith, eqb, ltb, leb, ℤ, pos, natAbs, _+ℤ_, +ℤ-idl, +ℤ-idr, leb-true, le-leb, eqb-true, eqb-false, eq-eqb, ltb-true, ltb-false, lt-ltb, le-ltb, every, joined, by-test, and-left, and-right, and-both, every-from, every-mem, every-keep, every-kept, every-append, every-member}
 use Rattle.keyed.specs.Keys.{sumOf, sums, overKeys}
 use Rattle.keyed.specs.Groups.{Group, allFallAll}
 use Rattle.postings.specs.declared.Posting.{Posting}
@@ -14,7 +14,7 @@ use Rattle.scans.specs.Keys.{keyOf, keyId, keyWindow, itemOf, isKeyed}
 use Rattle.scans.proofs.Keys.{key-whole, key-of-id, key-of-window, key-below, key-precedes, falls-rule, lists-rule, sum-keyed, sums-keyed}
 use Rattle.sums.proofs.Tally.{faulty, totalAt, checked, gathered, windowChecked, windowGathered, tallyIf, tallyOf}
 use Rattle.sums.specs.Tally.{ofWindow, countsOf}
-use Rattle.sums.proofs.Windowed.{every-member, window-sum, window-fits, counts-ordered, counts-some, counts-own, counts-other, counts-pass}
+use Rattle.sums.proofs.Windowed.{window-sum, window-fits, counts-ordered, counts-some, counts-own, counts-other, counts-pass}
 
 -- ---- a test at every key
 

@@ -1,5 +1,5 @@
 -- A window's sums, and its counts read from them.
-use Rattle.lists.proofs.Prelude.{Bool, true, false, _&&_, List, [], _∷_, List·Memᴰ, List·Memᴰ·head, List·Memᴰ·tail, _≡_, refl, sym, _∙_, ℕ, _≤_, arith, eqb, ℤ, pos, natAbs, _+ℤ_, +ℤ-idl, +ℤ-idr, leb-true, eqb-true, every, by-test, and-left, and-right, every-kept, every-keep, every-mem}
+use Rattle.lists.proofs.Prelude.{Bool, true, _&&_, List, [], _∷_, List·Memᴰ, _≡_, refl, sym, _∙_, ℕ, _≤_, arith, eqb, ℤ, pos, natAbs, _+ℤ_, +ℤ-idl, +ℤ-idr, leb-true, eqb-true, every, by-test, and-left, and-right, every-kept, every-keep, every-mem, and-false}
 use Rattle.postings.specs.declared.Posting.{Posting}
 use Rattle.postings.specs.Order.{precedes, ordered}
 use Rattle.postings.specs.Merge.{counting, isCounted, pairs, nonzero}
@@ -10,11 +10,6 @@ use Rattle.postings.proofs.Merge.{every-puts, pairs-ordered, nonzero-ordered, n
 use Rattle.partitions.specs.Formed.{inRange, sumsInRange}
 use Rattle.sums.specs.Tally.{ofWindow, countsOf}
 
--- what holds of each member holds of all
-pub every-member : {A : Type 0} (t : A → Bool) (l : List A) → ((x : A) → List·Memᴰ x l → t x ≡ true) → every t l ≡ true
-every-member t [] h = refl
-every-member t (x ∷ l) h = rw (h x (List·Memᴰ·head refl)) (every-member t l (λ y m. h y (List·Memᴰ·tail m)))
-
 -- ---- sums of a window's postings
 
 module _ (w i : ℕ) where
@@ -22,11 +17,7 @@ module _ (w i : ℕ) where
   pub window-sum : (l : List Posting) → sum (ofWindow w l) i w ≡ sum l i w
   window-sum [] = refl
   window-sum (p ∷ l) =
-      by-test (eqb (p .window) w) (λ y. rw (y, window-sum l, y)) (λ n. rw (n, and-none (eqb (p .id) i), window-sum l) (sym (+ℤ-idl (sum l i w))))
-    where
-      and-none : (b : Bool) → (b && false) ≡ false
-      and-none true = refl
-      and-none false = refl
+      by-test (eqb (p .window) w) (λ y. rw (y, window-sum l, y)) (λ n. rw (n, and-false (eqb (p .id) i), window-sum l) (sym (+ℤ-idl (sum l i w))))
 
   -- and other windows have none in them
   pub other-sum : (v : ℕ) → (v ≡ w → ⊥) → (l : List Posting) → sum (ofWindow w l) i v ≡ pos 0
@@ -34,12 +25,8 @@ module _ (w i : ℕ) where
   other-sum v h (p ∷ l) =
       by-test (eqb (p .window) w)
       (λ y. by-test (eqb (p .window) v) (λ z. absurd (h (sym (eqb-true _ _ z) ∙ eqb-true _ _ y)))
-      (λ n. rw (y, n, and-none (eqb (p .id) i), other-sum v h l) refl))
+      (λ n. rw (y, n, and-false (eqb (p .id) i), other-sum v h l) refl))
       (λ n. rw (n, other-sum v h l))
-    where
-      and-none : (b : Bool) → (b && false) ≡ false
-      and-none true = refl
-      and-none false = refl
 
 -- where every pair's count fits, every sum does
 fits-sum : (i w : ℕ) (l : List Posting) → ordered l ≡ true → every (λ p. inRange (p .count)) l ≡ true → natAbs (sum l i w) ≤ 32767

@@ -1,5 +1,5 @@
 -- Heads put one after another: each at the start of a list on the card.
-use Rattle.lists.proofs.Prelude.{List, map, _≡_, refl, sym, ap, _∙_, subst, ℕ, zero, suc, _+_, _*_, _/_, _%_, _<_, _≤_, add-one, arith, length, getD, take, take-suc, lt-ltb, AllOf}
+use Rattle.lists.proofs.Prelude.{List, map, _≡_, refl, sym, ap, _∙_, subst, ℕ, zero, suc, _+_, _*_, _/_, _%_, _<_, _≤_, add-one, arith, length, getD, take, take-suc, lt-ltb, AllOf, map-append, [], _∷_}
 use Rattle.postings.specs.Sums.{under}
 use Rattle.state.specs.declared.State.{State}
 use Rattle.state.specs.Views.{buffered, finished}
@@ -8,7 +8,7 @@ use Rattle.card.specs.Cursors.{aheadAt, ahead, Good}
 use Rattle.card.proofs.Cursors.{in-block, in-card}
 use Rattle.partitions.specs.Reading.{postingsOf}
 use Rattle.kway.specs.Parts.{part, parts}
-use Rattle.kway.proofs.Parts.{putIn, map-more, all-more, put-length, put-here}
+use Rattle.kway.proofs.Parts.{putIn, all-more, put-length, put-here}
 use Rattle.heads.specs.Heads.{cursorAt, comes, Lies, Kept}
 use Rattle.terms.specs.Opening.{listed, Opens}
 use Rattle.heads.proofs.Heads.{comes-none}
@@ -59,7 +59,7 @@ module _ {B C : Type 0} (K : List ℕ → Type 0) (f : List ℕ → C) (g : B �
       let here : part 4 i (putIn 4 H h i) ≡ h = put-here 4 H h i inside four in
       record {
         all = rw (add-one i) (all-more K (parts 4 i (putIn 4 H h i)) (part 4 i (putIn 4 H h i)) (rw same (t .all)) (rw here k));
-        lists = rw (add-one i, same, here, map-more f (parts 4 i H) h, take-suc m i d l, map-more g (take i m) (getD m i d), t .lists, e);
+        lists = rw (add-one i, same, here, map-append f (parts 4 i H) (h ∷ []), take-suc m i d l, map-append g (take i m) (getD m i d ∷ []), t .lists, e);
       }
 
 -- the lists' heads, and then the run's

@@ -1,6 +1,5 @@
 -- The run of an identifier in the buffer: where it lies, and its words.
-use Rattle.lists.proofs.Prelude.{true, List, [], _∷_, map, ⊎-elim, _≡_, refl, sym, ap, _∙_, ℕ, zero, suc, _+_, _-_, _<_, _≤_, add-one, arith, ltb, eqb, leb, natAbs, length, getD, take, drop, set, slice, take-nil, take-take, getD-take, take-suc, take-suc-set, length-take-le, lt-ltb, le-ltb, ne-eqb, ltb-true, ltb-false, eqb-true, eqb-false, leb-true, every, used-turn, used-end, by-test, and-left, and-right, every-at, every-keep, every-kept}
-use Rattle.kway.proofs.Parts.{map-more}
+use Rattle.lists.proofs.Prelude.{true, List, [], _∷_, map, ⊎-elim, _≡_, refl, sym, ap, _∙_, ℕ, suc, _+_, _-_, _<_, _≤_, add-one, arith, ltb, eqb, leb, natAbs, length, getD, take, drop, set, slice, take-take, getD-take, take-suc, take-suc-set, length-take-le, lt-ltb, le-ltb, ne-eqb, ltb-true, ltb-false, eqb-true, eqb-false, leb-true, every, used-turn, used-end, by-test, and-left, and-right, every-at, every-keep, every-kept, map-take, map-drop, take-drop, map-append}
 use Rattle.postings.specs.declared.Posting.{Posting}
 use Rattle.postings.specs.Order.{precedes, ordered}
 use Rattle.postings.specs.Pack.{posted}
@@ -91,24 +90,9 @@ pub pack-more : (R : List ℕ) (all : List Posting) (i : ℕ) → i < length R �
     → take (i + 1) (set R i (wordFor (getD all i noPosting))) ≡ map wordFor (take (i + 1) all)
 pack-more R all i h g e =
     rw (add-one i, take-suc-set R i (wordFor (getD all i noPosting)) h, take-suc all i noPosting g, e)
-    (sym (map-more wordFor (take i all) (getD all i noPosting)))
+    (sym (map-append wordFor (take i all) (getD all i noPosting ∷ [])))
 
 -- ---- the words of an identifier's postings
-
-map-take : {A B : Type 0} (f : A → B) (n : ℕ) (l : List A) → take n (map f l) ≡ map f (take n l)
-map-take f zero l = refl
-map-take f (suc n) [] = refl
-map-take f (suc n) (x ∷ l) = rw (map-take f n l)
-
-map-drop : {A B : Type 0} (f : A → B) (n : ℕ) (l : List A) → drop n (map f l) ≡ map f (drop n l)
-map-drop f zero l = refl
-map-drop f (suc n) [] = refl
-map-drop f (suc n) (x ∷ l) = map-drop f n l
-
-take-drop : (a n : ℕ) (l : List ℕ) → take n (drop a l) ≡ drop a (take (a + n) l)
-take-drop zero n l = let e : 0 + n ≡ n = omega arith in rw e
-take-drop (suc a) n [] = let e : suc a + n ≡ suc (a + n) = omega arith in rw (e, take-nil n)
-take-drop (suc a) n (x ∷ l) = let e : suc a + n ≡ suc (a + n) = omega arith in rw e (take-drop a n l)
 
 -- they stand for the postings
 read-back : (i : ℕ) (l : List Posting) → every (λ p. eqb (p .id) i) l ≡ true → every (λ p. inRange (p .count)) l ≡ true → map (posted i) (map wordFor l) ≡ l
@@ -143,7 +127,7 @@ module _ (W R : List ℕ) (b : Buffer) (i : ℕ) (packed : Packed b R) (fits : b
       let z : 4194304 + a - 4194304 ≡ a = omega arith in
       let s : a + (e - a) ≡ e = omega arith in
       let cut : drop a (take e R) ≡ map wordFor (slice a e (b .postings)) =
-      ap (drop a) (sym (take-take e (b .used) R r1) ∙ ap (take e) (packed .words) ∙ map-take wordFor e (buffered b) ∙ ap (map wordFor) (take-take e (b .used) (b .postings) r1))
-      ∙ map-drop wordFor a (take e (b .postings)) in
+      ap (drop a) (sym (take-take e (b .used) R r1) ∙ ap (take e) (packed .words) ∙ sym (map-take wordFor e (buffered b)) ∙ ap (map wordFor) (take-take e (b .used) (b .postings) r1))
+      ∙ sym (map-drop wordFor a (take e (b .postings))) in
       rw (le-ltb (4194304 + a) 4194304 (omega arith), z, take-drop a (e - a) R, s, cut, r .2)
       (read-back i (under i (buffered b)) (every-kept (λ p. eqb (p .id) i) (buffered b)) (every-keep (λ p. eqb (p .id) i) (λ p. inRange (p .count)) (buffered b) sizes))

@@ -1,5 +1,5 @@
 -- From the words that an identifier's heads have to come to what is stored under it.
-use Rattle.lists.proofs.Prelude.{Bool, true, false, _&&_, and-true, and-false, List, [], _∷_, _++_, map, _≡_, refl, sym, ap, ap₂, _∙_, ℕ, zero, suc, _+_, _-_, _/_, _%_, _≤_, arith, ltb, eqb, ℤ, pos, _+ℤ_, +ℤ-idr, length, take, drop, length-append, length-map, lt-ltb, le-ltb, eq-eqb, ne-eqb, every, joined, totalBy, AllOf, by-test, and-left, and-right, and-both, keep-append, every-keep, every-append, every-map, keep-joined}
+use Rattle.lists.proofs.Prelude.{Bool, true, _&&_, and-true, List, [], _∷_, _++_, map, _≡_, refl, sym, ap, ap₂, _∙_, ℕ, zero, suc, _+_, _-_, _/_, _%_, _≤_, arith, ltb, eqb, ℤ, pos, _+ℤ_, +ℤ-idr, length, take, drop, length-append, length-map, lt-ltb, le-ltb, eq-eqb, ne-eqb, every, joined, totalBy, AllOf, by-test, and-left, and-right, and-both, keep-append, every-keep, every-append, every-map, keep-joined, and-past-two}
 use Rattle.keyed.specs.Keys.{falls, allFall, sumOf, sums, overKeys}
 use Rattle.keyed.specs.Groups.{Group, allFallAll}
 use Rattle.keyed.proofs.Walk.{over-same}
@@ -33,15 +33,7 @@ unfolding listRule
 falls-words i m x [] = rw (fine-rule i x)
 falls-words i m x (y ∷ xs) =
     rw (fine-rule i x, falls-words i (wordWindow x) y xs, ordered-next (posted i x) (posted i y) (map (posted i) xs), le-ltb i i (omega arith), eq-eqb i i refl)
-    (ap (λ (t : Bool). ltb (wordWindow x) m && t) (shuffle (rule (posted i x)) (ltb (wordWindow y) (wordWindow x)) (ordered (map (posted i) (y ∷ xs))) (every rule (map (posted i) (y ∷ xs)))))
-  where
-    shuffle : (f t o e : Bool) → (f && (t && (o && e))) ≡ ((t && o) && (f && e))
-    shuffle true t o e = assoc t o e
-      where
-        assoc : (t o e : Bool) → (t && (o && e)) ≡ ((t && o) && e)
-        assoc true o e = refl
-        assoc false o e = refl
-    shuffle false t o e = sym (and-false (t && o))
+    (ap (λ (t : Bool). ltb (wordWindow x) m && t) (and-past-two (rule (posted i x)) (ltb (wordWindow y) (wordWindow x)) (ordered (map (posted i) (y ∷ xs))) (every rule (map (posted i) (y ∷ xs)))))
 
 falls-list : (i : ℕ) (xs : List ℕ) → AllOf Small xs → falls 65536 (map itemOf xs) ≡ listRule (map (posted i) xs)
 unfolding AllOf listRule

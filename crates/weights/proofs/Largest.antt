@@ -1,5 +1,5 @@
 -- The largest number that passes a test.
-use Rattle.lists.proofs.Prelude.{Bool, true, false, _≡_, sym, _∙_, ℕ, zero, suc, _+_, _≤_, add-one, arith, leb, leb-true, leb-false, by-test}
+use Rattle.lists.proofs.Prelude.{Bool, true, false, _≡_, sym, _∙_, ℕ, zero, suc, _+_, _≤_, add-one, arith, leb, leb-true, leb-false, by-test, true≢false}
 use Rattle.weights.specs.Weights.{largest}
 
 module _ (t : ℕ → Bool) where
@@ -23,10 +23,7 @@ module _ (t : ℕ → Bool) where
         by-test
         (leb b a)
         (λ l. leb-true b a l)
-        (λ l. let h = leb-false b a l in let z : true ≡ false = sym (falls (a + 1) b (omega arith) e) ∙ o in absurd (never z))
-      where
-        never : true ≡ false → ⊥
-        never z = let q : _≡_ {A = ℕ} 0 1 = cc in omega arith
+        (λ l. let h = leb-false b a l in absurd (true≢false (sym (falls (a + 1) b (omega arith) e) ∙ o)))
 
     -- a number that passes, and the number after it not, is the largest
     pub largest-only : (n a : ℕ) → t (n + 1) ≡ false → t a ≡ true → t (a + 1) ≡ false → largest t n ≡ a

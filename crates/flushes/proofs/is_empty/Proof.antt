@@ -1,6 +1,5 @@
-use Rattle.lists.proofs.Prelude.{_≡_, sym, ap, _∙_, ℕ, arith, eqb, length, length-take-le, needs, unmapped}
+use Rattle.lists.proofs.Prelude.{_≡_, sym, ap, _∙_, ℕ, arith, eqb, length, length-take-le, needs, unmapped, empty-length}
 use Rattle.state.specs.Views.{buffered}
-use Rattle.flushes.proofs.Targets.{empty-length}
 use Rattle.flushes.proofs.is_empty.Statement.{statement}
 use Rattle.flushes.proofs.is_empty.Tie as tie
 

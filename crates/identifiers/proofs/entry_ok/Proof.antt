@@ -1,5 +1,5 @@
 -- `identifiers::entry_ok` meets its contract, test by test.
-use Rattle.lists.proofs.Prelude.{true, false, _&&_, and-true, and-false, ⊎-elim, _≡_, sym, ap, _∙_, _+_, _-_, _≤_, arith, needs, le-leb, lt-leb, lt-ltb, le-ltb, eqb, length, take, drop, length-drop, take-all, every}
+use Rattle.lists.proofs.Prelude.{true, false, _&&_, and-true, and-false, ⊎-elim, _≡_, sym, ap, _∙_, _+_, _≤_, arith, needs, le-leb, lt-leb, lt-ltb, le-ltb, eqb, drop, every, take-rest}
 use Rattle.identifiers.specs.Register.{size, used, entryRule}
 use Rattle.identifiers.proofs.entry_ok.Statement.{statement}
 use Rattle.identifiers.proofs.entry_ok.Tie as tie
@@ -21,8 +21,7 @@ returns-3 c =
     let s = c .before .before .before .before .before .before in
     let e = s .args .entry .now in
     let k = 1 + size e in
-    let t : take (length e - k) (drop k e) ≡ drop k e = take-all (length e - k) (drop k e) (rw (length-drop k e) (omega arith)) in
-    let q : c .zeros .result ≡ every (λ b. eqb b 0) (drop k e) = c .zeros .ensures ∙ ap (every (λ b. eqb b 0)) t in
+    let q : c .zeros .result ≡ every (λ b. eqb b 0) (drop k e) = c .zeros .ensures ∙ ap (every (λ b. eqb b 0)) (take-rest k e) in
     let l : size e ≤ 64 = c .before .before .before .if1 .left in
     let n : (s .args .ended && used e) ≡ false =
     ⊎-elim (λ w. rw (le-ltb 0 (size e) (w .1 .left)) (and-false (s .args .ended))) (λ w. rw (w .left)) (c .before .before .if2 .came) in

@@ -7,7 +7,7 @@ use Rattle.words.specs.Words.{words}
 use Rattle.words.proofs.Views.{length-words}
 use Rattle.state.specs.Views.{noPosting}
 use Rattle.images.specs.Images.{postingWords}
-use Rattle.images.proofs.Parts.{Parts, parts-turn, parts-end}
+use Rattle.lists.proofs.Stores.{Parts, parts-turn, parts-end}
 use Rattle.images.proofs.put_buffer.Statement.{statement}
 use Rattle.images.proofs.put_buffer.Tie as tie
 

@@ -4,7 +4,7 @@ use Rattle.words.specs.Words.{words}
 use Rattle.words.proofs.Views.{length-words}
 use Rattle.state.specs.Views.{noPartition}
 use Rattle.images.specs.Images.{recordWords}
-use Rattle.images.proofs.Parts.{Parts, parts-turn, parts-end}
+use Rattle.lists.proofs.Stores.{Parts, parts-turn, parts-end}
 use Rattle.images.proofs.put_partitions.Statement.{statement}
 use Rattle.images.proofs.put_partitions.Tie as tie
 

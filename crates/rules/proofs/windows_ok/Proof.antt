@@ -1,5 +1,5 @@
+use Rattle.lists.proofs.Prelude.{choose}
 use Rattle.state.specs.Rules.{windowsRule}
-use Rattle.rules.proofs.Places.{choose}
 use Rattle.rules.proofs.windows_ok.Statement.{statement}
 use Rattle.rules.proofs.windows_ok.Tie as tie
 

@@ -1,7 +1,7 @@
 -- `merges::listing::run_of` meets its contract.
-use Rattle.lists.proofs.Prelude.{_≡_, sym, ap, _∙_, _+_, arith, length, take, drop, length-take-le, needs, unmapped}
+use Rattle.lists.proofs.Prelude.{_≡_, sym, ap, _∙_, _+_, arith, length, take, drop, length-take-le, needs, unmapped, take-drop}
 use Rattle.state.specs.Views.{finished, partitionsOf}
-use Rattle.levels.proofs.Choosing.{finished-of, front-cut, part-cut}
+use Rattle.levels.proofs.Choosing.{finished-of, front-cut}
 use Rattle.levels.proofs.merging.run_of.Statement.{statement}
 use Rattle.levels.proofs.merging.run_of.Tie as tie
 
@@ -25,7 +25,7 @@ returns c =
     let l : length (finished p) ≡ p .used = length-take-le (p .used) (p .records) (omega (arith, s .pre .0)) in
     let e = c .before .cut .ensures ∙ ap partitionsOf (front-cut (finished p) end (p .used) l) in
     let f = ap finished e ∙ finished-of (take end (finished p)) in
-    c .cut2 .ensures ∙ ap (λ x. partitionsOf (drop (s .args .at) x)) f ∙ ap partitionsOf (part-cut (finished p) (s .args .at) (s .args .count) (omega (arith, s .pre .1)))
+    c .cut2 .ensures ∙ ap (λ x. partitionsOf (drop (s .args .at) x)) f ∙ ap partitionsOf (sym (take-drop (s .args .at) (s .args .count) (finished p)))
 
 pub run-of-spec : {M : Type 1} → statement M
 run-of-spec = tie.close (tie.spec (λ c. search needs) (λ c. search needs) (λ c κs. search needs) cut-requires-2 returns)

@@ -1,9 +1,8 @@
-use Rattle.lists.proofs.Prelude.{_&&_, _≡_, refl, _-_, arith, leb, length, drop, needs, unmapped}
+use Rattle.lists.proofs.Prelude.{_&&_, _≡_, refl, _-_, arith, leb, length, drop, needs, unmapped, rest, rest-begin, rest-turn, rest-end}
 use Rattle.postings.specs.Order.{precedes, ordered}
 use Rattle.postings.proofs.Order.{ordered-next}
 use Rattle.state.specs.Views.{noPosting}
 use Rattle.state.specs.Rules.{postingRule, unusedPosting, bufferRule}
-use Rattle.rules.proofs.Places.{rest, rest-begin, rest-turn, rest-end}
 use Rattle.rules.proofs.buffer_rules.buffer_ok.Statement.{statement}
 use Rattle.rules.proofs.buffer_rules.buffer_ok.Tie as tie
 

@@ -1,9 +1,9 @@
+use Rattle.lists.proofs.Prelude.{choose}
 use borrow.Author.Needs.{needs}
 use mir.Facts.{toZ-ofZ}
 use mir.Syntax.{w16}
 use mir.Val.{SFits}
 use Rattle.state.specs.Rules.{postingRule}
-use Rattle.rules.proofs.Places.{choose}
 use Rattle.postings.proofs.Counts.{zero-bits, small-size}
 use Rattle.rules.proofs.buffer_rules.place_ok.Statement.{statement}
 use Rattle.rules.proofs.buffer_rules.place_ok.Tie as tie

@@ -1,6 +1,6 @@
-use Rattle.lists.proofs.Prelude.{_&&_, _≡_, _-_, arith, eqb, leb, length, drop, needs, every, different}
+use Rattle.lists.proofs.Prelude.{_&&_, _≡_, _-_, arith, eqb, leb, length, drop, needs, every, different, choose-place}
 use Rattle.state.specs.Views.{listed}
-use Rattle.rules.proofs.Places.{choose-place, left, left-start, left-turn, left-end}
+use Rattle.rules.proofs.Places.{left, left-start, left-turn, left-end}
 use Rattle.rules.proofs.id_rules.places_ok.Statement.{statement}
 use Rattle.rules.proofs.id_rules.places_ok.Tie as tie
 

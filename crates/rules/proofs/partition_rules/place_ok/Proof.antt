@@ -1,6 +1,6 @@
+use Rattle.lists.proofs.Prelude.{choose}
 use borrow.Author.Needs.{needs}
 use Rattle.state.specs.Rules.{recordRule}
-use Rattle.rules.proofs.Places.{choose}
 use Rattle.rules.proofs.partition_rules.place_ok.Statement.{statement}
 use Rattle.rules.proofs.partition_rules.place_ok.Tie as tie
 

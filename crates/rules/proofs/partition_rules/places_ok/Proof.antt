@@ -1,7 +1,7 @@
-use Rattle.lists.proofs.Prelude.{true, _&&_, _≡_, refl, _-_, arith, length, take, drop, needs, every, unmapped, leb}
+use Rattle.lists.proofs.Prelude.{true, _&&_, _≡_, refl, _-_, arith, length, take, drop, needs, every, unmapped, leb, rest, rest-begin, rest-turn, rest-end}
 use Rattle.state.specs.Views.{noPartition}
 use Rattle.state.specs.Rules.{neverRise, recordRule, unusedRecord}
-use Rattle.rules.proofs.Places.{rise-next, rest, rest-begin, rest-turn, rest-end}
+use Rattle.rules.proofs.Places.{rise-next}
 use Rattle.rules.proofs.partition_rules.places_ok.Statement.{statement}
 use Rattle.rules.proofs.partition_rules.places_ok.Tie as tie
 

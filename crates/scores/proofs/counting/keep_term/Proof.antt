@@ -1,5 +1,5 @@
 -- `terms::counting::keep_term` meets its contract: the opened heads are copied before the judging spends them, and stand for the identifier.
-use Rattle.lists.proofs.Prelude.{_+_, _-_, _≤_, length, length-drop, totalBy, never, sym, ap, _∙_, arith, needs}
+use Rattle.lists.proofs.Prelude.{_+_, _-_, length, length-drop, totalBy, never, sym, ap, _∙_, arith, needs, take-rest}
 use borrow.Rule.Slice.PartMut.{putMid}
 use Rattle.keyed.specs.Keys.{allFall}
 use Rattle.keyed.specs.Groups.{Group}
@@ -8,7 +8,6 @@ use Rattle.words.proofs.Views.{words-below}
 use Rattle.state.specs.Views.{blocks, buffered, finished}
 use Rattle.state.proofs.Kept.{state-kept}
 use Rattle.scores.proofs.Opened.{all-readable, rule-sizes, rule-each}
-use Rattle.scores.proofs.Counts.{rest-four}
 use Rattle.scores.proofs.Serving.{judged-bad, judged-good, windows-few, all-fall, all-size, all-serves, copied, kept-lists}
 use Rattle.scores.proofs.counting.keep_term.Statement.{statement}
 use Rattle.scores.proofs.counting.keep_term.Tie as tie
@@ -86,9 +85,8 @@ total-left-requires c κs =
     let d = copied W R n H G P (s .pre .5) (o .ensures .long) (c .before .before .before .before .before .before .before .before .before .before .before .before .before .before .before .copy .ensures) (o .ensures .ready) in
     let w = c .before .before .before .before .weigh in
     let l = kept-lists W R (n + 1) H (putMid 4 (length G - 4) G P) (w .last .1 .1 .0) _ (d .2) (w .ensures .1) in
-    let four : 4 ≤ length (w .last .1 .1 .0) = omega (arith, w .ensures .0 .long) in
     let f = all-fall (words (s .args .card .now)) (s .args .run .now) (s .args .s) (s .args .id) H (o .ensures) small few (k .buffer .order) rules _ told in
-    rw (rest-four (w .last .1 .1 .0) four) (omega (arith, length-drop 4 (w .last .1 .1 .0), w .ensures .0 .long), omega (arith, k .partitions .used), w .ensures .0 .heads, ap (λ (g : Group). allFall 65536 g) (l .1) ∙ f)
+    rw (take-rest 4 (w .last .1 .1 .0)) (omega (arith, length-drop 4 (w .last .1 .1 .0), w .ensures .0 .long), omega (arith, k .partitions .used), w .ensures .0 .heads, ap (λ (g : Group). allFall 65536 g) (l .1) ∙ f)
 
 returns : tie.Need-returns
 returns c =
@@ -119,8 +117,7 @@ returns-2 c =
     let d = copied W R n H G P (s .pre .5) (o .ensures .long) (c .before .before .before .before .before .before .before .before .before .before .before .before .before .before .before .before .copy .ensures) (o .ensures .ready) in
     let w = c .before .before .before .before .before .weigh in
     let l = kept-lists W R (n + 1) H (putMid 4 (length G - 4) G P) (w .last .1 .1 .0) _ (d .2) (w .ensures .1) in
-    let four : 4 ≤ length (w .last .1 .1 .0) = omega (arith, w .ensures .0 .long) in
-    let z = rw (rest-four (w .last .1 .1 .0) four) at (c .total-left .ensures) in
+    let z = rw (take-rest 4 (w .last .1 .1 .0)) at (c .total-left .ensures) in
     record {
       fine = sym (judged-good (words (s .args .card .now)) (s .args .run .now) (s .args .s) (s .args .id) H (o .ensures) small few (k .buffer .order) rules _ told);
       kept = λ y. w .ensures .0;

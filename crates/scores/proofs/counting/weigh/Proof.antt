@@ -1,7 +1,6 @@
 -- `terms::counting::weigh` meets its contract: four numbers are put in front of the heads.
-use Rattle.lists.proofs.Prelude.{_≤_, arith, length, set, length-drop, lt-length-set, needs}
+use Rattle.lists.proofs.Prelude.{arith, set, length-drop, lt-length-set, needs, take-rest}
 use Rattle.words.specs.Words.{words}
-use Rattle.scores.proofs.Counts.{rest-four}
 use Rattle.scores.proofs.Serving.{weighed}
 use Rattle.scores.proofs.counting.weigh.Statement.{statement}
 use Rattle.scores.proofs.counting.weigh.Tie as tie
@@ -10,8 +9,7 @@ leader-requires : tie.Need-leader-requires
 leader-requires c κs =
     let s = c .before .before .before .before .before in
     let G = s .args .group .now in
-    let four : 4 ≤ length G = omega (arith, s .pre .0) in
-    (rw (rest-four G four) (omega (arith, length-drop 4 G, s .pre .0)), omega (arith, s .pre .1), rw (rest-four G four) (s .pre .2))
+    (rw (take-rest 4 G) (omega (arith, length-drop 4 G, s .pre .0)), omega (arith, s .pre .1), rw (take-rest 4 G) (s .pre .2))
 
 slice-write-group-2 : tie.Need-slice-write-group-2
 slice-write-group-2 c =
@@ -37,8 +35,7 @@ returns : tie.Need-returns
 returns c =
     let s = c .before .before .before .before .before .before .before in
     let G = s .args .group .now in
-    let four : 4 ≤ length G = omega (arith, s .pre .0) in
-    let l = rw (rest-four G four) at (c .before .leader .ensures) in
+    let l = rw (take-rest 4 G) at (c .before .leader .ensures) in
     weighed (words (s .args .card .now)) (s .args .run .now) (s .args .m) G (s .pre .0) (s .pre .2) _ _ _ _ (s .args .n) (s .args .f) (l .0) (c .idf-weight .ensures) (l .1)
 
 pub weigh-spec : {M : Type 1} → statement M

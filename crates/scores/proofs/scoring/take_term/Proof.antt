@@ -1,5 +1,5 @@
 -- `terms::scoring::take_term` meets its contract: a term that is not at the window, and one that is.
-use Rattle.lists.proofs.Prelude.{_≡_, ap, _∙_, List, ℕ, _*_, _-_, _≤_, arith, ltb, length, getD, drop, set, length-drop, lt-length-set, needs}
+use Rattle.lists.proofs.Prelude.{_≡_, ap, _∙_, List, ℕ, _*_, _-_, _≤_, arith, ltb, length, getD, drop, set, length-drop, lt-length-set, needs, take-rest}
 use mir.Facts.{toZ-ofZ}
 use mir.Syntax.{w32}
 use mir.Val.{SFits}
@@ -8,7 +8,7 @@ use Rattle.words.specs.Words.{words}
 use Rattle.weights.specs.Weights.{tfWeight}
 use Rattle.postings.specs.Sums.{above}
 use Rattle.partitions.specs.Formed.{inRange}
-use Rattle.scores.proofs.Counts.{rest-four, put-behind-long}
+use Rattle.scores.proofs.Counts.{put-behind-long}
 use Rattle.scores.proofs.Joined.{passed-over, after-kept, after-term, after-top, score-most}
 use Rattle.scores.proofs.scoring.take_term.Statement.{statement}
 use Rattle.scores.proofs.scoring.take_term.Tie as tie
@@ -19,7 +19,6 @@ returns c =
     let W = words (s .args .card .now) in
     let R = s .args .run .now in
     let G = s .args .group .now in
-    let four : 4 ≤ length G = omega (arith, s .pre .0 .long) in
     let p = passed-over W R (s .args .m) (s .args .key) G (s .pre .0) (s .pre .3) (c .if1 .taken) in
     ((s .pre .0, p .0), (p .1, omega arith, p .2, s .pre .0 .top))
 
@@ -27,8 +26,7 @@ take-led-requires : tie.Need-take-led-requires
 take-led-requires c κs =
     let s = c .before .before .before .before .before .before .before .before .before in
     let G = s .args .group .now in
-    let four : 4 ≤ length G = omega (arith, s .pre .0 .long) in
-    rw (rest-four G four) (omega (arith, length-drop 4 G, s .pre .0 .long), omega (arith, s .pre .1), omega (arith, s .pre .2), s .pre .0 .heads, s .pre .0 .lead)
+    rw (take-rest 4 G) (omega (arith, length-drop 4 G, s .pre .0 .long), omega (arith, s .pre .1), omega (arith, s .pre .2), s .pre .0 .heads, s .pre .0 .lead)
 
 room : (G P : List ℕ) → 4 ≤ length G → length P ≡ length (drop 4 G) → 4 ≤ length (putMid 4 (length G - 4) G P)
 room G P h e = omega (arith, put-behind-long G P h (omega (arith, length-drop 4 G)))
@@ -38,7 +36,7 @@ slice-write-group-2 c =
     let G = c .before .before .before .before .before .before .before .before .before .before .before .before .args .group .now in
     let four : 4 ≤ length G = omega (arith, c .before .before .before .before .before .before .before .before .before .before .before .before .pre .0 .long) in
     let t = c .before .before .take-led in
-    let r = room G (t .last .1 .1 .0) four (rw (rest-four G four) at (t .ensures .0 .0)) in
+    let r = room G (t .last .1 .1 .0) four (rw (take-rest 4 G) at (t .ensures .0 .0)) in
     lt-length-set (putMid 4 (length G - 4) G (t .last .1 .1 .0)) 0 (t .result .next) (omega (arith, r))
 
 slice-write-group-3 : tie.Need-slice-write-group-3
@@ -46,7 +44,7 @@ slice-write-group-3 c =
     let G = c .before .before .before .before .before .before .before .before .before .before .before .before .args .group .now in
     let four : 4 ≤ length G = omega (arith, c .before .before .before .before .before .before .before .before .before .before .before .before .pre .0 .long) in
     let t = c .before .before .take-led in
-    let r = room G (t .last .1 .1 .0) four (rw (rest-four G four) at (t .ensures .0 .0)) in
+    let r = room G (t .last .1 .1 .0) four (rw (take-rest 4 G) at (t .ensures .0 .0)) in
     let F = putMid 4 (length G - 4) G (t .last .1 .1 .0) in
     lt-length-set (set F 0 (t .result .next)) 2 (t .result .at) (lt-length-set F 0 (t .result .next) (omega (arith, r)))
 
@@ -54,9 +52,8 @@ count-of-requires : tie.Need-count-of-requires
 count-of-requires c κs =
     let s = c .before .before .before .before .before .before .before .before .before .before .before .before .before in
     let G = s .args .group .now in
-    let four : 4 ≤ length G = omega (arith, s .pre .0 .long) in
     let t = c .before .before .before .take-led in
-    let u = rw (rest-four G four) at (t .ensures) in
+    let u = rw (take-rest 4 G) at (t .ensures) in
     let f : SFits w32 (t .result .sum) = search needs in
     rw (toZ-ofZ f) (ap inRange (u .1 .0 .0) ∙ s .pre .4)
 
@@ -72,9 +69,8 @@ returns-2 c =
     let W = words (s .args .card .now) in
     let R = s .args .run .now in
     let G = s .args .group .now in
-    let four : 4 ≤ length G = omega (arith, s .pre .0 .long) in
     let t = c .before .before .before .before .before .take-led in
-    let u = rw (rest-four G four) at (t .ensures) in
+    let u = rw (take-rest 4 G) at (t .ensures) in
     let f : SFits w32 (t .result .sum) = search needs in
     let n = c .before .count-of .ensures .0 ∙ ap above (toZ-ofZ f ∙ u .1 .0 .0) in
     let z = score-most (c .before .count-of .result) (getD G 1 0) (c .before .count-of .ensures .1) (s .pre .0 .light) in
