@@ -50,7 +50,7 @@ pub extern "C" fn gemsilver_start(image: &mut [u8], card: &mut [u8], register: &
     if image.len() != images::BYTES {
         return 1;
     }
-    let r = engine::start(card, register);
+    let r = windows::start(card, register);
     images::write_state(image, r.state);
     let reply = r.reply;
     numbers::reply_number(reply)
@@ -65,7 +65,7 @@ pub extern "C" fn gemsilver_open(image: &mut [u8]) -> u32
         return 65537;
     }
     let s = images::read_state(image);
-    let r = engine::open(s);
+    let r = windows::open(s);
     numbers::settle_open(image, r)
 }
 
@@ -78,7 +78,7 @@ pub extern "C" fn gemsilver_close(image: &mut [u8]) -> u32
         return 1;
     }
     let s = images::read_state(image);
-    let r = engine::close(s);
+    let r = windows::close(s);
     numbers::settle(image, r)
 }
 
@@ -98,7 +98,7 @@ pub extern "C" fn gemsilver_event(
         return 1;
     }
     let s = images::read_state(image);
-    let r = engine::event(s, card, register, id);
+    let r = events::event(s, card, register, id);
     numbers::settle(image, r)
 }
 
@@ -112,7 +112,7 @@ pub extern "C" fn gemsilver_flush(image: &mut [u8], card: &mut [u8]) -> u32
         return 1;
     }
     let s = images::read_state(image);
-    let r = engine::flush(s, card);
+    let r = flushes::flush(s, card);
     numbers::settle(image, r)
 }
 
@@ -157,7 +157,7 @@ pub extern "C" fn gemsilver_query(
         return 1;
     }
     let s = images::read_state(image);
-    let r = engine::query_value(s, card, register, ids, hits.len() / 8);
+    let r = queries::search(s, card, register, ids, hits.len() / 8);
     put_hits(hits, r.top);
     let answer = r.answer;
     found_number(answer)
@@ -173,7 +173,7 @@ pub extern "C" fn gemsilver_remove(image: &mut [u8], card: &mut [u8], window: u3
         return 1;
     }
     let s = images::read_state(image);
-    let r = engine::remove(s, card, window);
+    let r = removals::remove(s, card, window);
     numbers::settle(image, r)
 }
 
@@ -187,6 +187,6 @@ pub extern "C" fn gemsilver_step(image: &mut [u8], card: &mut [u8]) -> u32
         return 1;
     }
     let s = images::read_state(image);
-    let r = engine::step_value(s, card);
+    let r = merges::step(s, card);
     numbers::settle(image, r)
 }
