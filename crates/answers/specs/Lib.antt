@@ -2,3 +2,4 @@ pub mod Answers
 pub mod Order
 pub mod Numbers
 pub mod Unchanged
+pub mod Calls

@@ -4,7 +4,7 @@ use mathlib.Core.Option.{Option, none, some}
 use denote.Ref.{RefT, now}
 use Rattle.identifiers.proofs.Lent.{nothing, lent-at}
 use Rattle.identifiers.specs.Names.{Name}
-use Rattle.engine.specs.Calls.{Open, Close, Flush, Step}
+use Rattle.answers.specs.Calls.{Open, Close, Flush, Step}
 use Rattle.texts.specs.Fields.{numberIn}
 use Rattle.commands.specs.declared.Change.the-variants as change
 use Rattle.commands.specs.declared.Order.{Order}

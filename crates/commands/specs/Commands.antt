@@ -7,7 +7,7 @@ use Prim.Native.Nat.{ℕ, _+_, _≤_}
 use lib.Dec.{eqb}
 use lib.ListN.{length, getD, drop}
 use Rattle.identifiers.specs.Names.{Name}
-use Rattle.engine.specs.Calls.{Call, Open, Event, Close, Remove, Flush, Step, Query}
+use Rattle.answers.specs.Calls.{Call, Open, Event, Close, Remove, Flush, Step, Query}
 use Rattle.texts.specs.Fields.{partsOf, numberIn}
 use Rattle.commands.specs.declared.Change.{Change}
 use Rattle.commands.specs.declared.Change.the-variants as change

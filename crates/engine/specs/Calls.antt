@@ -1,12 +1,11 @@
 -- The engine's calls in one place, and runs of them.
 use mathlib.Core.List.{List, [], _∷_}
-use Prim.Native.Nat.{ℕ}
 use lib.ListN.{replicate}
 use Rattle.answers.specs.Answers.{Answer, Outcome, answerOf, stateOf, carry}
+pub use Rattle.answers.specs.Calls.{Call, Open, Event, Close, Remove, Flush, Step, Query}
 use Rattle.answers.specs.declared.Hit.{Hit}
 use Rattle.state.specs.declared.State.{State}
 use Rattle.state.specs.Probe.{Store, Probe}
-use Rattle.identifiers.specs.Names.{Name}
 use Rattle.windows.specs.Calls.{openOf, closeOf}
 use Rattle.events.specs.Event.{eventOf}
 use Rattle.flushes.specs.Flush.{flushOf}
@@ -14,16 +13,6 @@ use Rattle.queries.specs.Query.{queryOf}
 pub use Rattle.ranking.specs.Top.{noHit}
 use Rattle.removals.specs.Removal.{removeOf}
 use Rattle.plans.specs.Step.{stepOf}
-
--- a call with its arguments; a query has so many places in its list
-pub data Call : Type 0 where
-  Open : Call
-  Event : Name → Call
-  Close : Call
-  Remove : ℕ → Call
-  Flush : Call
-  Step : Call
-  Query : ℕ → List Name → Call
 
 -- the parts of a probe that a call is lent, and the probe with them put back
 abbrev pub storeIn : Probe → Store

@@ -38,7 +38,7 @@ fn step_beside(s: State, job: MergeJob, card: &mut [u8]) -> Stepped
             job: job,
         };
     }
-    let replied = merges::step(s, card);
+    let replied = engine::step_value(s, card);
     let after = replied.state;
     let moved = after.merge;
     Stepped {

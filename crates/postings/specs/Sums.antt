@@ -2,7 +2,7 @@
 use mathlib.Core.Bool.{Bool, cond, _&&_}
 use mathlib.Core.List.{List, [], _∷_}
 use Prim.Native.Nat.{ℕ}
-use lib.Dec.{ltb, eqb, leb}
+use lib.Dec.{ltb, eqb}
 use lib.IntN.{ℤ, pos, negsuc, _+ℤ_}
 use lib.ListN.{length}
 use Rattle.lists.specs.Lists.{keep, down}
@@ -33,7 +33,3 @@ isAbove z = ltb 0 (above z)
 -- F: how many windows, from the highest number down, give the identifier more than 0
 unfoldable pub frequency : List Posting → ℕ → ℕ
 frequency l i = length (keep (λ w. isAbove (sum l i w)) (down 65535))
-
--- is a posting's window one of 1 to 65,535
-abbrev pub inWindows : Posting → Bool
-inWindows p = leb 1 (p .window) && leb (p .window) 65535

@@ -15,7 +15,7 @@ use Rattle.queries.specs.Query.{queryOf}
 use Rattle.ranking.specs.declared.Top.{Top}
 use Rattle.engine.specs.Calls.{Call, Query, withStore, withState, noHit, probeCall}
 use Rattle.texts.specs.Texts.{answerText, Says, Few}
-use Rattle.commands.specs.Answering.{textOf, leftOf, Obeys}
+use Rattle.sessions.specs.Answering.{textOf, leftOf, Obeys}
 
 answer-carry : {S T : Type 0} (f : S → T) (o : Outcome S) → answerOf (carry f o) ≡ answerOf o
 answer-carry f (refuse n) = refl

@@ -5,7 +5,7 @@ use Rattle.state.specs.Probe.{Probe}
 use Rattle.engine.specs.Calls.{Call}
 use Rattle.texts.proofs.Splitting.{too-long}
 use Rattle.commands.specs.Commands.{callIn, commandOf}
-use Rattle.commands.specs.Answering.{textOf, leftOf}
+use Rattle.sessions.specs.Answering.{textOf, leftOf}
 use Rattle.sessions.specs.Lines.{linesFrom, lines, leftBy, textBy, Hand, obeyed, kept, takenByte, taken, ended, behind, written, takenBatches, fresh, finished}
 
 -- a line feed, and any other byte

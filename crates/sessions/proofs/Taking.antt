@@ -3,7 +3,7 @@ use Rattle.lists.proofs.Prelude.{Bool, true, false, false≢true, List, [], _�
 use borrow.Rule.Slice.PartMut.{putMid, postOf}
 use Rattle.state.specs.Probe.{Probe}
 use Rattle.commands.specs.Commands.{commandOf}
-use Rattle.commands.specs.Answering.{textOf, Obeys}
+use Rattle.sessions.specs.Answering.{textOf, Obeys}
 use Rattle.sessions.specs.Lines.{Hand, obeyed, kept, takenByte, taken, ended, written, Keeps, Answers, Takes, Ends, Serves}
 use Rattle.sessions.proofs.Program.{taken-more, written-taken, byte-feed, byte-other}
 

@@ -5,7 +5,7 @@ use Prim.Native.Nat.{ℕ}
 use Rattle.state.specs.declared.State.{State}
 use Rattle.windows.specs.Promises.{probeOf}
 use Rattle.engine.specs.Calls.{Call}
-use Rattle.commands.specs.Answering.{Obeys}
+use Rattle.sessions.specs.Answering.{Obeys}
 
 -- it is obeyed whatever they are, and they are left as they are
 abbrev pub ObeysAlone : State → Option Call → List ℕ → ℕ → State → Type 0

@@ -10,7 +10,7 @@ use Rattle.state.specs.declared.State.{State}
 use Rattle.state.specs.Probe.{Probe}
 use Rattle.windows.specs.Promises.{probeOf}
 use Rattle.commands.specs.Commands.{commandOf}
-use Rattle.commands.specs.Answering.{textOf, leftOf}
+use Rattle.sessions.specs.Answering.{textOf, leftOf}
 
 -- the lines of what is left of an input, where f is what the line at hand has so far; a line feed (10) ends a line, and so does the input's end, if something
 -- stands before it

@@ -13,7 +13,7 @@ ghost use Rattle.answers.specs.Numbers.{replied};
 ghost use Rattle.engine.specs.Calls.{Open, Query, probeCall};
 ghost use Rattle.windows.specs.Promises.{Gives, probeOf};
 ghost use Rattle.commands.specs.Commands.{changing, changeReach, callIn, commandOf};
-ghost use Rattle.commands.specs.Answering.{Obeys};
+ghost use Rattle.sessions.specs.Answering.{Obeys};
 ghost use Rattle.sessions.specs.Alone.{ObeysAlone};
 
 // The state after a line, and how many bytes its text has.

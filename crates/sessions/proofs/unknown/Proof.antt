@@ -1,6 +1,6 @@
 -- `sessions::unknown` meets its contract.
 use Rattle.lists.proofs.Prelude.{refl, needs}
-use Rattle.commands.specs.Answering.{textOf, leftOf}
+use Rattle.sessions.specs.Answering.{textOf, leftOf}
 use Rattle.sessions.proofs.unknown.Statement.{statement}
 use Rattle.sessions.proofs.unknown.Tie as tie
 

@@ -1,0 +1,13 @@
+-- The calls as data, with their arguments.
+use mathlib.Core.List.{List}
+use Prim.Native.Nat.{ℕ}
+
+-- an event has an identifier's bytes, a removal a window, and a query so many places in its list and the bytes of each identifier
+pub data Call : Type 0 where
+  Open : Call
+  Event : List ℕ → Call
+  Close : Call
+  Remove : ℕ → Call
+  Flush : Call
+  Step : Call
+  Query : ℕ → List (List ℕ) → Call
