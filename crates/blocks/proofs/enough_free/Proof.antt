@@ -1,4 +1,4 @@
--- `card::enough_free` meets its contract. The invariant: enough are free where what is missing is free in the places from i on.
+-- `blocks::enough_free` meets its contract. The invariant: enough are free where what is missing is free in the places from i on.
 use Rattle.lists.proofs.Prelude.{⊎-elim, _≡_, refl, sym, _∙_, _+_, _-_, _<_, _≤_, arith, leb, length, drop, ltb-true, ltb-false, le-leb, eq-eqb, keep, leb-less, leb-none}
 use Rattle.words.specs.Words.{words}
 use Rattle.card.specs.Blocks.{isFree, afterTaken, freeBlocks}

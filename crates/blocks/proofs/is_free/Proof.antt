@@ -1,4 +1,4 @@
--- `card::is_free` meets its contract. The invariant: the block is free where its words from `at` on are all ones.
+-- `blocks::is_free` meets its contract. The invariant: the block is free where its words from `at` on are all ones.
 use Rattle.lists.proofs.Prelude.{_≡_, refl, sym, _∙_, _-_, _≤_, arith, eqb, drop, every}
 use Rattle.words.specs.Words.{words, allOnes}
 use Rattle.card.specs.Blocks.{block as blockOf, isFree}

@@ -1,4 +1,4 @@
--- `card::next_free` meets its contract. The invariant: the free blocks are those in the places from i on.
+-- `blocks::next_free` meets its contract. The invariant: the free blocks are those in the places from i on.
 use Rattle.lists.proofs.Prelude.{_≡_, refl, sym, ap, _∙_, _-_, _≤_, arith, drop, keep}
 use Rattle.words.specs.Words.{words}
 use Rattle.card.specs.Blocks.{isFree, afterTaken, freeBlocks}

@@ -1,4 +1,4 @@
--- `card::release_block` meets its contract. The invariant: storing what is left of 1,024 words of all ones gives the freed block.
+-- `blocks::release_block` meets its contract. The invariant: storing what is left of 1,024 words of all ones gives the freed block.
 use Rattle.lists.proofs.Prelude.{[], _∷_, _≡_, refl, sym, _∙_, _+_, _-_, _*_, _≤_, arith, length, sets}
 use Rattle.words.specs.Words.{words}
 use Rattle.words.proofs.Views.{length-words}

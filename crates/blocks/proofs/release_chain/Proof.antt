@@ -1,4 +1,4 @@
--- `card::release_chain` meets its contract. The invariant: freeing the blocks that are left gives the card with the whole chain freed; they are
+-- `blocks::release_chain` meets its contract. The invariant: freeing the blocks that are left gives the card with the whole chain freed; they are
 -- different blocks of the card.
 use Rattle.lists.proofs.Prelude.{true, _≡_, refl, sym, _∙_, arith, length, different}
 use Rattle.words.specs.Words.{words}

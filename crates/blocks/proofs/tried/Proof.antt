@@ -1,4 +1,4 @@
--- `card::tried` meets its contract: upward after the block last taken, then from 0 on.
+-- `blocks::tried` meets its contract: upward after the block last taken, then from 0 on.
 use Rattle.lists.proofs.Prelude.{sym, arith, needs}
 use Rattle.blocks.proofs.Taking.{after-up, after-round}
 use Rattle.blocks.proofs.tried.Statement.{statement}

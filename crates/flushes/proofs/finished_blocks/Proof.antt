@@ -1,4 +1,4 @@
--- `flushing::finished_blocks` meets its contract. The invariant: the total so far and the blocks of the records not passed make the whole.
+-- `flushes::finished_blocks` meets its contract. The invariant: the total so far and the blocks of the records not passed make the whole.
 use Rattle.lists.proofs.Prelude.{List, _≡_, _+_, _*_, _-_, _≤_, arith, length, drop, needs, totalBy, unmapped, used-turn, used-end}
 use Rattle.state.specs.declared.Partition.{Partition}
 use Rattle.state.specs.Views.{finished, noPartition}

@@ -1,4 +1,4 @@
--- `capi::reply_number` meets its contract.
+-- `numbers::reply_number` meets its contract.
 use Rattle.numbers.proofs.Told.{number-refused}
 use borrow.Author.Needs.{needs}
 use Rattle.numbers.proofs.reply_number.Statement.{statement}

@@ -1,4 +1,4 @@
--- `capi::settle` meets its contract.
+-- `numbers::settle` meets its contract.
 use Rattle.lists.proofs.Prelude.{refl, needs}
 use Rattle.numbers.specs.Images.{imaged}
 use Rattle.numbers.proofs.Told.{number-refused}

@@ -1,4 +1,4 @@
--- `capi::settle_open` meets its contract.
+-- `numbers::settle_open` meets its contract.
 use Rattle.lists.proofs.Prelude.{refl, arith, needs}
 use Rattle.numbers.specs.Images.{imaged}
 use Rattle.numbers.proofs.Told.{number-small, opened-number, opened-refused}

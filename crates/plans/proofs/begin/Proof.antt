@@ -1,4 +1,4 @@
--- `merges::begin` meets its contract.
+-- `plans::begin` meets its contract.
 use Rattle.lists.proofs.Prelude.{not, refl, sym, ap, _∙_, suc, arith, needs, not-true, not-false, eq-eqb, leb-true, length, take}
 use Rattle.words.specs.Words.{words, bytes}
 use Rattle.postings.specs.Merge.{nonzero}

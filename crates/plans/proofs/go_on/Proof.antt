@@ -1,4 +1,4 @@
--- `merges::go_on` meets its contract.
+-- `plans::go_on` meets its contract.
 use Rattle.lists.proofs.Prelude.{not, refl, sym, ap, _∙_, arith, not-false, ne-eqb, needs}
 use Rattle.words.specs.Words.{words}
 use Rattle.card.specs.Chains.{blocksFor}

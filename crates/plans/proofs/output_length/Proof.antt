@@ -1,4 +1,4 @@
--- `merges::writing::output_length` meets its contract.
+-- `plans::output_length` meets its contract.
 use Rattle.lists.proofs.Prelude.{needs, eq-eqb, ne-eqb}
 use Rattle.plans.proofs.output_length.Statement.{statement}
 use Rattle.plans.proofs.output_length.Tie as tie

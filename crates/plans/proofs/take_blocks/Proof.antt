@@ -1,4 +1,4 @@
--- `merges::take_blocks` meets its contract.
+-- `plans::take_blocks` meets its contract.
 use Rattle.lists.proofs.Prelude.{_≡_, refl, sym, ap, _∙_, ℕ, _-_, _≤_, arith, needs, length, getD, take, length-take-le}
 use Rattle.words.specs.Words.{words}
 use Rattle.card.specs.Blocks.{freeBlocks}

@@ -1,4 +1,4 @@
--- `queries::judging::bad_query` meets its contract, part by part.
+-- `ranking::bad_query` meets its contract, part by part.
 use Rattle.lists.proofs.Prelude.{needs, lt-ltb, le-ltb, refl, sym, _∙_, eqb, length, or-right}
 use Rattle.ranking.proofs.Asked.{bad-parts}
 use Rattle.ranking.proofs.bad_query.Statement.{statement}

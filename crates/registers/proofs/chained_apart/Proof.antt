@@ -1,4 +1,4 @@
--- `identifiers::chained_apart` meets its contract. The loop's invariant: the identifiers passed differ, and the two arrays chain their places.
+-- `registers::chained_apart` meets its contract. The loop's invariant: the identifiers passed differ, and the two arrays chain their places.
 use Rattle.lists.proofs.Prelude.{true, false, [], _≡_, refl, sym, ap, _∙_, suc, _-_, _<_, _≤_, zero-le, add-one, arith, needs, length, getD, take, length-set, take-all, never}
 use Rattle.identifiers.specs.Names.{among, distinct}
 use Rattle.identifiers.specs.Register.{names}

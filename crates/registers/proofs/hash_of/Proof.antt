@@ -1,4 +1,4 @@
--- `identifiers::hash_of` meets its contract. The loop's invariant: the hash so far, taken on over the bytes to come, is that of the whole.
+-- `registers::hash_of` meets its contract. The loop's invariant: the hash so far, taken on over the bytes to come, is that of the whole.
 use Rattle.lists.proofs.Prelude.{_≡_, refl, sym, _∙_, _-_, _<_, _≤_, zero-le, add-one, arith, length, drop, drop-of-length-le}
 use Rattle.registers.specs.Chains.{hashFrom, hashOf}
 use Rattle.registers.proofs.Chains.{hash-step}

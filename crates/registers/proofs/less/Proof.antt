@@ -1,4 +1,4 @@
--- `identifiers::less` meets its contract. The loop's invariant: the words passed are equal.
+-- `registers::less` meets its contract. The loop's invariant: the words passed are equal.
 use Rattle.lists.proofs.Prelude.{_≡_, refl, sym, _∙_, _-_, _≤_, add-one, arith, getD, drop}
 use Rattle.words.proofs.Views.{length-words}
 use Rattle.registers.specs.Order.{lower, key}

@@ -1,4 +1,4 @@
--- `identifiers::register_ok` meets its contract: the rule is that of a formed register whose identifiers differ.
+-- `registers::register_ok` meets its contract: the rule is that of a formed register whose identifiers differ.
 use Rattle.lists.proofs.Prelude.{true, false, _≡_, sym, _∙_, needs, not-true, not-false}
 use Rattle.identifiers.specs.Formed.{formed}
 use Rattle.identifiers.proofs.Entries.{rule-parts}

@@ -1,4 +1,4 @@
--- `identifiers::repeated` meets its contract. The loop's invariant: the answer is that for the identifiers that are left, the last of them has the
+-- `registers::repeated` meets its contract. The loop's invariant: the answer is that for the identifiers that are left, the last of them has the
 -- hash that is looked for, and there were no more steps than places passed.
 use Rattle.lists.proofs.Prelude.{true, false, _||_, [], _≡_, sym, ap, ap₂, _∙_, ℕ, suc, _+_, _-_, _<_, _≤_, arith, needs, length, getD, take, same, never}
 use Rattle.identifiers.specs.Names.{among}

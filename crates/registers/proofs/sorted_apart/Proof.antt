@@ -1,4 +1,4 @@
--- `identifiers::sorted_apart` meets its contract. The loop's invariant: both arrays hold places.
+-- `registers::sorted_apart` meets its contract. The loop's invariant: both arrays hold places.
 use Rattle.lists.proofs.Prelude.{_-_, _≤_, arith, not-false, never}
 use Rattle.words.specs.Words.{Below}
 use Rattle.identifiers.specs.Register.{names}

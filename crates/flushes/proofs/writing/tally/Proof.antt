@@ -1,4 +1,4 @@
--- `flushes::tally` meets its contract. The invariant: the postings before place i are counted, and storing the words of those that are left gives the whole.
+-- `flushes::writing::tally` meets its contract. The invariant: the postings before place i are counted, and storing the words of those that are left gives the whole.
 use Rattle.lists.proofs.Prelude.{⊎-elim, map, _≡_, refl, sym, ap, _∙_, ℕ, _-_, arith, needs, eq-eqb, ne-eqb, length, getD, drop, length-map, length-set, length-replicate, length-take-le, sets, unmapped}
 use mir.Syntax.{w16}
 use mir.Val.{SFits}

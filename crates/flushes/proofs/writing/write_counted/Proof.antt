@@ -1,4 +1,4 @@
--- `flushes::write_counted` meets its contract: with its link the block is a chain of one that holds nothing, and the partition is written along it.
+-- `flushes::writing::write_counted` meets its contract: with its link the block is a chain of one that holds nothing, and the partition is written along it.
 use Rattle.lists.proofs.Prelude.{[], _∷_, _≡_, sym, ap, _∙_, _-_, _*_, _/_, _%_, arith, needs, length, take, length-take, length-take-le, unmapped}
 use Rattle.words.specs.Words.{words, bytes}
 use Rattle.words.proofs.Views.{length-words, bytes-words}

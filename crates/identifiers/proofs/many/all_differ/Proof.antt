@@ -1,4 +1,4 @@
--- `queries::judging::all_differ` meets its contract. The invariant: the first i differ.
+-- `identifiers::many::all_differ` meets its contract. The invariant: the first i differ.
 use Rattle.lists.proofs.Prelude.{true, _≡_, refl, map, _≤_, _-_, arith, length, take}
 use denote.Ref.{now}
 use Rattle.identifiers.specs.Names.{distinct}

@@ -1,4 +1,4 @@
--- `queries::judging::any_bad` meets its contract. The invariant: the answer for all is the answer for those from i on.
+-- `identifiers::many::any_bad` meets its contract. The invariant: the answer for all is the answer for those from i on.
 use Rattle.lists.proofs.Prelude.{_≡_, refl, map, _≤_, _-_, arith, needs, length, drop, any}
 use denote.Ref.{now}
 use Rattle.identifiers.specs.Names.{badLength}

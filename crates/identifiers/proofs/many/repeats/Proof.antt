@@ -1,4 +1,4 @@
--- `queries::judging::repeats` meets its contract. The invariant: the answer is the answer for those from j on.
+-- `identifiers::many::repeats` meets its contract. The invariant: the answer is the answer for those from j on.
 use Rattle.lists.proofs.Prelude.{_≡_, refl, [], map, _≤_, _-_, arith, needs, getD, take, drop}
 use denote.Ref.{now}
 use Rattle.identifiers.specs.Names.{among}

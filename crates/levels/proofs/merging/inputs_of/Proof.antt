@@ -1,4 +1,4 @@
--- `merges::listing::inputs_of` meets its contract.
+-- `levels::merging::inputs_of` meets its contract.
 use denote.Enum.Declared.{tagOf}
 use Rattle.lists.proofs.Prelude.{_≡_, refl, sym, ap, _∙_, arith, length, length-take-le, needs, unmapped}
 use Rattle.state.specs.Views.{finished, partitionsOf}

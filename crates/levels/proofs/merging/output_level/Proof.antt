@@ -1,4 +1,4 @@
--- `merges::listing::output_level` meets its contract.
+-- `levels::merging::output_level` meets its contract.
 use denote.Enum.Declared.{tagOf}
 use Rattle.lists.proofs.Prelude.{refl, sym, ap, _∙_, arith, needs, eq-eqb, ne-eqb}
 use Rattle.state.specs.Views.{finished}

@@ -1,4 +1,4 @@
--- `merges::listing::replaced_by` meets its contract.
+-- `levels::merging::replaced_by` meets its contract.
 use denote.Enum.Declared.{tagOf}
 use Rattle.lists.proofs.Prelude.{[], _∷_, _≡_, refl, sym, ap, _∙_, arith, length, length-take-le, needs, unmapped}
 use Rattle.state.specs.Views.{finished, partitionsOf}

@@ -1,4 +1,4 @@
--- `merges::listing::run_of` meets its contract.
+-- `levels::merging::run_of` meets its contract.
 use Rattle.lists.proofs.Prelude.{_≡_, sym, ap, _∙_, _+_, arith, length, take, drop, length-take-le, needs, unmapped, take-drop}
 use Rattle.state.specs.Views.{finished, partitionsOf}
 use Rattle.levels.proofs.Choosing.{finished-of, front-cut}

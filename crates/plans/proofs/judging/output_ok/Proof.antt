@@ -1,4 +1,4 @@
--- `merges::judging::output_ok` meets its contract.
+-- `plans::judging::output_ok` meets its contract.
 use Rattle.lists.proofs.Prelude.{true, true≢false, List, _≡_, refl, sym, ap, ap₂, _∙_, ℕ, _+_, _*_, _<_, arith, needs, eqb-true, length}
 use Rattle.words.specs.Words.{words}
 use Rattle.postings.specs.declared.Posting.{Posting}

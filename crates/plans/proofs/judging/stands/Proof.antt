@@ -1,4 +1,4 @@
--- `merges::judging::stands` meets its contract.
+-- `plans::judging::stands` meets its contract.
 use Rattle.lists.proofs.Prelude.{sym, _∙_, needs, not-true, not-false}
 use Rattle.words.specs.Words.{words}
 use Rattle.card.proofs.Seeking.{rule-chained}

@@ -1,4 +1,4 @@
--- `terms::counting::copy` meets its contract. The invariant: the numbers before i are copied.
+-- `scores::counting::copy` meets its contract. The invariant: the numbers before i are copied.
 use Rattle.lists.proofs.Prelude.{_≡_, refl, _≤_, _-_, arith, length, take, length-set}
 use Rattle.scores.proofs.Counts.{copy-more, copy-done}
 use Rattle.scores.proofs.counting.copy.Statement.{statement}

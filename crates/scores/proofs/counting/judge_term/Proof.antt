@@ -1,4 +1,4 @@
--- `terms::counting::judge_term` meets its contract: what is told of the opened heads is what is read of the identifier.
+-- `scores::counting::judge_term` meets its contract: what is told of the opened heads is what is read of the identifier.
 use Rattle.lists.proofs.Prelude.{sym, _∙_, arith, needs}
 use Rattle.words.specs.Words.{words, Below}
 use Rattle.words.proofs.Views.{words-below}

@@ -1,4 +1,4 @@
--- `terms::counting::keep_term` meets its contract: the opened heads are copied before the judging spends them, and stand for the identifier.
+-- `scores::counting::keep_term` meets its contract: the opened heads are copied before the judging spends them, and stand for the identifier.
 use Rattle.lists.proofs.Prelude.{_+_, _-_, length, length-drop, totalBy, never, sym, ap, _∙_, arith, needs, take-rest}
 use borrow.Rule.Slice.PartMut.{putMid}
 use Rattle.keyed.specs.Keys.{allFall}

@@ -1,4 +1,4 @@
--- `terms::counting::total_left` meets its contract. The invariant: `total` is what the heads before i have to come.
+-- `scores::counting::total_left` meets its contract. The invariant: `total` is what the heads before i have to come.
 use Rattle.lists.proofs.Prelude.{_≡_, refl, _≤_, _-_, _*_, arith, length, totalBy}
 use Rattle.words.specs.Words.{words}
 use Rattle.kway.specs.Parts.{parts}

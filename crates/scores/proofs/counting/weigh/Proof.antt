@@ -1,4 +1,4 @@
--- `terms::counting::weigh` meets its contract: four numbers are put in front of the heads.
+-- `scores::counting::weigh` meets its contract: four numbers are put in front of the heads.
 use Rattle.lists.proofs.Prelude.{arith, set, length-drop, lt-length-set, needs, take-rest}
 use Rattle.words.specs.Words.{words}
 use Rattle.scores.proofs.Serving.{weighed}

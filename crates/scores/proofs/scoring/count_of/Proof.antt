@@ -1,4 +1,4 @@
--- `terms::scoring::count_of` meets its contract: below 0 nothing, else the number itself.
+-- `scores::scoring::count_of` meets its contract: below 0 nothing, else the number itself.
 use mir.Facts.{toZ-ofZ}
 use Rattle.lists.proofs.Prelude.{arith, natAbs, leb-true}
 use Rattle.postings.proofs.Signs.{pos-cast}

@@ -1,4 +1,4 @@
--- `terms::scoring::take_term` meets its contract: a term that is not at the window, and one that is.
+-- `scores::scoring::take_term` meets its contract: a term that is not at the window, and one that is.
 use Rattle.lists.proofs.Prelude.{_≡_, ap, _∙_, List, ℕ, _*_, _-_, _≤_, arith, ltb, length, getD, drop, set, length-drop, lt-length-set, needs, take-rest}
 use mir.Facts.{toZ-ofZ}
 use mir.Syntax.{w32}

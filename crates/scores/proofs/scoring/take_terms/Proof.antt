@@ -1,4 +1,4 @@
--- `terms::scoring::take_terms` meets its contract. The invariant: the terms before j are moved, those from j on are as they were.
+-- `scores::scoring::take_terms` meets its contract. The invariant: the terms before j are moved, those from j on are as they were.
 use Rattle.lists.proofs.Prelude.{_≡_, _≤_, _+_, _*_, _-_, arith, needs}
 use Rattle.words.specs.Words.{words}
 use Rattle.kway.specs.Parts.{parts}

@@ -1,4 +1,4 @@
--- `terms::scoring::top_terms` meets its contract. The invariant: `top` is that of the terms before j.
+-- `scores::scoring::top_terms` meets its contract. The invariant: `top` is that of the terms before j.
 use Rattle.lists.proofs.Prelude.{_≡_, refl, _∙_, _≤_, _+_, _*_, _-_, arith, needs}
 use Rattle.words.specs.Words.{words}
 use Rattle.keyed.specs.Groups.{topAll}
