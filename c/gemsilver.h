@@ -1,4 +1,4 @@
-/* Gemsilver for C and C++: counts events by identifier in windows of play, keeps them on a card, and finds the windows that match best.
+/* Gemsilver for C and C++: counts events by identifier in windows of play, keeps them on a card, and finds the closed windows that match best.
  *
  * The caller lends three buffers and hands them back to the next call as they were left: the state's image, the card and the register.
  * docs/FORMAT.md tells them byte by byte. They belong together: save all three or none, and at the same moment.
@@ -115,7 +115,7 @@ static inline uint32_t gemsilver_open_refusal(uint32_t opened) {
 uint32_t gemsilver_event(uint8_t *image, size_t image_length, uint8_t *card, size_t card_length, uint8_t *reg, size_t reg_length,
                          const uint8_t *identifier, size_t identifier_length);
 
-/* Closes the open window; one without events gives its number back. 0, or a refusal. */
+/* Closes the open window, which queries find from then on; one without events gives its number back. 0, or a refusal. */
 uint32_t gemsilver_close(uint8_t *image, size_t image_length);
 
 /* Takes out a closed window. 0, or a refusal. */
@@ -127,13 +127,14 @@ uint32_t gemsilver_flush(uint8_t *image, size_t image_length, uint8_t *card, siz
 /* Takes a merge one step further, or begins one. 0, or a refusal. */
 uint32_t gemsilver_step(uint8_t *image, size_t image_length, uint8_t *card, size_t card_length);
 
-/* Finds the windows that match the identifiers best. hits has GEMSILVER_HIT bytes for each place; bytes past the last whole place, and places past the
- * last hit, stay as they are. What it gives is taken apart by the functions below. */
+/* Finds the closed windows that match the identifiers best; the open one is no hit and moves no score, wherever its counts lie. hits has
+ * GEMSILVER_HIT bytes for each place; bytes past the last whole place, and places past the last hit, stay as they are. What it gives is taken apart by
+ * the functions below. */
 uint64_t gemsilver_query(const uint8_t *image, size_t image_length, const uint8_t *card, size_t card_length, const uint8_t *reg,
                          size_t reg_length, const struct gemsilver_bytes *identifiers, size_t identifier_count, uint8_t *hits,
                          size_t hits_length);
 
-/* Of what a query gave: its refusal, 0 where it is none; how many hits are listed; how many stored postings it took up. */
+/* Of what a query gave: its refusal, 0 where it is none; how many hits are listed; how many stored postings it took up, the open window's too. */
 static inline uint32_t gemsilver_query_refusal(uint64_t found) {
     return (uint32_t)(found % 256);
 }

@@ -1,5 +1,5 @@
 -- The engine on lists answers every call as ledger and account do, and leaves the lists that stand for what they leave.
-use Rattle.lists.proofs.Prelude.{Bool, true, false, _||_, _&&_, not, cond, true≢false, List, [], _∷_, map, _≡_, refl, sym, ap, ap₂, _∙_, fun-ext, subst, ℕ, suc, _+_, _-_, _*_, _<_, _≤_, arith, eqb, ltb, leb, pos, length, getD, length-map, eqb-true, eqb-false, ne-eqb, ltb-true, ltb-false, le-ltb, lt-leb, not-false, empty, down, by-test, and-left, and-right, empty-is}
+use Rattle.lists.proofs.Prelude.{Bool, true, false, _||_, _&&_, not, cond, true≢false, List, [], _∷_, map, _≡_, refl, sym, ap, ap₂, _∙_, fun-ext, subst, ℕ, suc, _+_, _-_, _*_, _<_, _≤_, arith, eqb, ltb, leb, pos, length, getD, length-map, eqb-true, eqb-false, ne-eqb, ltb-true, ltb-false, le-ltb, not-true, not-false, empty, by-test, empty-is}
 use Rattle.postings.specs.declared.Posting.{Posting}
 use Rattle.postings.specs.Merge.{put, nonzero, negated}
 use Rattle.postings.specs.Sums.{above}
@@ -7,6 +7,7 @@ use Rattle.answers.specs.Answers.{Answer, done, hits, Outcome, refuse, leave, r
 use Rattle.state.specs.declared.Windows.{Windows}
 use Rattle.state.specs.Views.{bufferOf}
 use Rattle.state.specs.Levels.{ofLevel}
+use Rattle.state.specs.Shown as S
 use Rattle.buffer.proofs.Canonical.{buffered-of}
 use Rattle.identifiers.specs.Names.{Name, badLength, among, numberOf, numbersOf}
 use Rattle.events.proofs.Pairs.{pair-kept}
@@ -14,14 +15,14 @@ use Rattle.ranking.specs.Hits.{ranked}
 use Rattle.removals.specs.Removal.{countsOf, isLive}
 use Rattle.engine.specs.Calls.{Call, Open, Event, Close, Remove, Flush, Step, Query}
 use Rattle.accounts.specs.Account.{Account, storedIn, takenFrom, blocksIn, blocksAhead, steppedAccount, flushedAccount, overflows, exceeds, addedTo, stepping, flushing, flushingIf}
-use Rattle.accounts.specs.Ledger.{Ledger, live, existing, opens, closes, including, counts, removes, byNumber}
+use Rattle.accounts.specs.Ledger.{Ledger, live, shown, existing, opens, closes, including, counts, removes, byNumber}
 use Rattle.accounts.specs.Books.{once, takenBack, Books, books}
-use Rattle.accounts.specs.Lists.{Lists, isOpen, openedLists, closedLists, onceOf, countedLists, openCounted, removedLists, countOf, removingLists, pursued, listsCall}
+use Rattle.accounts.specs.Lists.{Lists, isOpen, openedLists, closedLists, onceOf, countedLists, removedLists, countOf, removingLists, pursued, listsCall}
 use Rattle.accounts.proofs.Stored.{levelOf}
 use Rattle.accounts.proofs.Shaped.{Roomed, asBefore, emptied, event-room, removal-room}
 use Rattle.accounts.proofs.Numbers.{new-is, noted-is, elem-numbers, numbers-including}
 use Rattle.accounts.proofs.Ranked.{ranked-windows, ranked-names}
-use Rattle.accounts.proofs.Live.{not-live, existing-opens, existing-closes, existing-counts, existing-removes, existing-two}
+use Rattle.accounts.proofs.Live.{not-live, existing-opens, existing-closes, existing-counts, existing-removes}
 use Rattle.accounts.proofs.Lawful.{Lawful}
 use Rattle.accounts.proofs.Held.{counts-back, counts-live, counts-length, length-back}
 use Rattle.accounts.proofs.Kept.{Kept, kept-flushed, kept-stepped, kept-opens, kept-closes, kept-counts, kept-removes}
@@ -50,28 +51,19 @@ module _ (entries : ℕ) (l : Ledger) (s : Lawful entries l) (a : Account) where
   unfolding openedLists opens
   open-same n =
       same-lists
-      (same-windows refl (sym (existing-opens l (not-live l (suc (l .last)) (λ m. s .unborn m (suc (l .last)) (omega arith))))) refl refl)
+      (same-windows refl (sym (existing-opens l n)) refl refl)
       refl (ap (map (numberOf (l .identifiers))) (s .shut n .1)) refl
 
   close-same : l .isOpen ≡ true → closedLists (listsOf l a) ≡ listsOf (closes l) a
   unfolding closedLists closes
   close-same o =
       same-lists
-      (same-windows refl (sym (existing-closes l (λ z. not-live l (l .last) (s .untouched o z)))) refl refl)
+      (same-windows refl (sym (existing-closes l o (s .given o) (s .touched o))) refl refl)
       refl refl refl
 
   -- N after an event
-  event-existing : (n : Name) → l .isOpen ≡ true → cond (eqb (l .events) 0) (suc (existing l)) (existing l) ≡ existing (counts l n)
-  event-existing n o =
-      by-test (eqb (l .events) 0)
-      (λ y. ap (λ t. cond t (suc (existing l)) (existing l)) y
-      ∙ sym (grown ∙ ap (λ t. cond t (existing l) (suc (existing l))) (not-live l (l .last) (s .untouched o (eqb-true (l .events) 0 y)))))
-      (λ z. let d = eqb-false (l .events) 0 z in
-      ap (λ t. cond t (suc (existing l)) (existing l)) z
-      ∙ sym (grown ∙ ap (λ t. cond t (existing l) (suc (existing l))) (s .touched o (omega arith))))
-    where
-      grown : existing (counts l n) ≡ cond (live l (l .last)) (existing l) (suc (existing l))
-      grown = existing-counts l n (s .given o) (λ v z. s .uncounted n v z)
+  event-existing : (n : Name) → l .isOpen ≡ true → existing l ≡ existing (counts l n)
+  event-existing n o = sym (existing-counts l n o (s .given o) (λ v z. s .uncounted n v z))
 
   -- what an event counts
   once-is : (n : Name) → l .isOpen ≡ true → onceOf (listsOf l a) n ≡ once l n
@@ -126,30 +118,22 @@ module _ (blocks entries : ℕ) (l : Ledger) (a : Account) (k : Kept blocks entr
       by-test (ltb (l .last) w) (λ y. absurd (true≢false (sym e ∙ not-live l w (λ n. k .lawful .unborn n w (ltb-true (l .last) w y))))) (λ d. ltb-false (l .last) w d),
     )
 
-    -- one that is not open is counted beside the open one
-    beside : live l w ≡ true → openCounted (listsOf l a) < existing l
-    beside e =
-        let g = live-given e in
-        let some : 1 ≤ existing l = omega (arith, existing-removes l w (g .0) (g .1) e) in
-        by-test (isOpen (listsOf l a) && ltb 0 (l .events))
-        (λ y. let o : l .isOpen ≡ true = sym (open-is entries l (k .lawful) a) ∙ and-left (isOpen (listsOf l a)) _ y in
-        let d = eqb-false w (l .last) (ap (λ t. t && eqb w (l .last)) (sym o) ∙ other) in
-        let two = existing-two l w (g .0) (omega (arith, g .1)) e (k .lawful .touched o (ltb-true 0 (l .events) (and-right (isOpen (listsOf l a)) _ y))) in
-        omega (arith, two, ap {B = ℕ} (λ t. cond t 1 0) y))
-        (λ n. omega (arith, some, ap {B = ℕ} (λ t. cond t 1 0) n))
+    -- N has it, and is one less without it
+    one-less : live l w ≡ true → existing l ≡ suc (existing (removes l w))
+    one-less e = let g = live-given e in existing-removes l w (g .0) (g .1) other e
 
     -- the test for refusal 7 is whether the window is live
-    seven-is : (cs : List Posting) → isLive cs ≡ live l w → (not (isLive cs) || (ltb (l .last) w || leb (existing l) (openCounted (listsOf l a)))) ≡ not (live l w)
+    seven-is : (cs : List Posting) → isLive cs ≡ live l w → (not (isLive cs) || (ltb (l .last) w || eqb (existing l) 0)) ≡ not (live l w)
     seven-is cs same =
         by-test (live l w)
         (λ y. let g = live-given y in
-        ap₂ _||_ (ap not (same ∙ y)) (ap₂ _||_ (le-ltb (l .last) w (g .1)) (lt-leb (existing l) (openCounted (listsOf l a)) (beside y))) ∙ sym (ap not y))
-        (λ n. ap (λ t. not t || (ltb (l .last) w || leb (existing l) (openCounted (listsOf l a)))) (same ∙ n) ∙ sym (ap not n))
+        ap₂ _||_ (ap not (same ∙ y)) (ap₂ _||_ (le-ltb (l .last) w (g .1)) (ne-eqb (existing l) 0 (λ z. omega (arith, one-less y)))) ∙ sym (ap not y))
+        (λ n. ap (λ t. not t || (ltb (l .last) w || eqb (existing l) 0)) (same ∙ n) ∙ sym (ap not n))
 
     remove-same : (cs : List Posting) (b : Account) → negated cs ≡ takenBack l w → live l w ≡ true → removedLists (listsOf l a) cs b ≡ listsOf (removes l w) (addedTo (takenBack l w) b)
     unfolding removedLists
     remove-same cs b same e =
-        same-lists (same-windows last-same (one-less ∙ refl) current-same events-same) names-same listed-same (ap (λ ps. addedTo ps b) same)
+        same-lists (same-windows last-same (omega (arith, one-less e)) current-same events-same) names-same listed-same (ap (λ ps. addedTo ps b) same)
       where
         last-same : l .last ≡ removes l w .last
         last-same = unfold removes in refl
@@ -166,20 +150,42 @@ module _ (blocks entries : ℕ) (l : Ledger) (a : Account) (k : Kept blocks entr
         listed-same : map (numberOf (l .identifiers)) (l .listed) ≡ map (numberOf (removes l w .identifiers)) (removes l w .listed)
         listed-same = unfold removes in refl
 
-        one-less : existing l - 1 ≡ existing (removes l w)
-        one-less = let g = live-given e in omega (arith, existing-removes l w (g .0) (g .1) e)
-
   -- ---- a query
 
   counts-read : countOf a ≡ byNumber l
   unfolding countOf
   counts-read = fun-ext λ i. fun-ext λ w. ap above (k .sums i w)
 
-  pub query-same : (m : ℕ) (ns : List Name) → ranked (existing l) (countOf a) (down 65535) m (numbersOf (l .identifiers) ns) ≡ ranked (existing l) (l .count) (down (l .last)) m ns
+  -- of the windows that show in the lists, those that the ledger has not count nothing
+  shown-same : (m : ℕ) (is : List ℕ) → ranked (existing l) (byNumber l) (S.shown (windowsOf l)) m is ≡ ranked (existing l) (byNumber l) (shown l) m is
+  unfolding S.shown shown
+  shown-same m is = ranked-windows (existing l) (byNumber l) (S.shows (windowsOf l .current)) highest 65535 m is fits low high
+    where
+      highest : ℕ
+      highest = cond (l .isOpen) (l .last - 1) (l .last)
+
+      fits : highest ≤ 65535
+      fits = by-test (l .isOpen) (λ o. rw o (omega (arith, k .lawful .lastFits))) (λ n. rw n (k .lawful .lastFits))
+
+      low : (v : ℕ) → v < highest → S.shows (windowsOf l .current) (suc v) ≡ true
+      low v h =
+          by-test (l .isOpen)
+          (λ o. let b : v < l .last - 1 = rw o at h in rw o (ap not (ne-eqb (suc v) (l .last) (λ q. omega arith))))
+          (λ n. rw n (ap not (ne-eqb (suc v) 0 (λ q. omega arith))))
+
+      high : (i v : ℕ) → highest < v → S.shows (windowsOf l .current) v ≡ true → byNumber l i v ≡ 0
+      high i v h e =
+          by-test (l .isOpen)
+          (λ o. let b : l .last - 1 < v = rw o at h in
+          let d = eqb-false v (l .last) (not-true _ (rw o at e)) in
+          k .lawful .unborn (getD (l .identifiers) i []) v (omega arith))
+          (λ n. k .lawful .unborn (getD (l .identifiers) i []) v (rw n at h))
+
+  pub query-same : (m : ℕ) (ns : List Name) → ranked (existing l) (countOf a) (S.shown (windowsOf l)) m (numbersOf (l .identifiers) ns) ≡ ranked (existing l) (l .count) (shown l) m ns
   query-same m ns =
-      ap (λ (c : ℕ → ℕ → ℕ). ranked (existing l) c (down 65535) m (numbersOf (l .identifiers) ns)) counts-read
-      ∙ ranked-windows (existing l) (byNumber l) (l .last) 65535 m (numbersOf (l .identifiers) ns) (k .lawful .lastFits) (λ i v h. k .lawful .unborn (getD (l .identifiers) i []) v h)
-      ∙ ranked-names (existing l) (l .count) (l .identifiers) ns (down (l .last)) m (λ n w z. k .lawful .uncounted n w z)
+      ap (λ (c : ℕ → ℕ → ℕ). ranked (existing l) c (S.shown (windowsOf l)) m (numbersOf (l .identifiers) ns)) counts-read
+      ∙ shown-same m (numbersOf (l .identifiers) ns)
+      ∙ ranked-names (existing l) (l .count) (l .identifiers) ns (shown l) m (λ n w z. k .lawful .uncounted n w z)
 
 -- ---- outcomes that are alike
 
@@ -281,7 +287,7 @@ module _ (blocks entries : ℕ) where
     pursued-alike Step = step-alike l a k _ _ λ b q. bothLeave refl q
     pursued-alike (Query m ns) =
         refusing _ _ 4 _ _ refl λ _. refusing _ _ 14 _ _ refl λ _.
-        subst (λ hs. Alike blocks entries (leave (hits hs (takenFrom (numbersOf (l .identifiers) ns) a)) (listsOf l a)) (leave (hits (ranked (existing l) (l .count) (down (l .last)) m ns) (takenFrom (numbersOf (l .identifiers) ns) a)) (record { ledger = l; account = a })))
+        subst (λ hs. Alike blocks entries (leave (hits hs (takenFrom (numbersOf (l .identifiers) ns) a)) (listsOf l a)) (leave (hits (ranked (existing l) (l .count) (shown l) m ns) (takenFrom (numbersOf (l .identifiers) ns) a)) (record { ledger = l; account = a })))
         (sym (query-same blocks entries l a k m ns)) (bothLeave refl k)
 
     -- refusals 1 and 3 are not given

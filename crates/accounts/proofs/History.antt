@@ -3,7 +3,7 @@ use Rattle.lists.proofs.Prelude.{true, List, [], _∷_, _≡_, refl, sym, ap₂
 use Rattle.answers.specs.Answers.{Outcome, answerOf, stateOf}
 use Rattle.engine.specs.Calls.{Call, run, afterwards}
 use Rattle.accounts.specs.Account.{emptyAccount}
-use Rattle.accounts.specs.Ledger.{emptyLedger, existing}
+use Rattle.accounts.specs.Ledger.{emptyLedger, shown, existing}
 use Rattle.accounts.specs.Books.{Books, booksCall, expected}
 use Rattle.accounts.specs.Lists.{Lists, noLists, listsRule, callRule, listsCall, listsAnswers}
 use Rattle.accounts.proofs.Kept.{Kept, kept-empty}
@@ -17,7 +17,7 @@ module _ (blocks entries : ℕ) (small : entries ≤ 1024) where
     pub kept : Kept blocks entries (b .ledger) (b .account)
 
   pub stands-fresh : Stands noLists (record { ledger = emptyLedger; account = emptyAccount })
-  stands-fresh = record { same = unfold noLists emptyLedger existing down in refl; kept = kept-empty blocks entries }
+  stands-fresh = record { same = unfold noLists emptyLedger existing shown down in refl; kept = kept-empty blocks entries }
 
   -- what two outcomes that are alike answer and leave
   answered-alike : (e : Lists) (b : Books) (o : Outcome Lists) (q : Outcome Books) → Stands e b → Alike blocks entries o q → (answerOf o ≡ answerOf q) × Stands (stateOf e o) (stateOf b q)

@@ -11,6 +11,7 @@ pub mod Picks
 pub mod Live
 pub mod Lawful
 pub mod Counted
+pub mod Showing
 pub mod Held
 pub mod Ranged
 pub mod Behind

@@ -1,7 +1,7 @@
 -- Which windows are live after each call, and how many exist.
-use Rattle.lists.proofs.Prelude.{Bool, true, false, cond, _≡_, refl, sym, ap, _∙_, fun-ext, subst, ℕ, zero, suc, _-_, _<_, _≤_, arith, eqb, ltb, length, eqb-true, eq-eqb, ne-eqb, lt-ltb, keep, any, same, down, by-test, same-refl, any-none, keep-down, and-false}
+use Rattle.lists.proofs.Prelude.{Bool, true, false, cond, _&&_, _≡_, refl, sym, ap, _∙_, fun-ext, ℕ, suc, _-_, _≤_, arith, eqb, ltb, length, eqb-false, eq-eqb, ne-eqb, lt-ltb, keep, any, same, down, by-test, same-refl, any-none, keep-down, and-false}
 use Rattle.identifiers.specs.Names.{Name, among}
-use Rattle.accounts.specs.Ledger.{Ledger, live, existing, opens, closes, including, counts, removes}
+use Rattle.accounts.specs.Ledger.{Ledger, live, shown, existing, opens, closes, including, counts, removes}
 use Rattle.accounts.proofs.Numbers.{among-itself}
 use Rattle.accounts.proofs.Picks.{any-among, any-including, keep-out}
 
@@ -34,73 +34,68 @@ live-removes l w v =
 
 -- ---- how many exist
 
--- up to a number, and up to the next
+-- of the windows up to a number
 abbrev upTo : Ledger → ℕ → ℕ
 upTo l m = length (keep (live l) (down m))
 
-one-more : (l : Ledger) (m : ℕ) → live l (suc m) ≡ true → upTo l (suc m) ≡ suc (upTo l m)
-unfolding down
-one-more l m e = rw e
+-- where none is open, all that were given may exist
+pub existing-shut : (l : Ledger) → l .isOpen ≡ false → existing l ≡ upTo l (l .last)
+unfolding existing shown
+existing-shut l n = rw n
 
-none-more : (l : Ledger) (m : ℕ) → live l (suc m) ≡ false → upTo l (suc m) ≡ upTo l m
-unfolding down
-none-more l m e = rw e
+-- where one is open, all but the last
+pub existing-open : (l : Ledger) → l .isOpen ≡ true → existing l ≡ upTo l (l .last - 1)
+unfolding existing shown
+existing-open l o = rw o
 
 -- opening a window brings none into being
-pub existing-opens : (l : Ledger) → live l (suc (l .last)) ≡ false → existing (opens l) ≡ existing l
-existing-opens l e = now ∙ none-more l (l .last) e ∙ before
+pub existing-opens : (l : Ledger) → l .isOpen ≡ false → existing (opens l) ≡ existing l
+existing-opens l n = now ∙ ap (upTo l) (one (l .last)) ∙ sym (existing-shut l n)
   where
-    now : existing (opens l) ≡ upTo l (suc (l .last))
-    now = unfold existing opens live in refl
+    now : existing (opens l) ≡ upTo l (suc (l .last) - 1)
+    now = unfold existing shown opens live in refl
 
-    before : upTo l (l .last) ≡ existing l
-    before = unfold existing in refl
+    one : (m : ℕ) → suc m - 1 ≡ m
+    one m = omega arith
 
--- closing one takes none away
-pub existing-closes : (l : Ledger) → (l .events ≡ 0 → live l (l .last) ≡ false) → existing (closes l) ≡ existing l
-existing-closes l h =
+-- closing one with events does
+pub existing-closes : (l : Ledger) → l .isOpen ≡ true → 1 ≤ l .last → (1 ≤ l .events → live l (l .last) ≡ true)
+    → existing (closes l) ≡ cond (eqb (l .events) 0) (existing l) (suc (existing l))
+existing-closes l o given h =
     by-test (eqb (l .events) 0)
-    (λ y. let now : existing (closes l) ≡ upTo l (l .last - 1) = unfold existing closes live in rw y in
-    let before : upTo l (l .last) ≡ existing l = unfold existing in refl in
-    now ∙ go (l .last) (h (eqb-true (l .events) 0 y)) ∙ before)
-    (λ n. unfold existing closes live in rw n)
+    (λ y. let now : existing (closes l) ≡ upTo l (l .last - 1) = unfold existing shown closes live in rw y in
+    rw y (now ∙ sym (existing-open l o)))
+    (λ n. let now : existing (closes l) ≡ upTo l (l .last) = unfold existing shown closes live in rw n in
+    let d = eqb-false (l .events) 0 n in
+    rw n (now ∙ one-more (h (omega arith)) ∙ ap suc (sym (existing-open l o))))
   where
-    go : (m : ℕ) → live l m ≡ false → upTo l (m - 1) ≡ upTo l m
-    go zero e = refl
-    go (suc m) e = ap (upTo l) (one m) ∙ sym (none-more l m e)
-      where
-        one : (m : ℕ) → suc m - 1 ≡ m
-        one m = omega arith
+    step : (m : ℕ) → live l (suc m) ≡ true → upTo l (suc m) ≡ suc (upTo l m)
+    step m e = unfold down in rw e
 
-module _ (l : Ledger) (n : Name) (given : 1 ≤ l .last) (new : (v : ℕ) → among n (l .identifiers) ≡ false → l .count n v ≡ 0) where
-  below-last : (m : ℕ) → m < l .last → upTo (counts l n) m ≡ upTo l m
-  below-last m h = ap length (keep-down (live (counts l n)) (live l) m (λ v k. live-counts-other l n v (new v) (λ q. omega arith)))
+    before : suc (l .last - 1) ≡ l .last
+    before = omega arith
 
-  -- up to the open window
-  counts-to : (m : ℕ) → suc m ≡ l .last → upTo (counts l n) (suc m) ≡ cond (live l (suc m)) (upTo l (suc m)) (suc (upTo l (suc m)))
-  counts-to m e =
-      one-more (counts l n) m (ap (live (counts l n)) e ∙ live-counts l n)
-      ∙ ap suc (below-last m (omega arith))
-      ∙ by-test (live l (suc m)) (λ y. rw (y, one-more l m y)) (λ z. rw (z, none-more l m z))
+    one-more : live l (l .last) ≡ true → upTo l (l .last) ≡ suc (upTo l (l .last - 1))
+    one-more e = ap (upTo l) (sym before) ∙ step (l .last - 1) (ap (live l) before ∙ e)
 
-  -- an event brings its window into being, or finds it there
-  pub existing-counts : existing (counts l n) ≡ cond (live l (l .last)) (existing l) (suc (existing l))
-  existing-counts =
-      let e : suc (l .last - 1) ≡ l .last = omega arith in
-      let now : existing (counts l n) ≡ upTo (counts l n) (l .last) = unfold existing counts in refl in
-      let before : upTo l (l .last) ≡ existing l = unfold existing in refl in
-      now
-      ∙ subst (λ k. upTo (counts l n) k ≡ cond (live l k) (upTo l k) (suc (upTo l k))) e (counts-to (l .last - 1) e)
-      ∙ ap (λ m. cond (live l (l .last)) m (suc m)) before
+-- an event brings none into being: its window is open
+pub existing-counts : (l : Ledger) (n : Name) → l .isOpen ≡ true → 1 ≤ l .last → ((v : ℕ) → among n (l .identifiers) ≡ false → l .count n v ≡ 0) → existing (counts l n) ≡ existing l
+existing-counts l n o given new =
+    existing-open (counts l n) (unfold counts in o)
+    ∙ ap (λ m. upTo (counts l n) (m - 1)) last-is
+    ∙ ap length (keep-down (live (counts l n)) (live l) (l .last - 1) (λ v k. live-counts-other l n v (new v) (λ q. omega arith)))
+    ∙ sym (existing-open l o)
+  where
+    last-is : counts l n .last ≡ l .last
+    last-is = unfold counts in refl
 
 -- a removal takes one away
-pub existing-removes : (l : Ledger) (w : ℕ) → 1 ≤ w → w ≤ l .last → live l w ≡ true → existing l ≡ suc (existing (removes l w))
-existing-removes l w h k e = unfold existing removes in keep-out (live l) (live (removes l w)) w (l .last) h k e (live-removes l w)
-
--- where two windows are live, more than one exists
-pub existing-two : (l : Ledger) (w : ℕ) → 1 ≤ w → w < l .last → live l w ≡ true → live l (l .last) ≡ true → 1 < existing l
-existing-two l w h k e d = unfold existing in go (l .last) k d
+pub existing-removes : (l : Ledger) (w : ℕ) → 1 ≤ w → w ≤ l .last → (l .isOpen && eqb w (l .last)) ≡ false → live l w ≡ true → existing l ≡ suc (existing (removes l w))
+existing-removes l w h k other e =
+    unfold existing shown removes in keep-out (live l) (live (removes l w)) w (cond (l .isOpen) (l .last - 1) (l .last)) h within e (live-removes l w)
   where
-    go : (m : ℕ) → w < m → live l m ≡ true → 1 < upTo l m
-    go zero k d = absurd (omega arith)
-    go (suc m) k d = omega (arith, one-more l m d, keep-out (live l) (live (removes l w)) w m h (omega arith) e (live-removes l w))
+    within : w ≤ cond (l .isOpen) (l .last - 1) (l .last)
+    within =
+        by-test (l .isOpen)
+        (λ o. let d = eqb-false w (l .last) (ap (λ t. t && eqb w (l .last)) (sym o) ∙ other) in rw o (omega arith))
+        (λ n. rw n k)

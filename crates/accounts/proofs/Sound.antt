@@ -1,6 +1,6 @@
 -- Lists that stand for a ledger and its account keep every rule of the state, and what a call uses of them is well formed: refusals 1 and 3 have no
 -- cause.
-use Rattle.lists.proofs.Prelude.{Bool, true, false, _||_, _&&_, not, cond, List, [], _∷_, map, List·Memᴰ, _⊎_, inl, inr, _≡_, refl, sym, ap, ap₂, _∙_, ℕ, zero, suc, _+_, _*_, _<_, _≤_, arith, eqb, leb, pos, natAbs, _+ℤ_, length, getD, length-map, eqb-false, le-leb, lt-leb, leb-true, not-true, keep, every, empty, totalBy, down, by-test, and-left, and-right, and-both, every-from, every-keep, every-mem, length-keep, every-map, every-member, empty-is}
+use Rattle.lists.proofs.Prelude.{Bool, true, false, _||_, _&&_, not, cond, List, [], _∷_, map, List·Memᴰ, _⊎_, inl, inr, _≡_, refl, sym, ap, ap₂, _∙_, ℕ, zero, suc, _+_, _-_, _*_, _<_, _≤_, arith, eqb, leb, pos, natAbs, _+ℤ_, length, getD, length-map, eqb-false, le-leb, lt-leb, leb-true, not-true, keep, every, empty, totalBy, down, by-test, and-left, and-right, and-both, every-from, every-keep, every-mem, length-keep, every-map, every-member, empty-is}
 use Rattle.postings.specs.declared.Posting.{Posting}
 use Rattle.postings.specs.Order.{ordered}
 use Rattle.postings.specs.Merge.{isZero, isCounted, pairs}
@@ -32,7 +32,7 @@ use Rattle.accounts.proofs.Prefixes.{small-abs, whole-small, inputs-sma
 use Rattle.accounts.proofs.Shaped.{portionRule}
 use Rattle.accounts.proofs.Fits.{Fits, cost, lengths-fit}
 use Rattle.accounts.proofs.Numbers.{numbers-different, numbers-small}
-use Rattle.accounts.proofs.Live.{not-live, existing-removes}
+use Rattle.accounts.proofs.Live.{existing-shut, existing-open}
 use Rattle.accounts.proofs.Lawful.{Lawful}
 use Rattle.accounts.proofs.Held.{counts-length}
 use Rattle.accounts.proofs.Ranged.{storedRule, stored-kept, ranged-partitions, ranged-buffer, every-portion, every-oldest}
@@ -61,26 +61,19 @@ unfolding down
 length-down zero = refl
 length-down (suc m) = ap suc (length-down m)
 
-existing-most : (l : Ledger) → existing l ≤ l .last
-unfolding existing
-existing-most l = omega (arith, length-keep (live l) (down (l .last)), length-down (l .last))
+few-live : (l : Ledger) (m : ℕ) → length (keep (live l) (down m)) ≤ m
+few-live l m = omega (arith, length-keep (live l) (down m), length-down m)
 
 module _ (entries : ℕ) (l : Ledger) (s : Lawful entries l) where
-  -- an open window without events is not counted
-  uncounted-open : l .isOpen ≡ true → l .events ≡ 0 → existing l < l .last
-  unfolding existing down
-  uncounted-open o z = below (l .last) (s .given o) (not-live l (l .last) (s .untouched o z))
-    where
-      below : (m : ℕ) → 1 ≤ m → live l m ≡ false → length (keep (live l) (down m)) < m
-      below zero h e = absurd (omega arith)
-      below (suc m) h e = rw e (omega (arith, length-keep (live l) (down m), length-down m))
+  -- N is below an open window's number
+  below-open : l .isOpen ≡ true → existing l < l .last
+  below-open o = omega (arith, existing-open l o, few-live l (l .last - 1), s .given o)
 
-  -- one with events is
-  counted-open : l .isOpen ≡ true → 1 ≤ l .events → 1 ≤ existing l
-  counted-open o h = omega (arith, existing-removes l (l .last) (s .given o) (omega arith) (s .touched o h))
+  existing-most : existing l ≤ l .last
+  existing-most = by-test (l .isOpen) (λ o. omega (arith, below-open o)) (λ n. omega (arith, existing-shut l n, few-live l (l .last)))
 
   windows-hold : windowsRule (windowsOf l) ≡ true
-  windows-hold = windows-rule (windowsOf l) (record { live = existing-most l; window = by-test (l .isOpen) opened shut })
+  windows-hold = windows-rule (windowsOf l) (record { live = existing-most; window = by-test (l .isOpen) opened shut })
     where
       shut : l .isOpen ≡ false → Shut (windowsOf l) ⊎ Opened (windowsOf l)
       shut n = inl (record { number = current-shut l n; events = s .shut n .0 })
@@ -90,8 +83,7 @@ module _ (entries : ℕ) (l : Ledger) (s : Lawful entries l) where
         some = omega (arith, current-open l o, s .given o);
         number = current-open l o;
         events = s .eventsFit;
-        uncounted = λ z. omega (arith, current-open l o, uncounted-open o z);
-        counted = counted-open o;
+        below = omega (arith, current-open l o, below-open o);
       })
 
   listed-holds : entries ≤ 1024 → listedRule (windowsOf l) (listedOf (map (numberOf (l .identifiers)) (l .listed))) ≡ true

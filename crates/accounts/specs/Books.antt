@@ -1,12 +1,12 @@
 -- The ledger with the account beside it: what each call is to answer. Window numbers, hits, scores and refusals 4 to 9 and 14 come from the
 -- ledger alone; refusals 10 to 13 and the postings taken from the account.
-use mathlib.Core.Bool.{_&&_, not, cond}
+use mathlib.Core.Bool.{Bool, true, false, _&&_, not, cond}
 use mathlib.Core.List.{List, [], _∷_}
 use Prim.Native.Nat.{ℕ, suc, _≤_}
 use lib.Dec.{eqb, leb}
 use lib.IntN.{ℤ, pos, negℤ}
 use lib.ListN.{length, getD}
-use Rattle.lists.specs.Lists.{any, down, upTo}
+use Rattle.lists.specs.Lists.{any, upTo}
 use Rattle.postings.specs.declared.Posting.{Posting}
 use Rattle.postings.specs.Merge.{isZero}
 use Rattle.answers.specs.Answers.{Answer, done, number, hits, refused, Outcome, leave}
@@ -18,7 +18,7 @@ use Rattle.ranking.specs.Hits.{ranked}
 use Rattle.ranking.specs.Asked.{badQuery}
 use Rattle.engine.specs.Calls.{Call, Open, Event, Close, Remove, Flush, Step, Query, run}
 use Rattle.accounts.specs.Account.{Account, emptyAccount, takenFrom, overflows, exceeds, addedTo, stepping, flushing, flushingIf}
-use Rattle.accounts.specs.Ledger.{Ledger, emptyLedger, live, existing, opens, closes, counts, removes}
+use Rattle.accounts.specs.Ledger.{Ledger, emptyLedger, live, shown, existing, opens, closes, counts, removes}
 
 -- what an event stores: one count of its identifier, by number, in the open window
 abbrev pub once : Ledger → Name → Posting
@@ -43,6 +43,16 @@ pub data Granted : Answer → Type 0 where
   isNumber : {n : ℕ} → Granted (number n)
   isHits : {hs : List Hit} {n : ℕ} → Granted (hits hs n)
   isLater : {n : ℕ} → 4 ≤ n → Granted (refused n)
+
+-- may a window start to show by a call, or cease to: by its close it starts, by its removal it ceases
+abbrev pub showing : Call → Bool
+showing Open = false
+showing (Event n) = false
+showing Close = true
+showing (Remove w) = true
+showing Flush = false
+showing Step = false
+showing (Query k ns) = false
 
 -- on a card of so many blocks and a register of so many entries
 module _ (blocks entries : ℕ) where
@@ -71,7 +81,7 @@ module _ (blocks entries : ℕ) where
   books l a Step = stepping blocks a (λ b. leave done (record { ledger = l; account = b }))
   books l a (Query k ns) =
       admit (past 3 order.query) (any badLength ns ∷ badQuery k ns ∷ [])
-      (leave (hits (ranked (existing l) (l .count) (down (l .last)) k ns) (takenFrom (numbersOf (l .identifiers) ns) a))
+      (leave (hits (ranked (existing l) (l .count) (shown l) k ns) (takenFrom (numbersOf (l .identifiers) ns) a))
       (record { ledger = l; account = a }))
 
   abbrev pub booksCall : Books → Call → Outcome Books

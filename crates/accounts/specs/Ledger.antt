@@ -24,9 +24,13 @@ emptyLedger = record { last = 0; identifiers = []; isOpen = false; events = 0; l
 unfoldable pub live : Ledger → ℕ → Bool
 live l w = any (λ n. ltb 0 (l .count n w)) (l .identifiers)
 
--- N: how many windows exist, the open one included
+-- the windows that show, from the highest down: the closed ones. An open window has the last number given
+unfoldable pub shown : Ledger → List ℕ
+shown l = down (cond (l .isOpen) (l .last - 1) (l .last))
+
+-- N: how many of them are live
 unfoldable pub existing : Ledger → ℕ
-existing l = length (keep (live l) (down (l .last)))
+existing l = length (keep (live l) (shown l))
 
 -- the count by an identifier's number, its place in the order of first count
 abbrev pub byNumber : Ledger → ℕ → ℕ → ℕ
@@ -38,7 +42,7 @@ byNumber l i w = l .count (getD (l .identifiers) i []) w
 unfoldable pub opens : Ledger → Ledger
 opens l = record { last = suc (l .last); identifiers = l .identifiers; isOpen = true; events = 0; listed = []; count = l .count }
 
--- a close; the number of a window that saw no event is free again
+-- a close, from which on the window shows; the number of one that saw no event is free again
 unfoldable pub closes : Ledger → Ledger
 closes l = record { last = cond (eqb (l .events) 0) (l .last - 1) (l .last); identifiers = l .identifiers; isOpen = false; events = 0; listed = []; count = l .count }
 

@@ -6,7 +6,7 @@ use Prim.Native.Nat.{ℕ, suc, _-_}
 use lib.Dec.{eqb, ltb, leb}
 use lib.IntN.{pos}
 use lib.ListN.{length}
-use Rattle.lists.specs.Lists.{any, every, empty, elem, down}
+use Rattle.lists.specs.Lists.{any, every, empty, elem}
 use Rattle.postings.specs.declared.Posting.{Posting}
 use Rattle.postings.specs.Merge.{put, pairs, negated}
 use Rattle.postings.specs.Sums.{sum, under, above}
@@ -17,6 +17,7 @@ use Rattle.state.specs.declared.Windows.{Windows}
 use Rattle.state.specs.declared.Partition.{Partition}
 use Rattle.state.specs.Views.{listedOf, bufferOf, partitionsOf}
 use Rattle.state.specs.Levels.{oldest}
+use Rattle.state.specs.Shown.{shown}
 use Rattle.state.specs.Rules.{windowsRule, listedRule, bufferRule, partitionsRule}
 use Rattle.identifiers.specs.Names.{Name, badLength, numberOf, numbersOf}
 use Rattle.partitions.specs.Layout.{lengthOf}
@@ -101,10 +102,10 @@ openedLists e = record {
   account = e .account;
 }
 
--- no window is open; one without events gives its number back
+-- no window is open; one with events is counted in N from here on, and one without gives its number back
 unfoldable pub closedLists : Lists → Lists
 closedLists e = record {
-  windows = record { last = cond (eqb (e .windows .events) 0) (e .windows .last - 1) (e .windows .last); live = e .windows .live; current = 0; events = 0 };
+  windows = record { last = cond (eqb (e .windows .events) 0) (e .windows .last - 1) (e .windows .last); live = cond (eqb (e .windows .events) 0) (e .windows .live) (suc (e .windows .live)); current = 0; events = 0 };
   names = e .names;
   listed = [];
   account = e .account;
@@ -118,20 +119,16 @@ isNew e n = leb (length (e .names)) (numberOf (e .names) n)
 abbrev pub onceOf : Lists → Name → Posting
 onceOf e n = record { id = numberOf (e .names) n; window = e .windows .current; count = pos 1 }
 
--- the event is counted, with a as it is after a flush or without one: N moves at the window's first, the identifier is listed at its first, and
--- the pair's buffered count grows by 1
+-- the event is counted, with a as it is after a flush or without one: the identifier is listed at its first, and the pair's buffered count grows by 1. N stays
+-- until the window is closed
 unfoldable pub countedLists : Lists → Name → Account → Lists
 countedLists e n a = record {
   windows =
-      record { last = e .windows .last; live = cond (eqb (e .windows .events) 0) (suc (e .windows .live)) (e .windows .live); current = e .windows .current; events = suc (e .windows .events) };
+      record { last = e .windows .last; live = e .windows .live; current = e .windows .current; events = suc (e .windows .events) };
   names = cond (isNew e n) (e .names ++ (n ∷ [])) (e .names);
   listed = cond (elem (numberOf (e .names) n) (e .listed)) (e .listed) (e .listed ++ (numberOf (e .names) n ∷ []));
   account = record { buffer = put (onceOf e n) (a .buffer); partitions = a .partitions; steps = a .steps };
 }
-
--- 1 where the open window is counted in N
-abbrev pub openCounted : Lists → ℕ
-openCounted e = cond (isOpen e && ltb 0 (e .windows .events)) 1 0
 
 -- each of the window's counts is buffered negated, with a as it is after a flush or without one, and N is one less
 unfoldable pub removedLists : Lists → List Posting → Account → Lists
@@ -158,7 +155,7 @@ module _ (blocks entries : ℕ) where
   removingLists e w counts =
       admit (past 3 order.removal)
       ((isOpen e && eqb w (e .windows .current))
-      ∷ (not (isLive counts) || (ltb (e .windows .last) w || leb (e .windows .live) (openCounted e)))
+      ∷ (not (isLive counts) || (ltb (e .windows .last) w || eqb (e .windows .live) 0))
       ∷ [])
       (flushingIf blocks (exceeds counts (e .account)) (e .account) (λ a. leave done (removedLists e counts a)))
 
@@ -184,7 +181,7 @@ module _ (blocks entries : ℕ) where
   pursued e Step = stepping blocks (e .account) (λ a. leave done (withAccount e a))
   pursued e (Query k ns) =
       admit (past 3 order.query) (any badLength ns ∷ badQuery k ns ∷ [])
-      (leave (hits (ranked (e .windows .live) (countOf (e .account)) (down 65535) k (numbersOf (e .names) ns)) (takenFrom (numbersOf (e .names) ns) (e .account))) e)
+      (leave (hits (ranked (e .windows .live) (countOf (e .account)) (shown (e .windows)) k (numbersOf (e .names) ns)) (takenFrom (numbersOf (e .names) ns) (e .account))) e)
 
   unfoldable pub listsCall : Lists → Call → Outcome Lists
   listsCall e c = refuseIf (not (listsRule blocks e)) 1 (refuseIf (not (callRule e c)) 3 (pursued e c))

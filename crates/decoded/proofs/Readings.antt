@@ -1,5 +1,5 @@
 -- Query and removal on bytes are those on lists.
-use Rattle.lists.proofs.Prelude.{Bool, true, _||_, _&&_, not, cond, List, foldr, _≡_, refl, sym, ap, ap₂, _∙_, subst, fun-ext, ℕ, _+_, _-_, eqb, ltb, leb, length, replicate, length-replicate, keep, every, elem, down, and-both, every-map}
+use Rattle.lists.proofs.Prelude.{Bool, true, _||_, _&&_, not, List, foldr, _≡_, refl, sym, ap, ap₂, _∙_, subst, fun-ext, ℕ, _+_, _-_, eqb, ltb, leb, length, replicate, length-replicate, keep, every, elem, and-both, every-map}
 use Rattle.words.specs.Words.{words}
 use Rattle.postings.specs.declared.Posting.{Posting}
 use Rattle.postings.specs.Merge.{put, nonzero, negated}
@@ -12,6 +12,7 @@ use Rattle.state.specs.declared.Partition.{Partition}
 use Rattle.state.specs.declared.State.{State}
 use Rattle.state.specs.Views.{blocks, registerSize, buffered, finished, bufferOf}
 use Rattle.state.specs.Probe.{Store, Probe}
+use Rattle.state.specs.Shown.{shown}
 use Rattle.identifiers.specs.Names.{Name, numbersOf}
 use Rattle.identifiers.specs.Register.{names, registerRule}
 use Rattle.partitions.specs.Reading.{postingsOf, inPartitions, stored}
@@ -66,11 +67,11 @@ module _ {ls : Lengths} (p : Probe) (e : Lists) (k : Stored ls p e) (fine : Fine
   unfolding countIn countOf
   counts-same = fun-ext λ i. fun-ext λ w. ap (λ l. above (sum l i w)) stored-same
 
-  hits-same : (m : ℕ) (ns : List Name) → hitsOf W s m (numbers (p .register) ns) ≡ ranked (e .windows .live) (countOf (e .account)) (down 65535) m (numbersOf (e .names) ns)
+  hits-same : (m : ℕ) (ns : List Name) → hitsOf W s m (numbers (p .register) ns) ≡ ranked (e .windows .live) (countOf (e .account)) (shown (e .windows)) m (numbersOf (e .names) ns)
   unfolding hitsOf
   hits-same m ns =
-      ap (λ (w : Windows). ranked (w .live) (countIn W s) (down 65535) m (numbers (p .register) ns)) (h .windows)
-      ∙ ap₂ (λ (c : ℕ → ℕ → ℕ) (is : List ℕ). ranked (e .windows .live) c (down 65535) m is) counts-same (numbers-same ns)
+      ap (λ (w : Windows). ranked (w .live) (countIn W s) (shown w) m (numbers (p .register) ns)) (h .windows)
+      ∙ ap₂ (λ (c : ℕ → ℕ → ℕ) (is : List ℕ). ranked (e .windows .live) c (shown (e .windows)) m is) counts-same (numbers-same ns)
 
   taken-same : (ns : List Name) → takenUp W s (numbers (p .register) ns) ≡ takenFrom (numbersOf (e .names) ns) (e .account)
   unfolding takenUp takenFrom
@@ -97,7 +98,7 @@ module _ {ls : Lengths} (p : Probe) (e : Lists) (k : Stored ls p e) (fine : Fine
       found = hitsOf W s (length (replicate m noHit)) (numbers (p .register) ns)
 
       answer : Answer
-      answer = hits (ranked (e .windows .live) (countOf (e .account)) (down 65535) m (numbersOf (e .names) ns)) (takenFrom (numbersOf (e .names) ns) (e .account))
+      answer = hits (ranked (e .windows .live) (countOf (e .account)) (shown (e .windows)) m (numbersOf (e .names) ns)) (takenFrom (numbersOf (e .names) ns) (e .account))
 
       said : hits found (takenUp W s (numbers (p .register) ns)) ≡ answer
       said = ap₂ hits (ap (λ n. hitsOf W s n (numbers (p .register) ns)) places ∙ hits-same m ns) (taken-same ns)
@@ -136,7 +137,7 @@ module _ {ls : Lengths} (p : Probe) (e : Lists) (k : Stored ls p e) (fine : Fine
   unfolding removing removingLists
   removing-same w cs =
       refusing R _ _ 5 _ _ (ap (λ (x : Windows). not (eqb (x .current) 0) && eqb w (x .current)) (h .windows)) λ _.
-      refusing R _ _ 7 _ _ (ap (λ (x : Windows). not (isLive cs) || (ltb (x .last) w || leb (x .live) (cond (not (eqb (x .current) 0) && ltb 0 (x .events)) 1 0))) (h .windows)) λ _.
+      refusing R _ _ 7 _ _ (ap (λ (x : Windows). not (isLive cs) || (ltb (x .last) w || eqb (x .live) 0)) (h .windows)) λ _.
       subst (λ t. Same R (flushingIf t s (p .card) (λ u c. leave done (record { state = removed u cs; card = c }))) (accountFlushingIf (blocks s) (exceeds cs (e .account)) (e .account) (λ a. leave done (removedLists e cs a)))) (sym flushes)
       (flushIf-same s (p .card) e h fine R (λ u c. leave done (record { state = removed u cs; card = c })) (λ a. leave done (removedLists e cs a)) (exceeds cs (e .account))
       (λ u c a g same long. bothLeave (stored-store p e (removedLists e cs a) (record { state = removed u cs; card = c }) k (holds-removed u (words c) a cs g) (lengths-same u ∙ same) long (names-same a)))

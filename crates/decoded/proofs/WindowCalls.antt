@@ -106,8 +106,8 @@ module _ {ls : Lengths} (p : Probe) (e : Lists) (k : Stored ls p e) (fine : Fine
   unfolding closed closedLists
   holds-closed =
       holds-fronted s W e (closedLists e) h
-      (record { last = cond (eqb (s .windows .events) 0) (s .windows .last - 1) (s .windows .last); live = s .windows .live; current = 0; events = 0 }) (listedOf []) (s .buffer)
-      (ap (λ (w : Windows). record { last = cond (eqb (w .events) 0) (w .last - 1) (w .last); live = w .live; current = 0; events = 0 }) (h .windows)) refl (h .buffer) refl refl
+      (record { last = cond (eqb (s .windows .events) 0) (s .windows .last - 1) (s .windows .last); live = cond (eqb (s .windows .events) 0) (s .windows .live) (suc (s .windows .live)); current = 0; events = 0 }) (listedOf []) (s .buffer)
+      (ap (λ (w : Windows). record { last = cond (eqb (w .events) 0) (w .last - 1) (w .last); live = cond (eqb (w .events) 0) (w .live) (suc (w .live)); current = 0; events = 0 }) (h .windows)) refl (h .buffer) refl refl
 
   pub close-same : Same (Stored ls) (probeCall p Close) (pursued (blocks s) (registerSize s) e Close)
   unfolding probeCall closeOf pursued
@@ -161,10 +161,10 @@ module _ {ls : Lengths} (p : Probe) (e : Lists) (k : Stored ls p e) (fine : Fine
   unfolding counted countedLists
   holds-counted t X a n g =
       holds-fronted t X (withAccount e a) (countedLists e n a) g
-      (record { last = t .windows .last; live = cond (eqb (t .windows .events) 0) (suc (t .windows .live)) (t .windows .live); current = t .windows .current; events = suc (t .windows .events) })
+      (record { last = t .windows .last; live = t .windows .live; current = t .windows .current; events = suc (t .windows .events) })
       (listedOf (cond (elem i (listed (t .listed))) (listed (t .listed)) (listed (t .listed) ++ (i ∷ []))))
       (bufferOf (put (once t i) (buffered (t .buffer))))
-      (ap (λ (w : Windows). record { last = w .last; live = cond (eqb (w .events) 0) (suc (w .live)) (w .live); current = w .current; events = suc (w .events) }) (g .windows))
+      (ap (λ (w : Windows). record { last = w .last; live = w .live; current = w .current; events = suc (w .events) }) (g .windows))
       (ap₂ (λ (l : List ℕ) (j : ℕ). listedOf (cond (elem j l) l (l ++ (j ∷ [])))) (ap listed (g .listed) ∙ held 64 0 (e .listed)) (number-is n))
       (ap₂ (λ (x : Posting) (l : List Posting). bufferOf (put x l))
       (ap₂ (λ (j w : ℕ). record { id = j; window = w; count = pos 1 }) (number-is n) (ap (λ (w : Windows). w .current) (g .windows)))

@@ -1,8 +1,9 @@
 -- After every history: what a query lists, by the ledger, and what the card's blocks hold.
-use Rattle.lists.proofs.Prelude.{true, false, not, List, [], _∷_, _≡_, sym, ap, _∙_, subst, ℕ, _*_, _/_, _%_, _<_, arith, eqb, length, getD, eqb-true, every, empty, down, and-left}
+use Rattle.lists.proofs.TopK.{different-down}
+use Rattle.lists.proofs.Prelude.{true, false, not, List, [], _∷_, _++_, _≡_, refl, sym, ap, _∙_, subst, ℕ, _*_, _/_, _%_, _<_, arith, eqb, length, getD, eqb-true, every, empty, and-left}
 use Rattle.words.specs.Words.{words, allOnes}
 use Rattle.postings.specs.Merge.{pairs}
-use Rattle.answers.specs.Answers.{Answer, done, hits, answerOf}
+use Rattle.answers.specs.Answers.{Answer, done, hits, Outcome, answerOf, stateOf}
 use Rattle.answers.specs.declared.Hit.{Hit}
 use Rattle.state.specs.declared.Lengths.{Lengths}
 use Rattle.state.specs.declared.State.{State}
@@ -17,11 +18,12 @@ use Rattle.plans.specs.Merging.{taking, result, outputBlocks, progress}
 use Rattle.plans.specs.Step.{inProgress}
 use Rattle.ranking.specs.Hits.{ranked}
 use Rattle.queries.specs.Query.{queryOf}
-use Rattle.engine.specs.Calls.{Call, Query, probeCall, run}
+use Rattle.engine.specs.Calls.{Call, Query, probeCall, run, afterwards}
 use Rattle.accounts.specs.Account.{Account, takenFrom, inputsOf, merged, blocksOf}
-use Rattle.accounts.specs.Ledger.{existing}
-use Rattle.accounts.specs.Books.{Books, books, booksCall}
+use Rattle.accounts.specs.Ledger.{shown, existing}
+use Rattle.accounts.specs.Books.{Books, showing, books, booksCall}
 use Rattle.accounts.specs.Lists.{Lists}
+use Rattle.accounts.proofs.Showing.{hitsBy, hits-stay}
 use Rattle.decoded.specs.Portions.{outputOf, cleanPast}
 use Rattle.decoded.proofs.Holds.{Holds, taking-is}
 use Rattle.decoded.proofs.Unused.{going, output-going}
@@ -36,7 +38,7 @@ use Rattle.demands.proofs.Cards.{whole-after, ones-bytes}
 
 -- the hits are the ledger's, and the postings taken the account's
 pub record ByBooks (b : Books) (k : ℕ) (ns : List Name) (found : List Hit) (taken : ℕ) : Type 0 where
-  pub hitsAre : ranked (existing (b .ledger)) (b .ledger .count) (down (b .ledger .last)) k ns ≡ found
+  pub hitsAre : ranked (existing (b .ledger)) (b .ledger .count) (shown (b .ledger)) k ns ≡ found
   pub takenIs : takenFrom (numbersOf (b .ledger .identifiers) ns) (b .account) ≡ taken
 
 books-where : (n m : ℕ) (b : Books) (k : ℕ) (ns : List Name) (found : List Hit) (taken : ℕ)
@@ -46,6 +48,12 @@ books-where n m b k ns found taken =
     where-if (hits-granted found taken) _ 4 _ λ _. where-if (hits-granted found taken) _ 14 _ λ _. record { holds = λ e. record { hitsAre = ap listOf e; takenIs = ap takenOf e } }
 
 -- ---- after a history
+
+-- one call more
+afterwards-more : {S : Type 0} (f : S → Call → Outcome S) (s : S) (cs : List Call) (q : Call) → afterwards f s (cs ++ (q ∷ [])) ≡ stateOf (afterwards f s cs) (f (afterwards f s cs) q)
+unfolding afterwards
+afterwards-more f s [] q = refl
+afterwards-more f s (d ∷ cs) q = afterwards-more f (stateOf s (f s d)) cs q
 
 module _ (c r : ℕ) (cardFits : cardLength c ≡ true) (registerFits : registerLength r ≡ true) (cs : List Call) where
   abbrev ls : Lengths
@@ -83,10 +91,19 @@ module _ (c r : ℕ) (cardFits : cardLength c ≡ true) (registerFits : register
 
   -- a query's hits are the listing of the ledger
   pub listing-by-ledger : (ns : List Name) (places found : List Hit) (taken : ℕ) → answerOf (queryOf p ns places) ≡ hits found taken
-      → Listing (existing (b .ledger)) (b .ledger .count) (down (b .ledger .last)) (length places) ns found
+      → Listing (existing (b .ledger)) (b .ledger .count) (shown (b .ledger)) (length places) ns found
   listing-by-ledger ns places found taken e =
-      subst (Listing (existing (b .ledger)) (b .ledger .count) (down (b .ledger .last)) (length places) ns) (by-books ns places found taken e .hitsAre)
-      (ranked-listing (existing (b .ledger)) (b .ledger .count) (b .ledger .last) (length places) ns)
+      subst (Listing (existing (b .ledger)) (b .ledger .count) (shown (b .ledger)) (length places) ns) (by-books ns places found taken e .hitsAre)
+      (ranked-listing (existing (b .ledger)) (b .ledger .count) (shown (b .ledger)) (length places) ns (unfold shown in different-down _))
+
+  -- one call more leaves the hits, unless it may make a window show or cease to
+  books-more : (q : Call) → booksAfter c r (cs ++ (q ∷ [])) ≡ stateOf b (booksCall (c / 4096) (r / 65) b q)
+  books-more q = afterwards-more (booksCall (c / 4096) (r / 65)) _ cs q
+
+  pub stay-after : (q : Call) → showing q ≡ false → (k : ℕ) (ns : List Name) → hitsBy k ns (booksAfter c r (cs ++ (q ∷ [])) .ledger) ≡ hitsBy k ns (b .ledger)
+  stay-after q e k ns =
+      ap (λ (x : Books). hitsBy k ns (x .ledger)) (books-more q)
+      ∙ hits-stay (c / 4096) (r / 65) b (left .stands .kept .lawful) k ns q e
 
   -- ---- blocks
 
@@ -144,3 +161,19 @@ module _ (c r : ℕ) (cardFits : cardLength c ≡ true) (registerFits : register
     where
       busy : inProgress s ≡ true
       busy = ap (λ n. not (eqb n 0)) steps-left ∙ ap not y
+
+-- the hits of a query before and after a call
+pub hits-kept : (c r : ℕ) (cardFits : cardLength c ≡ true) (registerFits : registerLength r ≡ true) (cs : List Call) (q : Call) → showing q ≡ false
+    → (ns : List Name) (places before after : List Hit) (m n : ℕ) → answerOf (queryOf (probeAfter c r cs) ns places) ≡ hits before m
+    → answerOf (queryOf (probeAfter c r (cs ++ (q ∷ []))) ns places) ≡ hits after n → after ≡ before
+hits-kept c r cardFits registerFits cs q e ns places before after m n x y =
+    sym (then .hitsAre) ∙ stay ∙ first .hitsAre
+  where
+    first : ByBooks (booksAfter c r cs) (length places) ns before m
+    first = by-books c r cardFits registerFits cs ns places before m x
+
+    then : ByBooks (booksAfter c r (cs ++ (q ∷ []))) (length places) ns after n
+    then = by-books c r cardFits registerFits (cs ++ (q ∷ [])) ns places after n y
+
+    stay : hitsBy (length places) ns (booksAfter c r (cs ++ (q ∷ [])) .ledger) ≡ hitsBy (length places) ns (booksAfter c r cs .ledger)
+    stay = stay-after c r cardFits registerFits cs q e (length places) ns

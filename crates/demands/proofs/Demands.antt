@@ -1,6 +1,6 @@
 -- The three demands as theorems, each under a plain sentence. Who believes the definitions that they name, and the promises of the public functions,
 -- which equate result and lent buffers with those definitions, need read no further: every proof here cites a law.
-use Rattle.lists.proofs.Prelude.{true, false, _&&_, List, map, _≡_, ap, _∙_, ℕ, _*_, _/_, _≤_, _<_, eqb, pos, length, getD, AllOf, any, every, empty, different, down}
+use Rattle.lists.proofs.Prelude.{true, false, _&&_, List, [], _∷_, _++_, map, _≡_, ap, _∙_, ℕ, _*_, _/_, _≤_, _<_, eqb, pos, length, getD, AllOf, any, every, empty, different}
 use Rattle.words.specs.Words.{words, allOnes, Below}
 use Rattle.postings.specs.declared.Posting.{Posting}
 use Rattle.postings.specs.Merge.{pairs}
@@ -12,6 +12,7 @@ use Rattle.state.specs.declared.State.{State}
 use Rattle.state.specs.Probe.{Store, Probe}
 use Rattle.state.specs.Views.{padded, blocks, finished}
 use Rattle.state.specs.Rules.{cardLength, registerLength}
+use Rattle.state.specs.Shown.{shows, shown}
 use Rattle.identifiers.specs.Names.{Name, badLength}
 use Rattle.identifiers.specs.Register.{names}
 use Rattle.card.specs.Blocks.{onCard, isFree}
@@ -39,8 +40,9 @@ use Rattle.plans.specs.Step.{stepOf}
 use Rattle.jobs.specs.Lent.{Lent, withOwn, lentStepOf}
 use Rattle.jobs.proofs.Lent.{lent-unchanged, lent-other, lent-own}
 use Rattle.accounts.specs.Account.{Account, storedIn, inputsOf, merged, blocksOf, steppedAccount}
+use Rattle.accounts.specs.Ledger as ledger
 use Rattle.accounts.specs.Ledger.{existing, including, byNumber}
-use Rattle.accounts.specs.Books.{Granted, expected}
+use Rattle.accounts.specs.Books.{Granted, showing, expected}
 use Rattle.accounts.specs.Lists.{Lists}
 use Rattle.accounts.proofs.Stored.{sum-stored-stepped}
 use Rattle.decoded.specs.Portions.{portionOn, outputOf, cleanPast}
@@ -49,10 +51,10 @@ use Rattle.histories.specs.Statement.{answers, SameAnswers}
 use Rattle.histories.proofs.Theorem.{entries-most, same-answers, none-malformed, history-left}
 use Rattle.demands.specs.Words.{Fit, Listing, probeAfter, booksAfter, unused}
 use Rattle.demands.specs.Promises.{Starts, Opens, Counts, Closes, Removes, Flushes, Steps, Asks, AsksValue, Begun}
-use Rattle.demands.proofs.Granted.{event-bad, query-bad, event-noted, query-answered, answered-listing}
+use Rattle.demands.proofs.Granted.{event-bad, query-bad, event-noted, query-answered, answered-listing, open-unlisted}
 use Rattle.demands.proofs.Rows.{start-fresh, start-refuses, all-unstarted, begun-run}
 use Rattle.demands.proofs.Single.{one-state, one-store, one-probe, one-opening, one-list, one-found}
-use Rattle.demands.proofs.After.{listing-by-ledger, free-left, byte-left, past-left, output-left}
+use Rattle.demands.proofs.After.{listing-by-ledger, hits-kept, free-left, byte-left, past-left, output-left}
 
 -- ==== 1. Every call does what the page says, on every input
 
@@ -144,18 +146,29 @@ counted-whole p n e = let w = event-noted p n e in (w .some, w .most, w .whole)
 
 -- ==== 2. Hits are exact, and what is written reads back
 
--- The hits that a query answers are of matching windows with exactly the defined scores, in falling order, and cut only where the list is full.
+-- The hits that a query answers are of matching windows that show, with exactly the defined scores, in falling order, and cut only where the list is full.
 pub hits-exact : (p : Probe) (ns : List Name) (places found : List Hit) (taken : ℕ) → answerOf (queryOf p ns places) ≡ hits found taken
-    → Listing (p .state .windows .live) (countIn (words (p .card)) (p .state)) (down 65535) (length places) (numbers (p .register) ns) found
+    → Listing (p .state .windows .live) (countIn (words (p .card)) (p .state)) (shown (p .state .windows)) (length places) (numbers (p .register) ns) found
 hits-exact = answered-listing
 
--- After every history they are so by the ledger: its N, its counts by name, and the numbers that it gave.
+-- None is of a window under way, wherever its counts are stored.
+pub open-window-unlisted : (p : Probe) (ns : List Name) (places found : List Hit) (taken : ℕ) → answerOf (queryOf p ns places) ≡ hits found taken
+    → every (λ h. shows (p .state .windows .current) (h .window)) found ≡ true
+open-window-unlisted = open-unlisted
+
+-- After every history they are so by the ledger: its N, its counts by name, and its closed windows.
 pub hits-by-ledger : (c r : ℕ) → cardLength c ≡ true → registerLength r ≡ true → (cs : List Call) (ns : List Name) (places found : List Hit) (taken : ℕ)
     → answerOf (queryOf (probeAfter c r cs) ns places) ≡ hits found taken
-    → Listing (existing (booksAfter c r cs .ledger)) (booksAfter c r cs .ledger .count) (down (booksAfter c r cs .ledger .last)) (length places) ns found
+    → Listing (existing (booksAfter c r cs .ledger)) (booksAfter c r cs .ledger .count) (ledger.shown (booksAfter c r cs .ledger)) (length places) ns found
 hits-by-ledger = listing-by-ledger
 
--- It reports as many postings as partitions and buffer hold of its identifiers.
+-- A window starts to show by its close, and ceases to by its removal: no other call moves the hits of a query, be it an event, a flush or a merge step.
+pub only-closing-shows : (c r : ℕ) → cardLength c ≡ true → registerLength r ≡ true → (cs : List Call) (q : Call) → showing q ≡ false
+    → (ns : List Name) (places before after : List Hit) (m n : ℕ) → answerOf (queryOf (probeAfter c r cs) ns places) ≡ hits before m
+    → answerOf (queryOf (probeAfter c r (cs ++ (q ∷ []))) ns places) ≡ hits after n → after ≡ before
+only-closing-shows = hits-kept
+
+-- A query reports as many postings as partitions and buffer hold of its identifiers, those of a window under way too.
 pub taken-exact : (p : Probe) (ns : List Name) (places found : List Hit) (taken : ℕ) → answerOf (queryOf p ns places) ≡ hits found taken
     → takenUp (words (p .card)) (p .state) (numbers (p .register) ns) ≡ taken
 taken-exact p ns places found taken e = query-answered p ns places found taken e .takenIs

@@ -1,5 +1,5 @@
 -- What a call that is not refused has found and left.
-use Rattle.lists.proofs.Prelude.{Bool, true, false, _&&_, not, cond, List, [], _∷_, _++_, _≡_, refl, sym, ap, _∙_, subst, ℕ, _+_, _*_, _≤_, arith, leb, length, eqb-true, leb-false, not-true, not-false, any, down, by-test, and-right, and-both}
+use Rattle.lists.proofs.Prelude.{Bool, true, false, _&&_, not, cond, List, [], _∷_, _++_, _≡_, refl, sym, ap, _∙_, subst, ℕ, _+_, _*_, _≤_, arith, leb, length, eqb-true, leb-false, not-true, not-false, any, every, keep, elem, different, down, by-test, and-left, and-right, and-both, every-from, every-keep, every-kept, every-elem, different-keep, eqb}
 use Rattle.lists.proofs.TopK.{different-down}
 use Rattle.words.specs.Words.{words}
 use Rattle.answers.specs.Answers.{Answer, done, number, hits, refused, Outcome, leave, refuseIf, choose, answerOf, stateOf}
@@ -7,16 +7,17 @@ use Rattle.answers.specs.declared.Hit.{Hit}
 use Rattle.state.specs.declared.State.{State}
 use Rattle.state.specs.Views.{registerSize}
 use Rattle.state.specs.Probe.{Probe, sameLength}
+use Rattle.state.specs.Shown.{shows, shown}
 use Rattle.identifiers.specs.Names.{Name, badLength, among}
 use Rattle.identifiers.specs.Register.{names, registerRule, added}
 use Rattle.identifiers.proofs.Added.{good-length, names-added}
 use Rattle.flushes.specs.Flush.{flushing, flushingIf}
 use Rattle.events.specs.Event.{isNew, eventOf}
-use Rattle.ranking.specs.Hits.{ranked}
+use Rattle.ranking.specs.Hits.{matching, ranked}
 use Rattle.queries.specs.Query.{countIn, numbers, takenUp, queryFormed, hitsOf, fill, querying, queryOf}
 use Rattle.accounts.specs.Ledger.{including}
 use Rattle.accounts.proofs.Numbers.{new-is}
-use Rattle.demands.specs.Words.{Fit, Listing}
+use Rattle.demands.specs.Words.{Fit, scored, Listing}
 use Rattle.demands.proofs.Listing.{listed-scores, listed-falls, left-out-only-when-full}
 
 -- where a is answered, what is left is as G says
@@ -135,23 +136,57 @@ pub query-answered : (p : Probe) (ns : List Name) (places found : List Hit) (tak
 query-answered p ns places found taken e = query-where p ns places found taken .holds e
 
 -- the hits of the definition are a listing
-pub ranked-listing : {I : Type 0} (N : ℕ) (count : I → ℕ → ℕ) (last k : ℕ) (is : List I) → Listing N count (down last) k is (ranked N count (down last) k is)
-ranked-listing N count last k is = record {
-  exact = listed-scores N count (down last) k is;
-  falling = listed-falls N count (down last) k is (different-down last);
-  full = left-out-only-when-full N count (down last) k is (different-down last);
+pub ranked-listing : {I : Type 0} (N : ℕ) (count : I → ℕ → ℕ) (windows : List ℕ) (k : ℕ) (is : List I) → different windows ≡ true → Listing N count windows k is (ranked N count windows k is)
+ranked-listing N count windows k is once = record {
+  exact = listed-scores N count windows k is;
+  falling = listed-falls N count windows k is once;
+  full = left-out-only-when-full N count windows k is once;
 }
 
 -- so are those of an answer
 pub answered-listing : (p : Probe) (ns : List Name) (places found : List Hit) (taken : ℕ) → answerOf (queryOf p ns places) ≡ hits found taken
-    → Listing (p .state .windows .live) (countIn (words (p .card)) (p .state)) (down 65535) (length places) (numbers (p .register) ns) found
+    → Listing (p .state .windows .live) (countIn (words (p .card)) (p .state)) (shown (p .state .windows)) (length places) (numbers (p .register) ns) found
 answered-listing p ns places found taken e =
-    subst (Listing (p .state .windows .live) (countIn (words (p .card)) (p .state)) (down 65535) (length places) (numbers (p .register) ns))
+    subst (Listing (p .state .windows .live) (countIn (words (p .card)) (p .state)) (shown (p .state .windows)) (length places) (numbers (p .register) ns))
     (ranked-is ∙ query-answered p ns places found taken e .hitsAre)
-    (ranked-listing (p .state .windows .live) (countIn (words (p .card)) (p .state)) 65535 (length places) (numbers (p .register) ns))
+    (ranked-listing (p .state .windows .live) (countIn (words (p .card)) (p .state)) (shown (p .state .windows)) (length places) (numbers (p .register) ns) once)
   where
-    ranked-is : ranked (p .state .windows .live) (countIn (words (p .card)) (p .state)) (down 65535) (length places) (numbers (p .register) ns) ≡ hitsOf (words (p .card)) (p .state) (length places) (numbers (p .register) ns)
+    ranked-is : ranked (p .state .windows .live) (countIn (words (p .card)) (p .state)) (shown (p .state .windows)) (length places) (numbers (p .register) ns) ≡ hitsOf (words (p .card)) (p .state) (length places) (numbers (p .register) ns)
     ranked-is = unfold hitsOf in refl
+
+    once : different (shown (p .state .windows)) ≡ true
+    once = unfold shown in different-keep (shows (p .state .windows .current)) (down 65535) (different-down 65535)
+
+-- none of them is of the open window
+pub open-unlisted : (p : Probe) (ns : List Name) (places found : List Hit) (taken : ℕ) → answerOf (queryOf p ns places) ≡ hits found taken
+    → every (λ h. shows (p .state .windows .current) (h .window)) found ≡ true
+open-unlisted p ns places found taken e =
+    every-from matched matched (λ h. shows o (h .window)) (λ h a b. shown-only (h .window) (and-left _ _ a)) found exact exact
+  where
+    o : ℕ
+    o = p .state .windows .current
+
+    N : ℕ
+    N = p .state .windows .live
+
+    is : List ℕ
+    is = numbers (p .register) ns
+
+    count : ℕ → ℕ → ℕ
+    count = countIn (words (p .card)) (p .state)
+
+    matched : Hit → Bool
+    matched h = elem (h .window) (matching N count (shown (p .state .windows)) is) && eqb (h .score) (scored N count (shown (p .state .windows)) is (h .window) .score)
+
+    exact : every matched found ≡ true
+    exact = answered-listing p ns places found taken e .exact
+
+    -- a window that matches shows
+    shown-only : (w : ℕ) → elem w (matching N count (shown (p .state .windows)) is) ≡ true → shows o w ≡ true
+    shown-only w m = every-elem (shows o) (matching N count (shown (p .state .windows)) is) w all m
+      where
+        all : every (shows o) (matching N count (shown (p .state .windows)) is) ≡ true
+        all = unfold matching shown in every-keep _ (shows o) (keep (shows o) (down 65535)) (every-kept (shows o) (down 65535))
 
 -- ---- identifiers of a bad length
 

@@ -35,7 +35,7 @@ falls (g ∷ hs) = every (outranks g) hs && falls hs
 abbrev pub scored : {I : Type 0} → ℕ → (I → ℕ → ℕ) → List ℕ → List I → ℕ → Hit
 scored N count windows is w = record { window = w; score = score N count windows is w }
 
--- what the hits of a query with k places are, where N windows exist, count is of an identifier in a window, and windows are all numbers that may be given
+-- what the hits of a query with k places are, where N windows exist, count is of an identifier in a window, and windows are those that show
 pub record Listing {I : Type 0} (N : ℕ) (count : I → ℕ → ℕ) (windows : List ℕ) (k : ℕ) (is : List I) (found : List Hit) : Type 0 where
   -- every window listed matches, and its score is exactly the sum of products
   pub exact : every (λ h. elem (h .window) (matching N count windows is) && eqb (h .score) (scored N count windows is (h .window) .score)) found ≡ true

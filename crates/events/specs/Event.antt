@@ -33,12 +33,12 @@ once s i = record { id = i; window = s .windows .current; count = pos 1 }
 unfoldable pub eventFlushes : State → ℕ → Bool
 eventFlushes s i = eqb (length (buffered (s .buffer))) 128 && not (any (samePair (once s i)) (buffered (s .buffer)))
 
--- the event is counted: N moves at the window's first, the identifier is listed at its first, and the pair's buffered count grows by 1
+-- the event is counted: the identifier is listed at its first, and the pair's buffered count grows by 1. N stays until the window is closed
 unfoldable pub counted : State → ℕ → State
 counted s i =
     withBuffer
     (withListed
-    (withWindows s (record { last = s .windows .last; live = cond (eqb (s .windows .events) 0) (suc (s .windows .live)) (s .windows .live); current = s .windows .current; events = suc (s .windows .events) }))
+    (withWindows s (record { last = s .windows .last; live = s .windows .live; current = s .windows .current; events = suc (s .windows .events) }))
     (listedOf (cond (elem i (listed (s .listed))) (listed (s .listed)) (listed (s .listed) ++ (i ∷ [])))))
     (bufferOf (put (once s i) (buffered (s .buffer))))
 

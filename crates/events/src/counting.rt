@@ -16,7 +16,7 @@ ghost use Rattle.lists.specs.Lists.{any, elem};
 ghost use Rattle.postings.specs.Order.{samePair};
 ghost use Rattle.postings.specs.Merge.{put};
 ghost use Rattle.state.specs.Views.{listed, listedOf, buffered, bufferOf};
-ghost use Rattle.state.specs.Rules.{windowsRule, bufferRule};
+ghost use Rattle.state.specs.Rules.{bufferRule};
 ghost use Rattle.buffer.specs.Places.{pair};
 ghost use Rattle.events.specs.Event.{registered, counted};
 ghost use Rattle.events.specs.Verdicts.{Countable, Placed};
@@ -32,18 +32,14 @@ pub fn must_flush(b: Buffer, i: u16, window: u16) -> bool
     !buffer::holds_pair(b, i, window)
 }
 
-// One event more in the open window, which exists from its first.
+// One event more in the open window. N stays until it is closed.
 fn count_window(w: Windows) -> Windows
-    requires { ⌜ (windowsRule w ≡ true) × (1 ≤ w .current) × (w .events < 32767) ⌝ }
-    ensures { λ r. ⌜ r ≡ record { last = w .last; live = cond (eqb (w .events) 0) (suc (w .live)) (w .live); current = w .current; events = suc (w .events) } ⌝ }
+    requires { ⌜ w .events < 32767 ⌝ }
+    ensures { λ r. ⌜ r ≡ record { last = w .last; live = w .live; current = w .current; events = suc (w .events) } ⌝ }
 {
-    let mut live = w.live;
-    if w.events == 0 {
-        live += 1;
-    }
     Windows {
         last: w.last,
-        live: live,
+        live: w.live,
         current: w.current,
         events: w.events + 1,
     }

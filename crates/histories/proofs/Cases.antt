@@ -11,7 +11,7 @@ use Rattle.ranking.specs.Hits.{frequency, score, matching, ranked}
 use Rattle.ranking.specs.Asked.{badQuery}
 use Rattle.engine.specs.Calls.{Call, run}
 use Rattle.accounts.specs.Account.{emptyAccount, takenFrom, blocksOf, blocksIn, inputsOf, merged, blocksAhead, completed, furthered, steppedAccount, flushedAccount, overflows, exceeds, addedTo, stepping, flushing, flushingIf}
-use Rattle.accounts.specs.Ledger.{emptyLedger, live, existing, opens, closes, counts, removes}
+use Rattle.accounts.specs.Ledger.{emptyLedger, live, shown, existing, opens, closes, counts, removes}
 use Rattle.accounts.specs.Books.{takenBack, books, expected}
 use Rattle.histories.specs.Statement.{SameAnswers}
 use Rattle.histories.specs.Table.{Case, Tf, Idf, Sized, Registered, Numbered, History, onBooks, onBytes, latest, worked, table, TableHolds}
@@ -19,7 +19,7 @@ use Rattle.histories.proofs.Theorem.{same-answers}
 
 -- on ledger and account
 pub table-expected : TableHolds onBooks
-unfolding TableHolds worked table onBooks down rising largest tfWeight idfWeight nonzero pairs refuseIf choose badLength numbersOf names registerRule added lengthOf frequency score matching ranked badQuery run emptyAccount takenFrom blocksOf blocksIn inputsOf merged blocksAhead completed furthered steppedAccount flushedAccount overflows exceeds addedTo stepping flushing flushingIf emptyLedger live existing opens closes counts removes takenBack books expected
+unfolding TableHolds worked table onBooks down rising largest tfWeight idfWeight nonzero pairs refuseIf choose badLength numbersOf names registerRule added lengthOf frequency score matching ranked badQuery run emptyAccount takenFrom blocksOf blocksIn inputsOf merged blocksAhead completed furthered steppedAccount flushedAccount overflows exceeds addedTo stepping flushing flushingIf emptyLedger live shown existing opens closes counts removes takenBack books expected
 table-expected = refl
 
 -- the card of a case has a length within the limits

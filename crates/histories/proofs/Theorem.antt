@@ -31,7 +31,7 @@ none-malformed c r cardFits registerFits cs = subst (AllOf Granted) (sym (theore
     theorem = unfold SameAnswers in same-answers
 
 -- what a history leaves: bytes that hold lists which stand for what ledger and account are; so every sum of what is stored is the ledger's count
--- (`left-sums`), and N is how many windows exist (`left-existing`)
+-- (`left-sums`), and N is how many closed windows exist (`left-existing`)
 pub history-left : (c r : ℕ) → cardLength c ≡ true → (fits : registerLength r ≡ true) → (cs : List Call)
     → Left (record { card = c; register = r }) (entries-most r fits) (afterwards probeCall (fresh c r) cs)
     (afterwards (booksCall (c / 4096) (r / 65)) (record { ledger = emptyLedger; account = emptyAccount }) cs)

@@ -49,6 +49,10 @@ three =
     ∷ Open ∷ Event LUCKY ∷ Close
     ∷ Open ∷ Event TILT ∷ Event DOOR ∷ Close ∷ []
 
+-- two windows, closed: one of TILT, one of DOOR
+abbrev pub twoClosed : List Call
+twoClosed = Open ∷ Event TILT ∷ Close ∷ Open ∷ Event DOOR ∷ Close ∷ []
+
 -- a query for LUCKY and TILT
 abbrev pub asked : Call
 asked = Query 32 (LUCKY ∷ TILT ∷ [])
@@ -122,8 +126,14 @@ table =
     -- on the smallest card two partitions are half of it
     ∷ History 4 (Open ∷ Event DOOR ∷ Flush ∷ Event DOOR ∷ Flush ∷ Event DOOR ∷ Flush ∷ []) (done ∷ done ∷ done ∷ done ∷ done ∷ refused 11 ∷ [])
     -- eight flushes of one pair make a merge of one step; then none is due, and one posting of count 8 is left
-    ∷ History 64 (Open ∷ times 8 (Event DOOR ∷ Flush ∷ []) ++ (Step ∷ Step ∷ Close ∷ Open ∷ Event TILT ∷ Query 3 (DOOR ∷ []) ∷ []))
-    (done ∷ refused 13 ∷ done ∷ number 2 ∷ done ∷ hits (hit 1 48 ∷ []) 1 ∷ [])
+    ∷ History 64 (Open ∷ times 8 (Event DOOR ∷ Flush ∷ []) ++ (Step ∷ Step ∷ Close ∷ Open ∷ Event TILT ∷ Close ∷ Query 3 (DOOR ∷ []) ∷ []))
+    (done ∷ refused 13 ∷ done ∷ number 2 ∷ done ∷ done ∷ hits (hit 1 48 ∷ []) 1 ∷ [])
+    -- window 3 is under way: TILT is in one of N = 2 windows, which weighs 4, though a posting of window 3 is taken. Once it is closed, TILT is in two of N = 3, which weighs 2
+    ∷ History 4 (twoClosed ++ (Open ∷ Event TILT ∷ Query 32 (TILT ∷ []) ∷ Close ∷ Query 32 (TILT ∷ []) ∷ []))
+    (hits (hit 1 16 ∷ []) 2 ∷ done ∷ hits (hit 3 8 ∷ hit 1 8 ∷ []) 2 ∷ [])
+    -- the same where its counts came to the card in eight partitions, which are merged into one: 8 of TILT weigh 12
+    ∷ History 64 (twoClosed ++ (Open ∷ times 8 (Event TILT ∷ Flush ∷ []) ++ (Step ∷ Query 32 (TILT ∷ []) ∷ Close ∷ Query 32 (TILT ∷ []) ∷ [])))
+    (done ∷ hits (hit 1 16 ∷ []) 2 ∷ done ∷ hits (hit 3 24 ∷ hit 1 8 ∷ []) 2 ∷ [])
     -- the command program's example
     ∷ History 16 (Open ∷ Event LUCKY ∷ Event LUCKY ∷ Event LUCKY ∷ Event TILT ∷ Close ∷ Open ∷ Event LUCKY ∷ Close ∷ Query 2 (LUCKY ∷ TILT ∷ []) ∷ [])
     (number 1 ∷ done ∷ done ∷ done ∷ done ∷ done ∷ number 2 ∷ done ∷ done ∷ hits (hit 1 16 ∷ hit 2 0 ∷ []) 3 ∷ [])

@@ -5,7 +5,7 @@ use Prim.Native.Nat.{ℕ}
 use lib.Dec.{ltb, eqb}
 use lib.IntN.{ℤ, pos, negsuc, _+ℤ_}
 use lib.ListN.{length}
-use Rattle.lists.specs.Lists.{keep, down}
+use Rattle.lists.specs.Lists.{keep}
 use Rattle.postings.specs.declared.Posting.{Posting}
 
 -- what a posting adds to the pair of identifier i and window w
@@ -30,6 +30,6 @@ above (negsuc n) = 0
 abbrev pub isAbove : ℤ → Bool
 isAbove z = ltb 0 (above z)
 
--- F: how many windows, from the highest number down, give the identifier more than 0
-unfoldable pub frequency : List Posting → ℕ → ℕ
-frequency l i = length (keep (λ w. isAbove (sum l i w)) (down 65535))
+-- F: in how many of these windows the identifier's sum is above 0
+unfoldable pub frequency : List ℕ → List Posting → ℕ → ℕ
+frequency windows l i = length (keep (λ w. isAbove (sum l i w)) windows)

@@ -1,5 +1,5 @@
 -- From terms that stand for the query's identifiers to the query's hits.
-use Rattle.lists.proofs.Prelude.{Bool, true, false, cond, _||_, List, [], _∷_, foldr, map, _≡_, refl, ap, ap₂, _∙_, ℕ, zero, suc, _+_, _*_, arith, ltb, ℤ, take, ltb-false, keep, any, every, totalBy, down, by-test, and-both}
+use Rattle.lists.proofs.Prelude.{Bool, true, false, cond, _&&_, _||_, List, [], _∷_, foldr, map, _≡_, refl, ap, ap₂, _∙_, ℕ, zero, suc, _+_, _*_, arith, ltb, ℤ, take, ltb-false, keep, any, every, totalBy, down, by-test, and-both, keep-both}
 use Rattle.keyed.specs.Keys.{sums, allFall, overKeys}
 use Rattle.keyed.specs.Groups.{allFallAll}
 use Rattle.weights.specs.Weights.{tfWeight, idfWeight, largest}
@@ -7,6 +7,7 @@ use Rattle.postings.specs.Sums.{sum, above, isAbove}
 use Rattle.postings.specs.Sums as S
 use Rattle.answers.specs.declared.Hit.{Hit}
 use Rattle.state.specs.declared.State.{State}
+use Rattle.state.specs.Shown.{shows, shown}
 use Rattle.partitions.specs.Reading.{stored}
 use Rattle.partitions.specs.Formed.{inRange}
 use Rattle.scores.specs.Terms.{Term, Serves}
@@ -44,7 +45,7 @@ module _ (W : List ℕ) (s : State) where
 
   -- what an identifier adds to the score of a window
   abbrev adds : ℕ → ℕ → ℕ
-  adds w i = cond (ltb 0 (countIn W s i w)) (tfWeight (countIn W s i w) * idfWeight (s .windows .live) (frequency (s .windows .live) (countIn W s) (down 65535) i)) 0
+  adds w i = cond (ltb 0 (countIn W s i w)) (tfWeight (countIn W s i w) * idfWeight (s .windows .live) (frequency (s .windows .live) (countIn W s) (shown (s .windows)) i)) 0
 
   served-one : (w i : ℕ) (t : Term) → Serves W s i t → tfWeight (above (sums w (t .lists))) * t .weight ≡ adds w i
   unfolding countIn frequency S.frequency
@@ -60,22 +61,36 @@ module _ (W : List ℕ) (s : State) where
   served-none [] [] none = refl
   served-none (i ∷ is) (t ∷ ts) (more v r) = rw (v .none) (served-none is ts r)
 
--- ---- the windows found are those that match
+-- ---- the windows found are those that show and match
 
-found-down : (ws : List ℕ) (S : ℕ → List ℤ) (t : ℕ → Bool) (hit : ℕ → ℕ)
-    → ((w : ℕ) → any isAbove (S w) ≡ t w) → ((w : ℕ) → weighAll ws (S w) ≡ hit w) → t 0 ≡ false
-    → (m : ℕ) → overKeys (foundAt ws) [] (suc m) S ≡ map (λ w. record { window = w; score = hit w }) (keep t (down m))
+found-down : (o : ℕ) (ws : List ℕ) (S : ℕ → List ℤ) (t : ℕ → Bool) (hit : ℕ → ℕ)
+    → ((w : ℕ) → (any isAbove (S w) && shows o w) ≡ t w) → ((w : ℕ) → weighAll ws (S w) ≡ hit w) → t 0 ≡ false
+    → (m : ℕ) → overKeys (foundAt o ws) [] (suc m) S ≡ map (λ w. record { window = w; score = hit w }) (keep t (down m))
 unfolding overKeys down
-found-down ws S t hit a b z zero = rw (a 0, z)
-found-down ws S t hit a b z (suc m) =
+found-down o ws S t hit a b z zero = rw (a 0, z)
+found-down o ws S t hit a b z (suc m) =
     by-test (t (suc m))
-    (λ y. rw (a (suc m), y, b (suc m)) (ap (λ (r : List Hit). record { window = suc m; score = hit (suc m) } ∷ r) (found-down ws S t hit a b z m)))
-    (λ y. rw (a (suc m), y) (found-down ws S t hit a b z m))
+    (λ y. rw (a (suc m), y, b (suc m)) (ap (λ (r : List Hit). record { window = suc m; score = hit (suc m) } ∷ r) (found-down o ws S t hit a b z m)))
+    (λ y. rw (a (suc m), y) (found-down o ws S t hit a b z m))
 
 -- the best of what is found are the query's hits
-pub found-hits : (W : List ℕ) (s : State) (k : ℕ) (is : List ℕ) (ts : List Term) → Serving W s is ts → take k (foldr place [] (foundIn ts)) ≡ hitsOf W s k is
+pub found-hits : (W : List ℕ) (s : State) (k : ℕ) (is : List ℕ) (ts : List Term) → Serving W s is ts → take k (foldr place [] (foundIn (s .windows .current) ts)) ≡ hitsOf W s k is
 unfolding foundBy hitsOf ranked matching score
 found-hits W s k is ts v =
     ap (λ (l : List Hit). take k (foldr place [] l))
-    (found-down (weightsIn ts) (λ w. map (sums w) (groupsIn ts)) (λ w. any (λ i. ltb 0 (countIn W s i w)) is) (λ w. totalBy (adds W s w) is)
-    (λ w. served-any W s w is ts v) (λ w. served-score W s w is ts v) (served-none W s is ts v) 65535)
+    (found-down o (weightsIn ts) (λ w. map (sums w) (groupsIn ts)) counts (λ w. totalBy (adds W s w) is)
+    (λ w. ap (λ (b : Bool). b && shows o w) (served-any W s w is ts v)) (λ w. served-score W s w is ts v) (ap (λ (b : Bool). b && shows o 0) (served-none W s is ts v)) 65535
+    ∙ ap (map (λ w. record { window = w; score = totalBy (adds W s w) is })) both)
+  where
+    -- the open window
+    o : ℕ
+    o = s .windows .current
+
+    matches : ℕ → Bool
+    matches w = any (λ i. ltb 0 (countIn W s i w)) is
+
+    counts : ℕ → Bool
+    counts w = matches w && shows o w
+
+    both : keep counts (down 65535) ≡ keep matches (shown (s .windows))
+    both = unfold shown in keep-both matches (shows o) counts (λ w. refl) (down 65535)

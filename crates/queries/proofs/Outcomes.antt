@@ -1,5 +1,5 @@
 -- What a query comes to, test by test, and that what the search promises is what the query is.
-use Rattle.lists.proofs.Prelude.{Bool, true, false, _&&_, not, List, [], _∷_, foldr, map, _≡_, refl, sym, ap, ap₂, _∙_, subst, ℕ, _+_, _*_, _≤_, mul-le-mul-left, arith, eqb, ltb, length, take, replicate, length-take, length-replicate, take-all, ltb-false, eqb-false, eq-eqb, not-false, any, every, empty, down, or-none, and-both}
+use Rattle.lists.proofs.Prelude.{Bool, true, false, _&&_, not, List, [], _∷_, foldr, map, _≡_, refl, sym, ap, ap₂, _∙_, subst, ℕ, _+_, _*_, _≤_, mul-le-mul-left, arith, eqb, ltb, length, take, replicate, length-take, length-replicate, take-all, ltb-false, eqb-false, eq-eqb, not-false, any, every, empty, or-none, and-both}
 use Rattle.words.specs.Words.{words}
 use Rattle.answers.specs.Answers.{Outcome, refuse, leave, refuseIf, hits, answerOf, stateOf}
 use Rattle.answers.specs.Numbers.{refusalNumber, foundAs}
@@ -12,6 +12,7 @@ use Rattle.state.specs.declared.State.{State}
 use Rattle.state.specs.Views.{blocks, finished}
 use Rattle.state.specs.Rules.{stateRule}
 use Rattle.state.specs.Probe.{Probe, sameLength}
+use Rattle.state.specs.Shown.{shown}
 use Rattle.state.proofs.Kept.{state-kept}
 use Rattle.identifiers.specs.Names.{Name, badLength, distinct}
 use Rattle.identifiers.specs.Register.{names, registerRule}
@@ -191,10 +192,10 @@ module _ (s : State) (card register : List ℕ) (sound : Sound s card register) 
 
         hits-few : (n : ℕ) → n ≡ k → length (hitsOf (words card) s n (numbers register ns)) ≤ k
         unfolding hitsOf ranked
-        hits-few n q = rw q (omega (arith, length-take k (foldr place [] (map (λ w. record { window = w; score = score (s .windows .live) (countIn (words card) s) (down 65535) (numbers register ns) w }) (matching (s .windows .live) (countIn (words card) s) (down 65535) (numbers register ns))))))
+        hits-few n q = rw q (omega (arith, length-take k (foldr place [] (map (λ w. record { window = w; score = score (s .windows .live) (countIn (words card) s) (shown (s .windows)) (numbers register ns) w }) (matching (s .windows .live) (countIn (words card) s) (shown (s .windows)) (numbers register ns))))))
 
         -- the best hits of the walk are the answer's
-        pub finds-walked : (t : Top) → t ≡ topOf (take k (foldr place [] (foundIn terms)))
+        pub finds-walked : (t : Top) → t ≡ topOf (take k (foldr place [] (foundIn (s .windows .current) terms)))
             → Finds p ns k (found.Hits (t .used) (known .taken)) t
         finds-walked t q =
             let n : length (replicate k noHit) ≡ k = length-replicate k noHit in

@@ -3,7 +3,7 @@ use mathlib.Core.Bool.{Bool, _&&_, not}
 use mathlib.Core.List.{List, [], _∷_, _++_}
 use Prim.Native.Nat.{ℕ}
 use lib.ListN.{length, drop}
-use Rattle.lists.specs.Lists.{keep, any, every, elem, down}
+use Rattle.lists.specs.Lists.{keep, any, every, elem}
 use Rattle.words.specs.Words.{words}
 use Rattle.postings.specs.Sums.{sum, above}
 use Rattle.answers.specs.Answers.{Outcome, leave, hits}
@@ -14,6 +14,7 @@ use Rattle.state.specs.declared.State.{State}
 use Rattle.state.specs.Views.{blocks, finished}
 use Rattle.state.specs.Rules.{stateRule}
 use Rattle.state.specs.Probe.{Probe, sameLength}
+use Rattle.state.specs.Shown.{shown}
 use Rattle.identifiers.specs.Names.{Name, badLength, numbersOf}
 use Rattle.identifiers.specs.Register.{names, registerRule}
 use Rattle.partitions.specs.Reading.{stored}
@@ -38,9 +39,9 @@ unfoldable pub queryFormed : List ℕ → State → List ℕ → List ℕ → Bo
 queryFormed W s register is =
     registerRule register && (partitionsFormed W (blocks s) (finished (s .partitions)) && every (identifierFormed W s) is)
 
--- the hits of a query with k places, for the numbers of its identifiers
+-- the hits of a query with k places, for the numbers of its identifiers: N, F and matching windows are of those that show
 unfoldable pub hitsOf : List ℕ → State → ℕ → List ℕ → List Hit
-hitsOf W s k is = ranked (s .windows .live) (countIn W s) (down 65535) k is
+hitsOf W s k is = ranked (s .windows .live) (countIn W s) (shown (s .windows)) k is
 
 -- the lent list with the hits in its first places, and the places beyond the last of them as they were
 abbrev pub fill : List Hit → List Hit → List Hit

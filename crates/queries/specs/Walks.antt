@@ -1,5 +1,5 @@
--- The hits of the second pass over several terms, one to an identifier: by falling window, each window once.
-use mathlib.Core.Bool.{true, cond}
+-- The hits of the second pass over several terms, one to an identifier: by falling window, each window once. The open window's number is o.
+use mathlib.Core.Bool.{true, cond, _&&_}
 use mathlib.Core.List.{List, [], _∷_, map}
 use mathlib.Core.Path.{_≡_}
 use Prim.Native.Nat.{ℕ, _+_, _*_, _≤_}
@@ -11,6 +11,7 @@ use Rattle.keyed.specs.Keys.{sums, overKeys}
 use Rattle.keyed.specs.Groups.{Group, allFallAll}
 use Rattle.postings.specs.Sums.{isAbove}
 use Rattle.answers.specs.declared.Hit.{Hit}
+use Rattle.state.specs.Shown.{shows}
 use Rattle.partitions.specs.Formed.{inRange}
 use Rattle.kway.specs.Parts.{parts}
 use Rattle.scores.specs.Terms.{Term, KeptGroup, termsOf}
@@ -20,16 +21,16 @@ use Rattle.scores.specs.Scores.{groupsIn, weightsIn, weighAll}
 abbrev pub hitAt : List ℕ → ℕ → List ℤ → Hit
 hitAt ws w v = record { window = w; score = weighAll ws v }
 
--- it comes before those of lower windows, where one of its sums is above 0
-abbrev pub foundAt : List ℕ → ℕ → List ℤ → List Hit → List Hit
-foundAt ws w v r = cond (any isAbove v) (hitAt ws w v ∷ r) r
+-- it comes before those of lower windows, where it shows and one of its sums is above 0
+abbrev pub foundAt : ℕ → List ℕ → ℕ → List ℤ → List Hit → List Hit
+foundAt o ws w v r = cond (any isAbove v && shows o w) (hitAt ws w v ∷ r) r
 
--- the hits of all windows, of lists with these weights
-unfoldable pub foundBy : List ℕ → List Group → List Hit
-foundBy ws gs = overKeys (foundAt ws) [] 65536 (λ w. map (sums w) gs)
+-- the hits of all windows that show, of lists with these weights
+unfoldable pub foundBy : ℕ → List ℕ → List Group → List Hit
+foundBy o ws gs = overKeys (foundAt o ws) [] 65536 (λ w. map (sums w) gs)
 
-abbrev pub foundIn : List Term → List Hit
-foundIn ts = foundBy (weightsIn ts) (groupsIn ts)
+abbrev pub foundIn : ℕ → List Term → List Hit
+foundIn o ts = foundBy o (weightsIn ts) (groupsIn ts)
 
 -- g terms of m lists each that can be merged: they may be read, their lists fall, and every sum is within ±32,767
 pub record Walkable (W R : List ℕ) (m g : ℕ) (H : List ℕ) : Type 0 where

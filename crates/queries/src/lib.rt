@@ -63,7 +63,8 @@ fn search_with(
         return refuse(Refusal::BadQuery);
     }
     let m = s.partitions.used as usize + 1;
-    let top = walking::walk(card, run, heads, k.used as usize, m, places as u16);
+    let current = s.windows.current as u32;
+    let top = walking::walk(card, run, heads, k.used as usize, m, places as u16, current);
     Answered {
         answer: Found::Hits(top.used, k.taken),
         top: top,

@@ -11,17 +11,25 @@ ghost use Rattle.ranking.specs.Hits.{place};
 ghost use Rattle.ranking.specs.Top.{topOf};
 ghost use Rattle.queries.specs.Walks.{foundIn, Walkable};
 
-// The best hits of the windows of g terms of m lists each.
-pub fn walk(card: &[u8], run: &[u32], heads: &mut [u32], g: usize, m: usize, places: u16) -> Top
+// The best hits of the windows of g terms of m lists each, where `current` is the open window's number, or 0: it is passed over.
+pub fn walk(
+    card: &[u8],
+    run: &[u32],
+    heads: &mut [u32],
+    g: usize,
+    m: usize,
+    places: u16,
+    current: u32,
+) -> Top
     requires { ⌜ Walkable (wordsOf (now card)) (now run) m g (now heads) × (1 ≤ places) × (places ≤ 32) ⌝ }
-    ensures { λ r. ⌜ r ≡ topOf (first places (foldr place [] (foundIn (termsOf (wordsOf (now (card .entry))) (now (run .entry)) m g (now (heads .entry)))))) ⌝ }
+    ensures { λ r. ⌜ r ≡ topOf (first places (foldr place [] (foundIn current (termsOf (wordsOf (now (card .entry))) (now (run .entry)) m g (now (heads .entry)))))) ⌝ }
 {
     let mut best = ranking::no_hits();
     let mut top = scores::scoring::top_terms(card, run, heads, g, m);
     while 0 < top {
         let w = top - 1;
         let t = scores::scoring::take_terms(card, run, heads, g, m, w);
-        let counts = t.counts;
+        let counts = t.counts & (w != current);
         if counts {
             let hit = Hit {
                 window: w as u16,

@@ -1,5 +1,5 @@
 -- What a removal gives after refusals 1 to 3, by its tests and by its flush's target.
-use Rattle.lists.proofs.Prelude.{Bool, true, false, _&&_, _||_, not, List, _≡_, subst, ℕ, _≤_, _+_, arith, eqb, ltb, leb, length, leb-false, or-none}
+use Rattle.lists.proofs.Prelude.{Bool, true, false, _&&_, _||_, not, List, _≡_, subst, ℕ, _≤_, _+_, arith, eqb, ltb, length, eqb-false, or-none}
 use Rattle.words.specs.Words.{words, bytes}
 use Rattle.postings.specs.declared.Posting.{Posting}
 use Rattle.answers.specs.declared.Refusal.{Refusal}
@@ -16,7 +16,7 @@ use Rattle.windows.specs.Promises.{Gives, storeOf}
 use Rattle.windows.proofs.Outcomes.{stopped, passed}
 use Rattle.flushes.proofs.Targets.{follows-refused, follows-plain, follows-written}
 use Rattle.flushes.proofs.Flushes.{gives-by, refuses, leaves}
-use Rattle.removals.specs.Removal.{isLive, openCounted, removalFlushes, removed, removing}
+use Rattle.removals.specs.Removal.{isLive, removalFlushes, removed, removing}
 
 -- it names the open window
 abbrev pub namesOpen : State → ℕ → Bool
@@ -24,7 +24,7 @@ namesOpen s w = isOpen s && eqb w (s .windows .current)
 
 -- there is no such window to remove
 abbrev pub notLive : State → ℕ → List Posting → Bool
-notLive s w counts = not (isLive counts) || (ltb (s .windows .last) w || leb (s .windows .live) (openCounted s))
+notLive s w counts = not (isLive counts) || (ltb (s .windows .last) w || eqb (s .windows .live) 0)
 
 module _ (s : State) (card : List ℕ) (w : ℕ) (counts : List Posting) where
   pub names-the-open : namesOpen s w ≡ true → Gives (storeOf s card) (removing s card w counts) (refused 5) (storeOf s card)
@@ -37,11 +37,11 @@ module _ (s : State) (card : List ℕ) (w : ℕ) (counts : List Posting) where
     names-no-live e = passed _ 5 _ a (stopped _ 7 _ e)
 
     module _ (b : notLive s w counts ≡ false) where
-      -- N counts one beside the open window
+      -- N is not 0
       pub some-live : 1 ≤ s .windows .live
       some-live =
           let e = or-none (not (isLive counts)) _ b .1 in
-          let f = leb-false (s .windows .live) (openCounted s) (or-none (ltb (s .windows .last) w) _ e .1) in
+          let f = eqb-false (s .windows .live) 0 (or-none (ltb (s .windows .last) w) _ e .1) in
           omega arith
 
       abbrev left : State → List ℕ → Outcome Store

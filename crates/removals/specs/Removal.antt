@@ -1,8 +1,8 @@
 -- Removal of a window: what it answers and leaves, for every input.
-use mathlib.Core.Bool.{Bool, _||_, _&&_, not, cond}
+use mathlib.Core.Bool.{Bool, _||_, _&&_, not}
 use mathlib.Core.List.{List, [], _∷_, foldr}
 use Prim.Native.Nat.{ℕ, _+_, _-_}
-use lib.Dec.{eqb, ltb, leb}
+use lib.Dec.{eqb, ltb}
 use lib.ListN.{length}
 use Rattle.lists.specs.Lists.{any}
 use Rattle.words.specs.Words.{words}
@@ -32,10 +32,6 @@ isLive counts = any (λ p. isAbove (p .count)) counts
 unfoldable pub removalFormed : List ℕ → State → ℕ → Bool
 removalFormed W s w = partitionsFormed W (blocks s) (finished (s .partitions)) && listsFormed W s w
 
--- 1 where the open window is counted in N
-abbrev pub openCounted : State → ℕ
-openCounted s = cond (isOpen s && ltb 0 (s .windows .events)) 1 0
-
 -- a removal flushes first exactly when buffered postings and the window's identifiers together exceed 128
 unfoldable pub removalFlushes : State → List Posting → Bool
 removalFlushes s counts = ltb 128 (length (buffered (s .buffer)) + length counts)
@@ -47,12 +43,12 @@ removed s counts =
     (withWindows s (record { last = s .windows .last; live = s .windows .live - 1; current = s .windows .current; events = s .windows .events }))
     (bufferOf (nonzero (foldr put (buffered (s .buffer)) (negated counts))))
 
--- what follows refusals 1 to 3, where these are the window's counts
+-- what follows refusals 1 to 3, where these are the window's counts: 5 for the open window, 7 for one that is not live or was not given, or where N is 0
 unfoldable pub removing : State → List ℕ → ℕ → List Posting → Outcome Store
 removing s card w counts =
     admit (past 3 order.removal)
     ((isOpen s && eqb w (s .windows .current))
-    ∷ (not (isLive counts) || (ltb (s .windows .last) w || leb (s .windows .live) (openCounted s)))
+    ∷ (not (isLive counts) || (ltb (s .windows .last) w || eqb (s .windows .live) 0))
     ∷ [])
     (flushingIf (removalFlushes s counts) s card (λ t after. leave done (record { state = removed t counts; card = after })))
 

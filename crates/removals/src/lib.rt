@@ -10,11 +10,11 @@ use state::State;
 use state::Windows;
 use sums::Counts;
 use windows::Replied;
-ghost use mathlib.Core.Bool.{true, _&&_, _||_, not, cond};
+ghost use mathlib.Core.Bool.{true, _&&_, _||_, not};
 ghost use mathlib.Core.List.{[], foldr};
 ghost use mathlib.Core.Path.{_≡_};
 ghost use Prim.Native.Nat.{_+_, _≤_};
-ghost use lib.Dec.{eqb, ltb, leb};
+ghost use lib.Dec.{eqb, ltb};
 ghost use lib.ListN.{length};
 ghost use Rattle.postings.specs.Merge.{put, nonzero, negated};
 ghost use Rattle.postings.specs.Sums.{isAbove};
@@ -128,23 +128,12 @@ fn is_live(c: Counts) -> bool
     false
 }
 
-// 1 where the open window is counted in N.
-fn open_counted(w: Windows) -> u16
-    ensures { λ r. ⌜ r ≡ cond (not (eqb (w .current) 0) && ltb 0 (w .events)) 1 0 ⌝ }
-{
-    if !(w.current == 0) & (0 < w.events) {
-        1
-    } else {
-        0
-    }
-}
-
-// Is there no such window to remove: none that is live, none given yet, or none but the open one in N?
+// Is there no such window to remove: none that is live, none given yet, or none in N?
 fn not_live(w: Windows, window: u32, c: Counts) -> bool
     requires { ⌜ c .used ≤ 64 ⌝ }
-    ensures { λ r. ⌜ r ≡ (not (isLive (countsIn c)) || (ltb (w .last) window || leb (w .live) (cond (not (eqb (w .current) 0) && ltb 0 (w .events)) 1 0))) ⌝ }
+    ensures { λ r. ⌜ r ≡ (not (isLive (countsIn c)) || (ltb (w .last) window || eqb (w .live) 0)) ⌝ }
 {
-    !is_live(c) | (((w.last as u32) < window) | (w.live <= open_counted(w)))
+    !is_live(c) | (((w.last as u32) < window) | (w.live == 0))
 }
 
 // Do buffered postings and counts together exceed 128?

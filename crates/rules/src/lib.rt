@@ -30,8 +30,7 @@ fn windows_ok(w: Windows) -> bool
 {
     let number = w.current;
     let events = w.events;
-    let counted = ((events == 0) & (w.live < number)) | ((events != 0) & (w.live >= 1));
-    let opened = (number == w.last) & ((events <= 32767) & counted);
+    let opened = (number == w.last) & ((events <= 32767) & (w.live < number));
     (w.live <= w.last) & (((number == 0) & (events == 0)) | ((number != 0) & opened))
 }
 

@@ -47,21 +47,25 @@ over-at (suc m) j S h e =
 
 -- ---- what is told
 
-told-none : (gs : List Group) → toldOf gs ≡ Malformed → formed gs ≡ false
+told-none : (o : ℕ) (gs : List Group) → toldOf o gs ≡ Malformed → formed gs ≡ false
 unfolding toldOf
-told-none gs e = by-test (formed gs) (λ y. let q : Windows (risen gs) ≡ Malformed = rw y at e in let z : _≡_ {A = ℕ} 0 1 = cc in absurd (omega arith)) (λ n. n)
+told-none o gs e = by-test (formed gs) (λ y. let q : Windows (risen o gs) ≡ Malformed = rw y at e in let z : _≡_ {A = ℕ} 0 1 = cc in absurd (omega arith)) (λ n. n)
 
-told-windows : (gs : List Group) (n : ℕ) → toldOf gs ≡ Windows n → (formed gs ≡ true) × (n ≡ risen gs)
+told-windows : (o : ℕ) (gs : List Group) (n : ℕ) → toldOf o gs ≡ Windows n → (formed gs ≡ true) × (n ≡ risen o gs)
 unfolding toldOf
-told-windows gs n e =
+told-windows o gs n e =
     by-test (formed gs)
-    (λ y. let q : Windows (risen gs) ≡ Windows n = rw y at e in (y, cc))
+    (λ y. let q : Windows (risen o gs) ≡ Windows n = rw y at e in (y, cc))
     (λ f. let q : Malformed ≡ Windows n = rw f at e in let z : _≡_ {A = ℕ} 0 1 = cc in absurd (omega arith))
 
 module _ (W R : List ℕ) (s : State) (i : ℕ) (H : List ℕ) (opens : Opens W R s i H) (small : Below 4294967296 W) (few : Below 4294967296 R)
     (order : ordered (buffered (s .buffer)) ≡ true) (rules : every rule (buffered (s .buffer)) ≡ true) where
   abbrev gs : List Group
   gs = both W R (s .partitions .used) H
+
+  -- the open window's number
+  abbrev o : ℕ
+  o = s .windows .current
 
   -- the lists on the card, the run, and both in one group
   abbrev cards : Group
@@ -77,20 +81,20 @@ module _ (W R : List ℕ) (s : State) (i : ℕ) (H : List ℕ) (opens : Opens W 
   all-parts = views-more (view W R) 4 (s .partitions .used) H
 
   -- not well formed
-  pub judged-bad : toldOf gs ≡ Malformed → identifierFormed W s i ≡ false
-  judged-bad e = formed-same W R s i H opens small few order rules ∙ told-none gs e
+  pub judged-bad : toldOf o gs ≡ Malformed → identifierFormed W s i ≡ false
+  judged-bad e = formed-same W R s i H opens small few order rules ∙ told-none o gs e
 
   -- well formed
-  pub judged-good : (n : ℕ) → toldOf gs ≡ Windows n → identifierFormed W s i ≡ true
-  judged-good n e = formed-same W R s i H opens small few order rules ∙ told-windows gs n e .0
+  pub judged-good : (n : ℕ) → toldOf o gs ≡ Windows n → identifierFormed W s i ≡ true
+  judged-good n e = formed-same W R s i H opens small few order rules ∙ told-windows o gs n e .0
 
-  module _ (n : ℕ) (told : toldOf gs ≡ Windows n) where
+  module _ (n : ℕ) (told : toldOf o gs ≡ Windows n) where
     ok : formed gs ≡ true
-    ok = told-windows gs n told .0
+    ok = told-windows o gs n told .0
 
     -- F fits
     pub windows-few : n ≤ 65535
-    windows-few = omega (arith, told-windows gs n told .1, risen-few gs (none-at-zero W R s i H opens small few order rules ok))
+    windows-few = omega (arith, told-windows o gs n told .1, risen-few o gs (none-at-zero W R s i H opens small few order rules ok))
 
     pub all-fall : allFall 65536 all ≡ true
     all-fall = rw all-parts (falls-more 65536 cards run (lists-fall W R s i H opens small few order rules ok) (run-fall W R s i H opens small few order rules ok))
@@ -122,7 +126,7 @@ module _ (W R : List ℕ) (s : State) (i : ℕ) (H : List ℕ) (opens : Opens W 
           totals = totals;
           ranges = in-range;
           none = total-same W R s i H opens small few order rules 0 ∙ total-none (map (sums 0) gs) (none-at-zero W R s i H opens small few order rules ok);
-          weight = ap (idfWeight (s .windows .live)) (told-windows gs n told .1 ∙ sym (risen-same W R s i H opens small few order rules ok));
+          weight = ap (idfWeight (s .windows .live)) (told-windows o gs n told .1 ∙ sym (risen-same W R s i H opens small few order rules ok));
         })
 
 -- ---- reach, weight and lead put in front of a group's heads

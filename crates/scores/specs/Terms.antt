@@ -12,6 +12,7 @@ use Rattle.keyed.specs.Groups.{Group}
 use Rattle.weights.specs.Weights.{idfWeight}
 use Rattle.postings.specs.Sums.{sum, under, frequency}
 use Rattle.state.specs.declared.State.{State}
+use Rattle.state.specs.Shown.{shown}
 use Rattle.partitions.specs.Reading.{stored}
 use Rattle.partitions.specs.Formed.{inRange, identifierFormed}
 use Rattle.kway.specs.Parts.{parts}
@@ -46,7 +47,7 @@ pub record Serves (W : List ℕ) (s : State) (i : ℕ) (t : Term) : Type 0 where
   pub totals : (w : ℕ) → sums w (t .lists) ≡ sum (stored W s) i w
   pub ranges : (w : ℕ) → inRange (sum (stored W s) i w) ≡ true
   pub none : sum (stored W s) i 0 ≡ pos 0
-  pub weight : t .weight ≡ idfWeight (s .windows .live) (frequency (stored W s) i)
+  pub weight : t .weight ≡ idfWeight (s .windows .live) (frequency (shown (s .windows)) (stored W s) i)
 
 -- r tells of the identifier i whether what is read of it is well formed; if so the group P is its term, and r tells how many postings of it are stored
 pub record CountedFor (W R : List ℕ) (s : State) (i m : ℕ) (P : List ℕ) (r : Counted) : Type 0 where

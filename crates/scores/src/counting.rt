@@ -52,7 +52,7 @@ fn total_left(card: &[u8], run: &[u32], heads: &[u32], m: usize) -> u32
     total
 }
 
-// Puts the reach, the weight and the lead of a group whose heads are kept: `f` of `n` windows have its identifier.
+// Puts the reach, the weight and the lead of a group whose heads are kept: `f` of `n` windows that show have its identifier.
 fn weigh(card: &[u8], run: &[u32], group: &mut [u32], m: usize, n: u16, f: u16)
     requires { ⌜ (length (now group) ≡ 4 * m + 4) × (m ≤ 52) × AllOf (Kept (wordsOf (now card)) (now run)) (parts 4 m (drop 4 (now group))) ⌝ }
     ensures { λ r. ⌜ KeptGroup (wordsOf (now (card .entry))) (now (run .entry)) m (now (group .exit))
@@ -75,7 +75,8 @@ pub fn judge_term(card: &[u8], run: &[u32], heads: &mut [u32], s: State, id: u16
 {
     let n = s.partitions.used as usize;
     terms::opening::open_heads(card, run, heads, s, id);
-    let told = terms::judging::judge(card, run, heads, n);
+    let current = s.windows.current as u32;
+    let told = terms::judging::judge(card, run, heads, n, current);
     match told {
         Told::Malformed => false,
         Told::Windows(windows) => true,
@@ -99,7 +100,8 @@ pub fn keep_term(
     let n = s.partitions.used as usize;
     terms::opening::open_heads(card, run, heads, s, id);
     copy(&mut group[4..], heads);
-    let told = terms::judging::judge(card, run, heads, n);
+    let current = s.windows.current as u32;
+    let told = terms::judging::judge(card, run, heads, n, current);
     match told {
         Told::Malformed => Counted {
             fine: false,

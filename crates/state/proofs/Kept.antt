@@ -59,13 +59,12 @@ pub record Shut (w : Windows) : Type 0 where
   pub number : w .current ≡ 0
   pub events : w .events ≡ 0
 
--- with a window open: it is the last that was numbered, and N has it from its first event on
+-- with a window open: it is the last that was numbered, and N is below it
 pub record Opened (w : Windows) : Type 0 where
   pub some : 1 ≤ w .current
   pub number : w .current ≡ w .last
   pub events : w .events ≤ 32767
-  pub uncounted : w .events ≡ 0 → w .live < w .current
-  pub counted : 1 ≤ w .events → 1 ≤ w .live
+  pub below : w .live < w .current
 
 -- N is at most the last number given, and a window is open or not
 pub record WindowsKept (w : Windows) : Type 0 where
@@ -77,20 +76,18 @@ pub windows-kept : (w : Windows) → windowsRule w ≡ true → WindowsKept w
 unfolding windowsRule
 windows-kept w e = record { live = leb-true _ _ (and-left (leb (w .live) (w .last)) _ e); window = cases (and-right (leb (w .live) (w .last)) _ e) }
   where
-    cases : cond (eqb (w .current) 0) (eqb (w .events) 0) (eqb (w .current) (w .last) && (leb (w .events) 32767 && cond (eqb (w .events) 0) (ltb (w .live) (w .current)) (leb 1 (w .live)))) ≡ true
+    cases : cond (eqb (w .current) 0) (eqb (w .events) 0) (eqb (w .current) (w .last) && (leb (w .events) 32767 && ltb (w .live) (w .current))) ≡ true
         → Shut w ⊎ Opened w
     cases q =
         by-test (eqb (w .current) 0) (λ y. inl (record { number = eqb-true _ _ y; events = eqb-true _ _ (rw y at q) }))
-        (λ n. let r : (eqb (w .current) (w .last) && (leb (w .events) 32767 && cond (eqb (w .events) 0) (ltb (w .live) (w .current)) (leb 1 (w .live)))) ≡ true = rw n at q in
+        (λ n. let r : (eqb (w .current) (w .last) && (leb (w .events) 32767 && ltb (w .live) (w .current))) ≡ true = rw n at q in
         let t = and-right (eqb (w .current) (w .last)) _ r in
-        let u = and-right (leb (w .events) 32767) _ t in
         let z = eqb-false (w .current) 0 n in
         inr (record {
           some = omega arith;
           number = eqb-true _ _ (and-left (eqb (w .current) (w .last)) _ r);
           events = leb-true _ _ (and-left (leb (w .events) 32767) _ t);
-          uncounted = λ none. ltb-true _ _ (rw (eq-eqb (w .events) 0 none) at u);
-          counted = λ some. leb-true _ _ (rw (ne-eqb (w .events) 0 (λ none. omega arith)) at u);
+          below = ltb-true _ _ (and-right (leb (w .events) 32767) _ t);
         }))
 
 -- and back
@@ -99,13 +96,12 @@ unfolding windowsRule
 windows-rule w k = rw (le-leb (w .live) (w .last) (k .live)) (cases (k .window))
   where
     cases : Shut w ⊎ Opened w
-        → cond (eqb (w .current) 0) (eqb (w .events) 0) (eqb (w .current) (w .last) && (leb (w .events) 32767 && cond (eqb (w .events) 0) (ltb (w .live) (w .current)) (leb 1 (w .live)))) ≡ true
+        → cond (eqb (w .current) 0) (eqb (w .events) 0) (eqb (w .current) (w .last) && (leb (w .events) 32767 && ltb (w .live) (w .current))) ≡ true
     cases (inl s) = rw (eq-eqb (w .current) 0 (s .number)) (eq-eqb (w .events) 0 (s .events))
     cases (inr o) =
         let some = o .some in
         rw (ne-eqb (w .current) 0 (λ z. omega arith), eq-eqb (w .current) (w .last) (o .number), le-leb (w .events) 32767 (o .events))
-        (by-test (eqb (w .events) 0) (λ y. rw y (lt-ltb _ _ (o .uncounted (eqb-true _ _ y))))
-        (λ n. let z = eqb-false (w .events) 0 n in rw n (le-leb _ _ (o .counted (omega arith)))))
+        (lt-ltb _ _ (o .below))
 
 -- ---- the open window's identifiers
 

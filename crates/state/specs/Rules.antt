@@ -34,13 +34,13 @@ registerLength n = eqb (n % 65) 0 && (leb 1 (n / 65) && leb (n / 65) 1024)
 unfoldable pub lengthsRule : Lengths → Bool
 lengthsRule l = cardLength (l .card) && registerLength (l .register)
 
--- no more windows are live than were numbered. An open window is the last that was numbered, with no more than 32,767 events; from its first event on it is one of N,
--- which then is not 0, and before that N leaves room for it. Where none is open there are no events
+-- N, the closed windows that are live, is at most the last number given. An open window has that number, no more than 32,767 events, and is not one of N, which is
+-- below it. Where none is open there are no events
 unfoldable pub windowsRule : Windows → Bool
 windowsRule w =
     leb (w .live) (w .last)
     && cond (eqb (w .current) 0) (eqb (w .events) 0)
-    (eqb (w .current) (w .last) && (leb (w .events) 32767 && cond (eqb (w .events) 0) (ltb (w .live) (w .current)) (leb 1 (w .live))))
+    (eqb (w .current) (w .last) && (leb (w .events) 32767 && ltb (w .live) (w .current)))
 
 -- the open window has at most 64 identifiers, all different and at most 1,023; zeros follow them; without an open window there are none
 unfoldable pub listedRule : Windows → Listed → Bool

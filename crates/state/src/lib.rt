@@ -21,7 +21,7 @@ pub struct Lengths {
     pub register: u32,
 }
 
-// The last window number given, how many windows exist (N), and the open window: its number, 0 for none, and its events.
+// The last window number given, how many closed windows are live (N), and the open window: its number, 0 for none, and its events.
 pub struct Windows {
     pub last: u16,
     pub live: u16,

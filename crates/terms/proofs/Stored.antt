@@ -1,5 +1,5 @@
 -- From the words that an identifier's heads have to come to what is stored under it.
-use Rattle.lists.proofs.Prelude.{Bool, true, _&&_, and-true, List, [], _∷_, _++_, map, _≡_, refl, sym, ap, ap₂, _∙_, ℕ, zero, suc, _+_, _-_, _/_, _%_, _≤_, arith, ltb, eqb, ℤ, pos, _+ℤ_, +ℤ-idr, length, take, drop, length-append, length-map, lt-ltb, le-ltb, eq-eqb, ne-eqb, every, joined, totalBy, AllOf, by-test, and-left, and-right, and-both, keep-append, every-keep, every-append, every-map, keep-joined, and-past-two}
+use Rattle.lists.proofs.Prelude.{Bool, true, _&&_, and-true, List, [], _∷_, _++_, map, _≡_, refl, sym, ap, ap₂, _∙_, ℕ, zero, suc, _+_, _-_, _/_, _%_, _≤_, arith, ltb, eqb, ℤ, pos, _+ℤ_, +ℤ-idr, length, take, drop, length-append, length-map, lt-ltb, le-ltb, eq-eqb, ne-eqb, every, joined, totalBy, AllOf, by-test, and-left, and-right, and-both, keep-append, every-keep, every-append, every-map, keep-joined, keep-both, down, and-past-two}
 use Rattle.keyed.specs.Keys.{falls, allFall, sumOf, sums, overKeys}
 use Rattle.keyed.specs.Groups.{Group, allFallAll}
 use Rattle.keyed.proofs.Walk.{over-same}
@@ -14,6 +14,7 @@ use Rattle.postings.proofs.Sums.{sum-append, sum-under}
 use Rattle.postings.proofs.Trips.{posting-window}
 use Rattle.state.specs.declared.State.{State}
 use Rattle.state.specs.Views.{buffered, finished}
+use Rattle.state.specs.Shown.{shows, shown}
 use Rattle.partitions.specs.Reading.{postingsOf, inPartitions, stored}
 use Rattle.partitions.specs.Formed.{listRule, sumsInRange, identifierFormed}
 use Rattle.kway.specs.Parts.{part, parts}
@@ -126,6 +127,10 @@ module _ (W R : List ℕ) (s : State) (i : ℕ) (H : List ℕ) (opens : Opens W 
   abbrev gs : List Group
   gs = both W R (s .partitions .used) H
 
+  -- the open window's number
+  abbrev o : ℕ
+  o = s .windows .current
+
   -- the identifier's postings in the partitions, in the buffer, and in all
   abbrev inside : List Posting
   inside = under i (inPartitions W (finished (s .partitions)))
@@ -215,18 +220,24 @@ module _ (W R : List ℕ) (s : State) (i : ℕ) (H : List ℕ) (opens : Opens W 
     unfolding AllOf view
     none-at-zero = (zero-lists W R 65536 hs lists-fall, (rw (zero-words 65536 (coming W R last) run-falls), tt))
 
-    pub risen-same : frequency (stored W s) i ≡ risen gs
-    unfolding frequency risen
-    risen-same = over-down (λ w. isAbove (sum (stored W s) i w)) (λ w. map (sums w) gs) (λ w. ap isAbove (total-same w)) (ap isAbove (total-same 0 ∙ total-none (map (sums 0) gs) none-at-zero)) 65535
+    pub risen-same : frequency (shown (s .windows)) (stored W s) i ≡ risen o gs
+    unfolding frequency shown risen
+    risen-same =
+        ap length (sym (keep-both (λ w. isAbove (sum (stored W s) i w)) (shows o) counts (λ w. refl) (down 65535)))
+        ∙ over-down o counts (λ w. map (sums w) gs) (λ w. ap (λ (z : ℤ). isAbove z && shows o w) (total-same w))
+        (ap (λ (z : ℤ). isAbove z && shows o 0) (total-same 0 ∙ total-none (map (sums 0) gs) none-at-zero)) 65535
+      where
+        counts : ℕ → Bool
+        counts w = isAbove (sum (stored W s) i w) && shows o w
 
 -- ---- at most 65,535 windows count
 
-few-windows : (S : ℕ → List ℤ) → AllOf Zero (S 0) → (n : ℕ) → overKeys countAbove 0 (suc n) S ≤ n
+few-windows : (o : ℕ) (S : ℕ → List ℤ) → AllOf Zero (S 0) → (n : ℕ) → overKeys (countAbove o) 0 (suc n) S ≤ n
 unfolding overKeys
-few-windows S z zero = rw (total-none (S 0) z) (omega arith)
-few-windows S z (suc n) = let h = few-windows S z n in by-test (isAbove (totalZ (S (suc n)))) (λ y. rw y (omega arith)) (λ y. rw y (omega arith))
+few-windows o S z zero = rw (total-none (S 0) z) (omega arith)
+few-windows o S z (suc n) = let h = few-windows o S z n in by-test (isAbove (totalZ (S (suc n))) && shows o (suc n)) (λ y. rw y (omega arith)) (λ y. rw y (omega arith))
 
 -- so F fits
-pub risen-few : (gs : List Group) → AllOf Zero (map (sums 0) gs) → risen gs ≤ 65535
+pub risen-few : (o : ℕ) (gs : List Group) → AllOf Zero (map (sums 0) gs) → risen o gs ≤ 65535
 unfolding risen
-risen-few gs z = few-windows (λ w. map (sums w) gs) z 65535
+risen-few o gs z = few-windows o (λ w. map (sums w) gs) z 65535

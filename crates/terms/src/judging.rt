@@ -1,4 +1,5 @@
 // Judging an identifier's lists: one k-way merge over its lists on the card and its part of the run.
+ghost use mathlib.Core.Bool.{_&&_};
 ghost use mathlib.Core.Path.{_≡_};
 ghost use mathlib.Core.List.{map};
 ghost use Prim.Native.Nat.{_+_, _*_, _≤_, _<_};
@@ -7,13 +8,14 @@ ghost use Rattle.keyed.specs.Keys.{headVals};
 ghost use Rattle.keyed.specs.Groups.{topAll, moveAll};
 ghost use Rattle.words.specs.Words.{words as wordsOf};
 ghost use Rattle.postings.specs.Sums.{isAbove};
+ghost use Rattle.state.specs.Shown.{shows};
 ghost use Rattle.terms.specs.Judged.{totalZ, fineAt, toldOf};
 ghost use Rattle.heads.specs.Heads.{views};
 ghost use Rattle.heads.specs.Leads.{Leads};
 ghost use Rattle.terms.specs.Both.{Ready, both as bothOf};
 
-// What is taken under a window: whether it is well formed with sums in range, whether it counts, one more than the greatest window to come, and the
-// list on the card that leads.
+// What is taken under a window: whether it is well formed with sums in range, whether it shows and counts, one more than the greatest window to come, and
+// the list on the card that leads.
 struct Judged {
     pub fine: bool,
     pub counts: bool,
@@ -22,13 +24,13 @@ struct Judged {
     pub others: u32,
 }
 
-// In how many windows the sum is above 0.
+// In how many windows that show the sum is above 0.
 pub enum Told {
     Malformed,
     Windows(u32),
 }
 
-// Takes the heads that have the key. The sum is judged without the run and with it.
+// Takes the heads that have the key. The sum is judged without the run and with it, that of the open window too, which does not count.
 fn judge_window(
     card: &[u8],
     run: &[u32],
@@ -37,6 +39,7 @@ fn judge_window(
     lead: u32,
     others: u32,
     key: u32,
+    current: u32,
 ) -> Judged
     requires { ⌜ (length (now heads) ≡ 4 * n + 4) × (n ≤ 51) × (key < 4294967295) × Ready (wordsOf (now card)) (now run) n (now heads)
         × Leads (views (wordsOf (now card)) (now run) n (now heads)) lead others ⌝ }
@@ -45,7 +48,7 @@ fn judge_window(
         × (bothOf (wordsOf (now (card .entry))) (now (run .entry)) n (now (heads .exit))
         ≡ moveAll key (bothOf (wordsOf (now (card .entry))) (now (run .entry)) n (now (heads .entry)))) ⌝ }
     ensures judged { λ r. ⌜ (r .fine ≡ fineAt key (bothOf (wordsOf (now (card .entry))) (now (run .entry)) n (now (heads .entry))))
-        × (r .counts ≡ isAbove (totalZ (map (headVals key) (bothOf (wordsOf (now (card .entry))) (now (run .entry)) n (now (heads .entry))))))
+        × (r .counts ≡ (isAbove (totalZ (map (headVals key) (bothOf (wordsOf (now (card .entry))) (now (run .entry)) n (now (heads .entry))))) && shows current key))
         × (r .next ≡ topAll 0 (bothOf (wordsOf (now (card .entry))) (now (run .entry)) n (now (heads .exit)))) ⌝ }
     ensures lead { λ r. ⌜ Leads (views (wordsOf (now (card .entry))) (now (run .entry)) n (now (heads .exit))) (r .at) (r .others) ⌝ }
 {
@@ -57,7 +60,7 @@ fn judge_window(
     let total = kway::added(sum, q.count);
     let ranges = kway::in_range(sum) & kway::in_range(total);
     let fine = (t.fine & q.fine) & ranges;
-    let counts = kway::above(total);
+    let counts = kway::above(total) & (key != current);
     let next = kway::larger(t.next, q.reach);
     Judged {
         fine: fine,
@@ -68,10 +71,10 @@ fn judge_window(
     }
 }
 
-// The whole merge, by falling window. No list may reach a window that was passed. The heads are spent by it.
-pub fn judge(card: &[u8], run: &[u32], heads: &mut [u32], n: usize) -> Told
+// The whole merge, by falling window, where `current` is the open window's number, or 0. No list may reach a window that was passed. The heads are spent by it.
+pub fn judge(card: &[u8], run: &[u32], heads: &mut [u32], n: usize, current: u32) -> Told
     requires { ⌜ (length (now heads) ≡ 4 * n + 4) × (n ≤ 51) × Ready (wordsOf (now card)) (now run) n (now heads) ⌝ }
-    ensures { λ r. ⌜ r ≡ toldOf (bothOf (wordsOf (now (card .entry))) (now (run .entry)) n (now (heads .entry))) ⌝ }
+    ensures { λ r. ⌜ r ≡ toldOf current (bothOf (wordsOf (now (card .entry))) (now (run .entry)) n (now (heads .entry))) ⌝ }
 {
     let l = heads::leading::leader(card, run, heads, n);
     let mut top = kway::larger(l.top, heads[4 * n]);
@@ -84,7 +87,7 @@ pub fn judge(card: &[u8], run: &[u32], heads: &mut [u32], n: usize) -> Told
             return Told::Malformed;
         }
         let w = top - 1;
-        let t = judge_window(card, run, heads, n, at, others, w);
+        let t = judge_window(card, run, heads, n, at, others, w, current);
         let fine = t.fine;
         if !fine {
             return Told::Malformed;

@@ -46,11 +46,11 @@ openOf s =
 
 -- ---- close
 
--- no window is open; one without events gives its number back
+-- no window is open; one with events is counted in N from here on, and one without gives its number back
 unfoldable pub closed : State → State
 closed s =
     withListed
-    (withWindows s (record { last = cond (eqb (s .windows .events) 0) (s .windows .last - 1) (s .windows .last); live = s .windows .live; current = 0; events = 0 }))
+    (withWindows s (record { last = cond (eqb (s .windows .events) 0) (s .windows .last - 1) (s .windows .last); live = cond (eqb (s .windows .events) 0) (s .windows .live) (suc (s .windows .live)); current = 0; events = 0 }))
     (listedOf [])
 
 unfoldable pub closeOf : State → Outcome State

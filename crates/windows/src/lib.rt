@@ -179,7 +179,7 @@ pub fn open(s: State) -> Opening
     }
 }
 
-// No window is open; one without events gives its number back.
+// No window is open; one with events is counted in N from here on, and one without gives its number back.
 pub fn close(s: State) -> Replied
     ensures { λ r. ⌜ Closes s r ⌝ }
 {
@@ -189,10 +189,12 @@ pub fn close(s: State) -> Replied
     if s.windows.current == 0 {
         return refuse(s, Refusal::OutOfTurn);
     }
-    let live = s.windows.live;
     let mut last = s.windows.last;
+    let mut live = s.windows.live;
     if s.windows.events == 0 {
         last -= 1;
+    } else {
+        live += 1;
     }
     let w = Windows {
         last: last,

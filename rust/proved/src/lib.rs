@@ -125,7 +125,7 @@ pub fn open(image: &mut [u8]) -> Result<u32, u32> {
     }
 }
 
-/// Closes the open window.
+/// Closes the open window, which queries find from then on.
 pub fn close(image: &mut [u8]) -> Result<(), u32> {
     // Sound: the pointer and the length are those of one slice lent for writing.
     done(unsafe { exported::gemsilver_close(image.as_mut_ptr(), image.len()) })
@@ -194,7 +194,7 @@ pub fn step(image: &mut [u8], card: &mut [u8]) -> Result<(), u32> {
     })
 }
 
-/// Fills the list, of [`HIT`] bytes a place, with the windows that score highest on the identifiers.
+/// Fills the list, of [`HIT`] bytes a place, with the closed windows that score highest on the identifiers.
 pub fn query(
     image: &[u8],
     card: &[u8],

@@ -60,14 +60,13 @@ fn arrays_have_their_one_form(state: &State) -> bool {
         && state.partitions == Partitions::from_list(&state.partitions.to_list())
 }
 
-/// The open window has the last number and counts in N from its first event.
+/// The open window has the last number. N counts closed windows alone, so that
+/// the open one's number is above it.
 fn windows_agree(windows: &Windows) -> bool {
     let open_agrees = if windows.open == 0 {
         windows.events == 0
-    } else if windows.events == 0 {
-        windows.open == windows.last && windows.live < windows.open
     } else {
-        windows.open == windows.last && windows.live >= 1 && windows.events <= COUNT
+        windows.open == windows.last && windows.live < windows.open && windows.events <= COUNT
     };
     open_agrees && windows.live <= windows.last
 }

@@ -19,7 +19,7 @@ pub struct Lengths {
 pub struct Windows {
     /// The last number given.
     pub last: u16,
-    /// N: how many windows exist.
+    /// N: how many closed windows are live.
     pub live: u16,
     /// The open window, or 0 for none.
     pub open: u16,

@@ -8,7 +8,7 @@ pub fn count_weight(count: u16) -> u32 {
     (u128::from(count) + 1).pow(4).ilog2()
 }
 
-/// The weight of an identifier that `with` of `live` windows contain.
+/// The weight of an identifier that `with` of `live` closed windows contain.
 ///
 /// It is 0 where no window contains it, or more than there are: only a foreign
 /// card can say that.

@@ -37,34 +37,38 @@ returns-3 c =
 
 cast-walk-2 : tie.Need-cast-walk-2
 cast-walk-2 c =
-    let s = c .before .before .before .before .before .before .before .before .before .before .before .before .before .before .before .before .before .before .before .before in
+    let s = c .before .before .before .before .before .before .before .before .before .before .before .before .before .before .before .before .before .before .before .before .before in
     let a = s .args in
     let ns = map now (a .ids .now) in
-    let g = c .before .before .before .before .before .before .before .before .before .before .before .before .gather in
+    let g = c .before .before .before .before .before .before .before .before .before .before .before .before .before .gather in
     let H = g .last .1 .1 .1 .1 .1 .0 in
-    let e : badQuery (a .places) ns ≡ false = sym (c .before .before .before .before .bad-query .ensures) ∙ c .before .before .before .if3 .left in
+    let e : badQuery (a .places) ns ≡ false = sym (c .before .before .before .before .before .bad-query .ensures) ∙ c .before .before .before .before .if3 .left in
     omega (arith, proper (a .places) ns e .most)
 
 walk-requires : tie.Need-walk-requires
 walk-requires c κs =
-    let s = c .before .before .before .before .before .before .before .before .before .before .before .before .before .before .before .before .before .before .before .before in
+    let s = c .before .before .before .before .before .before .before .before .before .before .before .before .before .before .before .before .before .before .before .before .before in
     let a = s .args in
     let ns = map now (a .ids .now) in
-    let g = c .before .before .before .before .before .before .before .before .before .before .before .before .gather in
+    let g = c .before .before .before .before .before .before .before .before .before .before .before .before .before .gather in
     let H = g .last .1 .1 .1 .1 .1 .0 in
-    let e : badQuery (a .places) ns ≡ false = sym (c .before .before .before .before .bad-query .ensures) ∙ c .before .before .before .if3 .left in
+    let e : badQuery (a .places) ns ≡ false = sym (c .before .before .before .before .before .bad-query .ensures) ∙ c .before .before .before .before .if3 .left in
     let q = proper (a .places) ns e in
-    (terms-walkable (a .s) (a .card .now) (a .register .now) (s .pre .0) ns (a .places) (a .run .now) H (g .result) (g .ensures) (not-false _ (c .before .before .before .before .before .before .before .if1 .left)) (sym (c .before .before .before .before .before .before .any-bad .ensures) ∙ c .before .before .before .before .before .if2 .left) e (length (a .spare .now)) (rw (c .before .before .before .before .before .before .before .before .before .before .before .heads .given) (s .pre .1)), q .some, q .most)
+    (terms-walkable (a .s) (a .card .now) (a .register .now) (s .pre .0) ns (a .places) (a .run .now) H (g .result) (g .ensures) (not-false _ (c .before .before .before .before .before .before .before .before .if1 .left)) (sym (c .before .before .before .before .before .before .before .any-bad .ensures) ∙ c .before .before .before .before .before .before .if2 .left) e (length (a .spare .now)) (rw (c .before .before .before .before .before .before .before .before .before .before .before .before .heads .given) (s .pre .1)), q .some, q .most)
+
+-- the heads after the walk
+same-length-7 : tie.Need-same-length-7
+same-length-7 c = let h = c .before .heads2 .given in let g = c .before .before .before .before .before .before .before .before .before .before .before .before .before .before .before .heads .given in search needs
 
 returns-4 : tie.Need-returns-4
 returns-4 c =
-    let s = c .before .before .before .before .before .before .before .before .before .before .before .before .before .before .before .before .before .before .before .before .before .before .before in
+    let s = c .before .before .before .before .before .before .before .before .before .before .before .before .before .before .before .before .before .before .before .before .before .before .before .before in
     let a = s .args in
     let ns = map now (a .ids .now) in
-    let g = c .before .before .before .before .before .before .before .before .before .before .before .before .before .before .before .gather in
+    let g = c .before .before .before .before .before .before .before .before .before .before .before .before .before .before .before .before .gather in
     let H = g .last .1 .1 .1 .1 .1 .0 in
-    let e : badQuery (a .places) ns ≡ false = sym (c .before .before .before .before .before .before .before .bad-query .ensures) ∙ c .before .before .before .before .before .before .if3 .left in
-    finds-walked (a .s) (a .card .now) (a .register .now) (s .pre .0) ns (a .places) (a .run .now) H (g .result) (g .ensures) (not-false _ (c .before .before .before .before .before .before .before .before .before .before .if1 .left)) (sym (c .before .before .before .before .before .before .before .before .before .any-bad .ensures) ∙ c .before .before .before .before .before .before .before .before .if2 .left) e (c .before .before .walk .result) (c .before .before .walk .ensures)
+    let e : badQuery (a .places) ns ≡ false = sym (c .before .before .before .before .before .before .before .before .bad-query .ensures) ∙ c .before .before .before .before .before .before .before .if3 .left in
+    finds-walked (a .s) (a .card .now) (a .register .now) (s .pre .0) ns (a .places) (a .run .now) H (g .result) (g .ensures) (not-false _ (c .before .before .before .before .before .before .before .before .before .before .before .if1 .left)) (sym (c .before .before .before .before .before .before .before .before .before .before .any-bad .ensures) ∙ c .before .before .before .before .before .before .before .before .before .if2 .left) e (c .before .before .walk .result) (c .before .before .walk .ensures)
 
 pub search-with-spec : {M : Type 1} → statement M
 search-with-spec =
@@ -88,8 +92,9 @@ search-with-spec =
     (λ c. search needs)
     (λ c. search needs)
     (λ c. search needs)
+    (λ c. search needs)
     cast-walk-2
     walk-requires
-    (λ c. search needs)
+    same-length-7
     (λ c. search needs)
     returns-4)

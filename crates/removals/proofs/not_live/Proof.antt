@@ -5,4 +5,4 @@ use Rattle.removals.proofs.not_live.Tie as tie
 pub not-live-spec : {M : Type 1} → statement M
 not-live-spec =
     tie.close
-    (tie.spec (λ c κs. search needs) (λ c. search needs) (λ c κs. search needs) (λ c. rw (c .before .before .before .is-live .ensures, c .before .open-counted .ensures)))
+    (tie.spec (λ c κs. search needs) (λ c. search needs) (λ c. rw (c .before .before .is-live .ensures)))

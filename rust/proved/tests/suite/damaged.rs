@@ -51,6 +51,7 @@ fn both_engines_bear_damage_alike() {
     }
     tally.print("damaged");
     expect_all(&tally, 10);
+    tally.expect_left_out(100);
 }
 
 /// Probes that keep the rules but were never made by calls, and such probes damaged.
@@ -82,6 +83,7 @@ fn both_engines_take_foreign_probes_alike() {
     tally.expect("event", &[6, 9, 10, 11, 12], 20);
     tally.expect("flush", &[10, 11, 12], 20);
     tally.expect("remove", &[10, 11, 12], 10);
+    tally.expect_left_out(100);
 }
 
 /// Partitions to be merged into one of at most two blocks, some beside an older one and a newer one.

@@ -130,6 +130,7 @@ fn both_engines_go_through_histories_alike() {
     tally.expect("remove", &[10, 11], 20);
     tally.expect("step", &[0, 13], 1_000);
     tally.expect("query", &[0, 4, 14], 100);
+    tally.expect_left_out(100);
 }
 
 /// Short histories on cards of 4 to 64 blocks and registers of 1 to 1,024 entries.

@@ -1,5 +1,6 @@
 //! The proved engine held against the second one.
 
+mod closing;
 mod damage;
 mod damaged;
 mod engines;

@@ -3,6 +3,7 @@
 use crate::engines::{Answer, Call, Probe, proved, second};
 use crate::tally::Tally;
 use second::image;
+use second::state::State;
 
 const BLOCK: usize = 4_096;
 
@@ -48,6 +49,9 @@ impl Pair {
         assert!(found == expected, "hits: {call:?}");
         same(&self.proved, &self.second, call);
         tally.record(call.name(), answer.err());
+        if matches!(call, Call::Query(..)) && answer.is_ok() && leaves_out(&self.before, call) {
+            tally.leave_out();
+        }
         // A start refused for a length leaves a state of zeros.
         if answer.is_ok() || matches!(call, Call::Start) {
             self.remember();
@@ -69,6 +73,28 @@ impl Pair {
             }
         }
     }
+}
+
+/// Whether a query leaves out counts of the open window that lie in partitions: with no window open, the same card gives other hits.
+fn leaves_out(probe: &Probe, call: &Call) -> bool {
+    let mut state = image::read(&probe.image).expect("the query was answered");
+    if state.windows.open == 0 {
+        return false;
+    }
+    let ask = |state: &State| {
+        let mut hits = call.list();
+        let mut probe = Probe {
+            image: image::write(state),
+            ..probe.clone()
+        };
+        second(&mut probe, call, &mut hits).map(|answer| (answer, hits))
+    };
+    state.buffer = Default::default();
+    let open = ask(&state);
+    state.windows.open = 0;
+    state.windows.events = 0;
+    state.listed = Default::default();
+    open != ask(&state)
 }
 
 /// Compares all bytes.

@@ -182,15 +182,11 @@ fn windows(mix: &Mix, rng: &mut Rng) -> Windows {
         1 => (last, 0),
         _ => (last, rng.pick(&[1, 2, 50, 32_766, 32_767])),
     };
-    let least = u16::from(events > 0);
-    let most = if open > 0 && events == 0 {
-        last - 1
-    } else {
-        last
-    };
+    // N counts closed windows alone.
+    let most = if open > 0 { last - 1 } else { last };
     Windows {
         last,
-        live: (least + rng.below(12) as u16).min(most),
+        live: (rng.below(12) as u16).min(most),
         open,
         events,
     }

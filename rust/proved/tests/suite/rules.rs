@@ -67,8 +67,9 @@ fn both_engines_judge_every_number_alike() {
         ];
         for place in 0..614 {
             let old = word(&base, place);
-            let near = [old.wrapping_sub(1), old.wrapping_add(1), last, last + 1];
-            for value in values.into_iter().chain(near) {
+            let around = [last.wrapping_sub(1), last, last + 1];
+            let near = [old.wrapping_sub(1), old.wrapping_add(1)];
+            for value in values.into_iter().chain(near).chain(around) {
                 let mut image = base.clone();
                 put(&mut image, place, value);
                 judge(&image, &mut tally);

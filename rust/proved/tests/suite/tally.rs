@@ -6,11 +6,18 @@ use std::collections::BTreeMap;
 pub struct Tally {
     /// By call and refusal; 0 for a call that was done.
     counts: BTreeMap<(&'static str, u32), usize>,
+    /// Queries that left out counts of the open window in partitions.
+    left_out: usize,
 }
 
 impl Tally {
     pub fn record(&mut self, call: &'static str, refusal: Option<u32>) {
         *self.counts.entry((call, refusal.unwrap_or(0))).or_default() += 1;
+    }
+
+    /// Notes a query that left out counts of the open window in partitions.
+    pub fn leave_out(&mut self) {
+        self.left_out += 1;
     }
 
     /// Prints what was compared, a line a call and one for all.
@@ -29,6 +36,12 @@ impl Tally {
         for (call, (count, line)) in calls {
             println!("  {call:6} {count:7}:{line}");
         }
+        if self.left_out > 0 {
+            println!(
+                "  queries past an open window on the card: {}",
+                self.left_out
+            );
+        }
     }
 
     /// Each of these refusals of a call, and the call done (0), must have been met so many times.
@@ -37,5 +50,11 @@ impl Tally {
             let met = self.counts.get(&(call, refusal)).copied().unwrap_or(0);
             assert!(met >= times, "{call} with {refusal}: met {met} times");
         }
+    }
+
+    /// So many queries must have left out counts of the open window in partitions.
+    pub fn expect_left_out(&self, times: usize) {
+        let met = self.left_out;
+        assert!(met >= times, "queries past an open window: met {met} times");
     }
 }

@@ -36,7 +36,7 @@ pub fn event(
     enter(register, id, identifier);
     state.listed = Listed::from_list(&listed);
     count_in_buffer(state, id);
-    count_in_window(state);
+    state.windows.events += 1;
     Ok(())
 }
 
@@ -78,12 +78,4 @@ fn count_in_buffer(state: &mut State, id: u16) {
     add(&mut sums, &state.buffer.to_list());
     add(&mut sums, &[one]);
     state.buffer = Buffer::from_list(&nonzero(&sums));
-}
-
-/// The first event brings the window into being.
-fn count_in_window(state: &mut State) {
-    if state.windows.events == 0 {
-        state.windows.live += 1;
-    }
-    state.windows.events += 1;
 }

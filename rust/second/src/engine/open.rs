@@ -4,7 +4,7 @@ use crate::refusal::Refusal;
 use crate::rules::check_state;
 use crate::state::State;
 
-/// Opens a window and answers its number. It exists from its first event.
+/// Opens a window and answers its number. No query finds it before its close.
 pub fn open(state: &mut State) -> Result<u16, Refusal> {
     check_state(state)?;
     if state.windows.open != 0 {

@@ -1,4 +1,4 @@
-//! Rank the windows for a few identifiers.
+//! Rank the closed windows for a few identifiers.
 
 use crate::limits::{HITS, QUERY_IDENTIFIERS};
 use crate::partition::{Stored, read_all};
@@ -6,7 +6,7 @@ use crate::postings::{Sums, add, are_counts};
 use crate::refusal::Refusal;
 use crate::register::{all_differ, is_identifier, number_of, read};
 use crate::rules::{check_card, check_register, check_state};
-use crate::state::{Hit, Posting, State};
+use crate::state::{Hit, Posting, State, Windows};
 use crate::weights::{count_weight, rarity_weight};
 use std::cmp::Reverse;
 use std::collections::{BTreeMap, BTreeSet};
@@ -20,7 +20,8 @@ pub struct Found {
     pub taken: u32,
 }
 
-/// Fills the list with the windows that score highest on the identifiers.
+/// Fills the list with the closed windows that score highest on the identifiers.
+/// Postings taken are all that are stored, the open window's too.
 pub fn query(
     state: &State,
     card: &[u8],
@@ -43,7 +44,7 @@ pub fn query(
     if !is_query(ids, hits) {
         return Err(Refusal::BadQuery);
     }
-    let ranked = ranked(&scores(state.windows.live, &sums));
+    let ranked = ranked(&scores(&state.windows, sums));
     let listed = ranked.len().min(hits.len());
     hits[..listed].copy_from_slice(&ranked[..listed]);
     Ok(Found {
@@ -86,17 +87,18 @@ fn sums_of(on_card: &[Posting], buffered: &[Posting]) -> Option<Sums> {
     are_counts(&sums).then_some(sums)
 }
 
-/// The score of each window with a count above 0.
-fn scores(live: u16, sums: &Sums) -> BTreeMap<u16, u32> {
-    let positive = || sums.iter().filter(|&(_, &sum)| sum > 0);
+/// The score of each closed window with a count above 0. Every window but the
+/// open one is closed, even above the last number given.
+fn scores(windows: &Windows, mut sums: Sums) -> BTreeMap<u16, u32> {
+    sums.retain(|&(_, Reverse(window)), &mut sum| window != windows.open && sum > 0);
     // A window counts one time for an identifier, however many partitions hold it.
     let mut windows_with: BTreeMap<u16, u16> = BTreeMap::new();
-    for (&(id, _), _) in positive() {
+    for &(id, _) in sums.keys() {
         *windows_with.entry(id).or_insert(0) += 1;
     }
     let mut scores = BTreeMap::new();
-    for (&(id, Reverse(window)), &count) in positive() {
-        let weight = count_weight(count as u16) * rarity_weight(live, windows_with[&id]);
+    for (&(id, Reverse(window)), &count) in &sums {
+        let weight = count_weight(count as u16) * rarity_weight(windows.live, windows_with[&id]);
         *scores.entry(window).or_insert(0) += weight;
     }
     scores

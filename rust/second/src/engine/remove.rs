@@ -6,7 +6,7 @@ use crate::partition::{Stored, read_all};
 use crate::postings::{Sums, add, are_counts, nonzero};
 use crate::refusal::Refusal;
 use crate::rules::{check_card, check_state};
-use crate::state::{Buffer, Posting, State, Windows};
+use crate::state::{Buffer, Posting, State};
 
 /// Takes out a closed window: each of its counts is buffered negated.
 pub fn remove(state: &mut State, card: &mut [u8], window: u32) -> Result<(), Refusal> {
@@ -18,7 +18,7 @@ pub fn remove(state: &mut State, card: &mut [u8], window: u32) -> Result<(), Ref
         return Err(Refusal::WrongWindow);
     }
     let is_live = counts.iter().any(|posting| posting.count > 0);
-    if !is_live || window > u32::from(state.windows.last) || closed_windows(&state.windows) == 0 {
+    if !is_live || window > u32::from(state.windows.last) || state.windows.live == 0 {
         return Err(Refusal::NotLive);
     }
     if usize::from(state.buffer.used) + counts.len() > BUFFER {
@@ -49,15 +49,6 @@ fn counts_of(state: &State, stored: &[Stored], window: u32) -> Option<Vec<Postin
     }
     let counts = nonzero(&sums);
     (counts.len() <= WINDOW_IDENTIFIERS).then_some(counts)
-}
-
-/// How many windows exist beside the open one.
-fn closed_windows(windows: &Windows) -> u16 {
-    if windows.events > 0 {
-        windows.live - 1
-    } else {
-        windows.live
-    }
 }
 
 /// Buffers the counts negated. What remains of a pair in the buffer is its sum

@@ -1,6 +1,7 @@
 //! What the calls must answer, kept without bytes.
 //!
-//! The ledger has the counts of every live window, and answers from them alone.
+//! The ledger has the counts of every live window, and answers queries from
+//! those of the closed ones alone: the open one shows from its close.
 //! Beside it runs an account of the card: how many postings lie where, which
 //! decides when there is no room and what a query takes up. Neither uses any
 //! code or type of the engine, so that an error is not made twice.
@@ -25,7 +26,7 @@ pub struct Reply {
 /// The live windows and what the calls have done to them.
 #[derive(Clone, PartialEq, Eq, Debug)]
 pub struct Ledger {
-    /// The counts of each window that exists, by identifier.
+    /// The counts of each window that exists, by identifier; the open one is among them.
     pub live: BTreeMap<u32, BTreeMap<Vec<u8>, u32>>,
     /// The last window number given.
     pub last: u32,
@@ -101,7 +102,7 @@ impl Ledger {
         Ok(())
     }
 
-    /// Closes the open window.
+    /// Closes the open window, which shows from then on.
     pub fn close(&mut self) -> Answer<()> {
         let window = self.open.ok_or(5)?;
         if !self.live.contains_key(&window) {
@@ -142,7 +143,7 @@ impl Ledger {
         self.account.step()
     }
 
-    /// The best windows for the identifiers, at most so many.
+    /// The best closed windows for the identifiers, at most so many.
     pub fn query(&self, ids: &[&[u8]], places: usize) -> Answer<Reply> {
         if !ids.iter().all(|id| is_identifier(id)) {
             return Err(4);
@@ -170,19 +171,26 @@ impl Ledger {
         counts.map_or(0, |counts| counts.values().sum())
     }
 
+    /// The windows that show, with their counts. N is how many they are.
+    pub fn closed(&self) -> impl Iterator<Item = (&u32, &BTreeMap<Vec<u8>, u32>)> {
+        let windows = self.live.iter();
+        windows.filter(|&(&window, _)| self.open != Some(window))
+    }
+
     /// An identifier's number.
     pub fn number(&self, identifier: &[u8]) -> Option<usize> {
         self.known.iter().position(|known| known == identifier)
     }
 
-    /// Every window with one of the identifiers, and its score.
+    /// Every closed window with one of the identifiers, and its score.
     fn scores(&self, ids: &[&[u8]]) -> Vec<(u32, u32)> {
+        let closed = self.closed().count() as u128;
         let rarities: Vec<u32> = ids
             .iter()
-            .map(|&id| rarity_weight(self.live.len() as u128, self.windows_with(id)))
+            .map(|&id| rarity_weight(closed, self.windows_with(id)))
             .collect();
         let mut scores = Vec::new();
-        for (&window, counts) in &self.live {
+        for (&window, counts) in self.closed() {
             let found = ids.iter().zip(&rarities);
             let products: Vec<u32> = found
                 .filter_map(|(&id, rarity)| Some(count_weight(*counts.get(id)?) * rarity))
@@ -195,7 +203,7 @@ impl Ledger {
     }
 
     fn windows_with(&self, id: &[u8]) -> u128 {
-        let with = self.live.values().filter(|counts| counts.contains_key(id));
+        let with = self.closed().filter(|(_, counts)| counts.contains_key(id));
         with.count() as u128
     }
 }

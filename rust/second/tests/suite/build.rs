@@ -35,7 +35,7 @@ pub fn state_of(ledger: &Ledger) -> State {
         },
         windows: Windows {
             last: ledger.last as u16,
-            live: ledger.live.len() as u16,
+            live: ledger.closed().count() as u16,
             open: ledger.open.unwrap_or(0) as u16,
             events: ledger.events() as u16,
         },

@@ -73,10 +73,66 @@ fn more_windows_than_there_are_weigh_nothing() {
             hits.map(|hit| hit.score),
         )
     };
-    // The open window has A as well.
-    assert_eq!(ask(3, &mut probe), (Ok((4, 4)), [0; 4]));
-    assert_eq!(ask(4, &mut probe), (Ok((4, 4)), [0; 4]));
-    assert_eq!(ask(8, &mut probe), (Ok((4, 4)), [16; 4]));
+    // The open window has A as well, which is taken up and no more.
+    assert_eq!(ask(2, &mut probe), (Ok((3, 4)), [0; 4]));
+    assert_eq!(ask(3, &mut probe), (Ok((3, 4)), [0; 4]));
+    assert_eq!(ask(6, &mut probe), (Ok((3, 4)), [16, 16, 16, 0]));
+}
+
+/// The windows and scores of A, and the postings taken.
+fn hits_of_a(probe: &Probe) -> (Vec<(u16, u32)>, u32) {
+    let mut hits = [Hit::default(); 8];
+    let (card, register) = (&probe.card, &probe.register);
+    let found = engine::query(&probe.state, card, register, &[b"A"], &mut hits);
+    let found = found.expect("a query");
+    let listed = hits[..usize::from(found.hits)].iter();
+    let listed = listed.map(|hit| (hit.window, hit.score));
+    (listed.collect(), found.taken)
+}
+
+/// Every window but the open one is closed, those above it too.
+#[test]
+fn windows_above_the_last_number_show_and_the_open_one_does_not() {
+    let mut probe = card_of(vec![
+        part(0, vec![(0, 2001, 1), (0, 2000, 5)]),
+        part(0, vec![(0, 65_535, 3), (0, 2000, 5), (0, 1999, 7)]),
+    ]);
+    probe.state.windows.live = 6;
+    // Three windows of six weigh 4. The open one has two postings on the card and one buffered.
+    let closed = vec![(1999, 12 * 4), (65_535, 8 * 4), (2001, 4 * 4)];
+    assert_eq!(hits_of_a(&probe), (closed, 6));
+    // Its close brings its count of 11, and four windows of seven weigh 3.
+    make(&mut probe, &Call::Close).unwrap();
+    let scores = [(2000, 14), (1999, 12), (65_535, 8), (2001, 4)];
+    let all = scores.map(|(window, weight)| (window, weight * 3)).to_vec();
+    assert_eq!(hits_of_a(&probe), (all, 6));
+}
+
+/// An open window without events gives its number back at its close, and what
+/// the card has of it then shows as any other window above the last number.
+#[test]
+fn an_open_window_without_events_may_have_counts_on_the_card() {
+    let mut probe = card_of(vec![part(0, vec![(0, 2000, 5), (0, 1999, 7)])]);
+    probe.state.buffer = Default::default();
+    probe.state.windows.events = 0;
+    probe.state.windows.live = 2;
+    assert_eq!(hits_of_a(&probe), (vec![(1999, 12 * 4)], 2));
+    make(&mut probe, &Call::Close).unwrap();
+    let windows = probe.state.windows;
+    assert_eq!((windows.last, windows.live), (1999, 2));
+    assert_eq!(hits_of_a(&probe), (vec![(2000, 0), (1999, 0)], 2));
+}
+
+/// A sum of the open window that is no count is malformed all the same.
+#[test]
+fn sums_of_the_open_window_are_counts_too() {
+    let parts = |counts: [i64; 2]| counts.map(|count| part(0, vec![(0, 2000, count)])).to_vec();
+    // One more is buffered.
+    for (counts, expected) in [([32_766, -1], 0), ([32_766, 1], 3), ([32_767, 1], 3)] {
+        let probe = card_of(parts(counts));
+        assert_eq!(outcome(&probe, &query(&[b"A"])), expected, "{counts:?}");
+        assert_eq!(outcome(&probe, &query(&[b"B"])), 0);
+    }
 }
 
 /// A sum below 0 is no hit, adds nothing to a score and is no window with it.
@@ -109,12 +165,20 @@ fn removal_needs_a_live_closed_window() {
     for (window, expected) in cases {
         assert_eq!(outcome(&small_parts(3), &Call::Remove(window)), expected);
     }
-    // N counts the open window, which has an event, and no other.
+    // N counts none, though window 1 is live by its counts and the open one has an event.
     let mut probe = small_parts(3);
-    probe.state.windows.live = 1;
+    probe.state.windows.live = 0;
     assert_eq!(outcome(&probe, &Call::Remove(1)), 7);
+    assert_eq!(outcome(&probe, &Call::Remove(2000)), 5);
+    // N counts one closed window beside the open one, which it does not count.
+    probe.state.windows.live = 1;
+    make(&mut probe, &Call::Remove(1)).unwrap();
+    assert_eq!(probe.state.windows.live, 0);
+    assert_eq!(outcome(&probe, &Call::Remove(2)), 7);
+    // The close brings the open one.
     make(&mut probe, &Call::Close).unwrap();
-    assert_eq!(outcome(&probe, &Call::Remove(1)), 0);
+    assert_eq!(outcome(&probe, &Call::Remove(2)), 0);
+    assert_eq!(outcome(&probe, &Call::Remove(2000)), 0);
     assert_eq!(outcome(&probe, &Call::Remove(0)), 7);
     // A window above the last number given, with a count above 0.
     let probe = card_of(vec![part(0, vec![(0, 2001, 1)])]);

@@ -140,8 +140,9 @@ fn sweep(seed: u64) -> Twin {
 }
 
 /// What must have been seen, or a test would be empty.
-const SIGHTS: [&str; 17] = [
+const SIGHTS: [&str; 20] = [
     "blocks taken round the end",
+    "closes that change an answer",
     "empty results after several steps",
     "flushes during a merge",
     "flushes inside events",
@@ -158,6 +159,8 @@ const SIGHTS: [&str; 17] = [
     "queries during a merge",
     "queries of a window split over three partitions",
     "queries of a window that skips a partition",
+    "queries of an open window in a merged partition",
+    "queries of an open window in a partition",
 ];
 
 #[test]

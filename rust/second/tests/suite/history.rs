@@ -77,12 +77,24 @@ pub fn act(twin: &mut Twin, rng: &mut Rng, plan: &Plan) -> bool {
     unreachable!("the weights have been added up")
 }
 
+/// Opens a window, or closes the open one between two queries of what it holds.
 fn turn(twin: &mut Twin, _: &mut Rng, _: &Plan) -> bool {
-    if twin.ledger.open.is_some() {
-        twin.close().is_ok()
-    } else {
-        twin.open().is_ok()
+    if twin.ledger.open.is_none() {
+        return twin.open().is_ok();
     }
+    let names = twin.ledger.listed.clone();
+    let ids: Vec<&[u8]> = names.iter().take(5).map(|name| &name[..]).collect();
+    if ids.is_empty() {
+        return twin.close().is_ok();
+    }
+    let before = twin.query(&ids, 32).expect("a query");
+    let is_closed = twin.close().is_ok();
+    let after = twin.query(&ids, 32).expect("a query");
+    assert_eq!(before.1, after.1, "a close moves no posting");
+    if before.0 != after.0 {
+        twin.tally.see("closes that change an answer");
+    }
+    is_closed
 }
 
 fn event(twin: &mut Twin, rng: &mut Rng, plan: &Plan) -> bool {

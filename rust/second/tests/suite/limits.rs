@@ -15,6 +15,7 @@ fn a_window_has_at_most_32767_events() {
     twin.close().unwrap();
     twin.open().unwrap();
     twin.event(b"B").unwrap();
+    twin.close().unwrap();
     // The largest count weighs 60, one window of two 4.
     assert_eq!(twin.query(&[b"A"], 1), Ok((vec![(1, 240)], 1)));
     twin.flush().unwrap();
@@ -37,8 +38,9 @@ fn a_largest_count_may_be_split() {
         twin.event(b"A").unwrap();
     }
     assert_eq!(twin.event(b"A"), Err(6));
-    assert_eq!(twin.query(&[b"A"], 1), Ok((vec![(1, 0)], 3)));
+    assert_eq!(twin.query(&[b"A"], 1), Ok((vec![], 3)));
     twin.close().unwrap();
+    assert_eq!(twin.query(&[b"A"], 1), Ok((vec![(1, 0)], 3)));
     twin.remove(1).unwrap();
     assert_eq!(twin.query(&[b"A"], 1), Ok((vec![], 3)));
 }

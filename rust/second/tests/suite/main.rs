@@ -3,6 +3,7 @@
 mod build;
 mod calls;
 mod capacity;
+mod closing;
 mod damage;
 mod foreign;
 mod histories;

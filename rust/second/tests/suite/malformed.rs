@@ -12,7 +12,7 @@ pub fn part(level: usize, entries: Vec<Entry>) -> Part {
 }
 
 /// A foreign card of 16 blocks with identifiers A, B, C and D, 2000 windows,
-/// 1500 of them live, and the last one open with one event.
+/// 1500 of them closed and live, and the last one open with one event.
 pub fn card_of(parts: Vec<Part>) -> Probe {
     let mut ledger = Ledger::new(16, 5);
     ledger.known = [b"A", b"B", b"C", b"D"].map(|id| id.to_vec()).to_vec();

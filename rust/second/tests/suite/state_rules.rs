@@ -74,7 +74,7 @@ fn shut(state: &mut State) {
     state.buffer = Default::default();
 }
 
-const BROKEN: [Change; 50] = [
+const BROKEN: [Change; 51] = [
     ("card of 3 blocks", |s| s.lengths.card = 3 * 4096),
     ("card of 4097 blocks", |s| s.lengths.card = 4097 * 4096),
     ("card of a part of a block", |s| s.lengths.card += 1),
@@ -89,7 +89,13 @@ const BROKEN: [Change; 50] = [
     ("open window below the last", |s| s.windows.last += 1),
     ("open window above the last", |s| s.windows.open += 1),
     ("N above the last", |s| s.windows.live = s.windows.last + 1),
-    ("events without N", |s| s.windows.live = 0),
+    ("N above the last, none open", |s| {
+        shut(s);
+        s.windows.live = s.windows.last + 1;
+    }),
+    ("N counts the open window", |s| {
+        s.windows.live = s.windows.last
+    }),
     ("events of no window", |s| {
         shut(s);
         s.windows.events = 1;
@@ -98,7 +104,7 @@ const BROKEN: [Change; 50] = [
         shut(s);
         s.listed.used = 1;
     }),
-    ("N counts a window without events", |s| {
+    ("N counts an open window without events", |s| {
         bare(s);
         s.windows.live += 1;
     }),
@@ -144,10 +150,7 @@ const BROKEN: [Change; 50] = [
     ("open count above events", |s| {
         s.buffer.postings[0].count = 4
     }),
-    ("open count without events", |s| {
-        s.windows.events = 0;
-        s.windows.live -= 1;
-    }),
+    ("open count without events", |s| s.windows.events = 0),
     ("52 partitions", |s| {
         records(s, [3, 8, 8, 8, 8, 16]);
         s.partitions.used = 52;
@@ -176,15 +179,26 @@ const BROKEN: [Change; 50] = [
     }),
 ];
 
-const KEPT: [Change; 24] = [
+const KEPT: [Change; 27] = [
     ("as it is", |_| ()),
     ("card of 4096 blocks", |s| s.lengths.card = 4096 * 4096),
     ("register of 1 entry", |s| s.lengths.register = 65),
     ("register of 1024 entries", |s| {
         s.lengths.register = 1024 * 65
     }),
-    ("N equal to the last", |s| s.windows.live = s.windows.last),
+    ("N equal to the last, none open", |s| {
+        shut(s);
+        s.windows.live = s.windows.last;
+    }),
+    ("N one below the open window", |s| {
+        s.windows.live = s.windows.last - 1
+    }),
     ("N of 1", |s| s.windows.live = 1),
+    ("N of 0 beside events", |s| s.windows.live = 0),
+    ("N of 0 beside a window without events", |s| {
+        bare(s);
+        s.windows.live = 0;
+    }),
     ("no window open", shut),
     ("open without events", bare),
     ("identifiers without events", |s| {

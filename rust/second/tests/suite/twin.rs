@@ -5,7 +5,7 @@ use crate::image::{BLOCK, FREE, check_card, walk};
 use crate::tally::Tally;
 use second::engine;
 use second::ledger::Ledger;
-use second::ledger::account::Due;
+use second::ledger::account::{Due, Entry, Part};
 use second::refusal::Refusal;
 use second::state::{Hit, MergeJob, Partition, State};
 use std::collections::{BTreeMap, BTreeSet};
@@ -301,6 +301,19 @@ impl Twin {
         let skips = |places: &Vec<usize>| places.windows(2).any(|pair| pair[1] > pair[0] + 1);
         if holders.values().any(skips) {
             self.tally.see("queries of a window that skips a partition");
+        }
+        let of_open = |entry: &Entry| self.ledger.open == Some(entry.1);
+        let holds_open = |part: &&Part| {
+            let mut entries = part.entries.iter();
+            entries.any(|entry| of_open(entry) && numbers.contains(&entry.0))
+        };
+        let holding: Vec<&Part> = account.parts.iter().filter(holds_open).collect();
+        if !holding.is_empty() {
+            self.tally.see("queries of an open window in a partition");
+        }
+        if holding.iter().any(|part| part.level > 0) {
+            self.tally
+                .see("queries of an open window in a merged partition");
         }
     }
 }

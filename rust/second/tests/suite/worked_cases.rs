@@ -121,8 +121,8 @@ fn a_window_split_by_a_flush_counts_once() {
     twin.event(b"DOOR").unwrap();
     twin.flush().unwrap();
     twin.event(b"DOOR").unwrap();
-    assert_eq!(twin.query(&[b"DOOR"], 3), Ok((vec![(1, 0)], 2)));
     twin.close().unwrap();
+    assert_eq!(twin.query(&[b"DOOR"], 3), Ok((vec![(1, 0)], 2)));
     window(&mut twin, &[(b"TILT", 1)]);
     // Count 3 weighs 8; one window of two weighs 4.
     assert_eq!(twin.query(&[b"DOOR"], 3), Ok((vec![(1, 32)], 2)));

@@ -17,29 +17,29 @@ open-heads-requires c κs =
 
 judge-requires : tie.Need-judge-requires
 judge-requires c κs =
-    let s = c .before .before .before .before .before .before .before .before .before in
-    let o = c .before .before .before .open-heads .ensures in
+    let s = c .before .before .before .before .before .before .before .before .before .before in
+    let o = c .before .before .before .before .open-heads .ensures in
     let k = state-kept (s .args .s) (s .pre .0) in
     (o .long, k .partitions .used, o .ready)
 
 returns : tie.Need-returns
 returns c =
-    let s = c .before .before .before .before .before .before .before .before .before .before .before .before .before .before in
-    let k = state-kept (s .args .s) (s .pre .0) in
-    let small = words-below (s .args .card .now) (λ j. omega (arith, c .before .before .before .before .before .before .before .before .before .before .before .before .before .shared-slice-known .given j)) in
-    let few : Below 4294967296 (s .args .run .now) = λ j. omega (arith, c .before .before .before .before .before .before .before .before .before .before .before .before .shared-slice-known2 .given j) in
-    let rules = rule-each (s .args .s .windows) (buffered (s .args .s .buffer)) (k .buffer .rules) in
-    let o = c .before .before .before .before .before .before .before .before .open-heads in
-    sym (judged-bad (words (s .args .card .now)) (s .args .run .now) (s .args .s) (s .args .id) (o .last .1 .1 .0) (o .ensures) small few (k .buffer .order) rules (sym (c .before .before .before .before .judge .ensures) ∙ c .enum-told .given .1))
-
-returns-2 : tie.Need-returns-2
-returns-2 c =
     let s = c .before .before .before .before .before .before .before .before .before .before .before .before .before .before .before in
     let k = state-kept (s .args .s) (s .pre .0) in
     let small = words-below (s .args .card .now) (λ j. omega (arith, c .before .before .before .before .before .before .before .before .before .before .before .before .before .before .shared-slice-known .given j)) in
     let few : Below 4294967296 (s .args .run .now) = λ j. omega (arith, c .before .before .before .before .before .before .before .before .before .before .before .before .before .shared-slice-known2 .given j) in
     let rules = rule-each (s .args .s .windows) (buffered (s .args .s .buffer)) (k .buffer .rules) in
     let o = c .before .before .before .before .before .before .before .before .before .open-heads in
+    sym (judged-bad (words (s .args .card .now)) (s .args .run .now) (s .args .s) (s .args .id) (o .last .1 .1 .0) (o .ensures) small few (k .buffer .order) rules (sym (c .before .before .before .before .judge .ensures) ∙ c .enum-told .given .1))
+
+returns-2 : tie.Need-returns-2
+returns-2 c =
+    let s = c .before .before .before .before .before .before .before .before .before .before .before .before .before .before .before .before in
+    let k = state-kept (s .args .s) (s .pre .0) in
+    let small = words-below (s .args .card .now) (λ j. omega (arith, c .before .before .before .before .before .before .before .before .before .before .before .before .before .before .before .shared-slice-known .given j)) in
+    let few : Below 4294967296 (s .args .run .now) = λ j. omega (arith, c .before .before .before .before .before .before .before .before .before .before .before .before .before .before .shared-slice-known2 .given j) in
+    let rules = rule-each (s .args .s .windows) (buffered (s .args .s .buffer)) (k .buffer .rules) in
+    let o = c .before .before .before .before .before .before .before .before .before .before .open-heads in
     sym (judged-good (words (s .args .card .now)) (s .args .run .now) (s .args .s) (s .args .id) (o .last .1 .1 .0) (o .ensures) small few (k .buffer .order) rules _ (sym (c .before .before .before .before .before .judge .ensures) ∙ c .before .told .given .1))
 
 pub judge-term-spec : {M : Type 1} → statement M
@@ -48,6 +48,7 @@ judge-term-spec =
     (tie.spec
     (λ c. search needs)
     open-heads-requires
+    (λ c. search needs)
     judge-requires
     (λ c. search needs)
     (λ c. search needs)
