@@ -63,22 +63,22 @@ module _ (W : List ℕ) (s : State) where
 
 -- ---- the windows found are those that show and match
 
-found-down : (o : ℕ) (ws : List ℕ) (S : ℕ → List ℤ) (t : ℕ → Bool) (hit : ℕ → ℕ)
-    → ((w : ℕ) → (any isAbove (S w) && shows o w) ≡ t w) → ((w : ℕ) → weighAll ws (S w) ≡ hit w) → t 0 ≡ false
-    → (m : ℕ) → overKeys (foundAt o ws) [] (suc m) S ≡ map (λ w. record { window = w; score = hit w }) (keep t (down m))
+found-down : (shows : ℕ → Bool) (ws : List ℕ) (S : ℕ → List ℤ) (t : ℕ → Bool) (hit : ℕ → ℕ)
+    → ((w : ℕ) → (any isAbove (S w) && shows w) ≡ t w) → ((w : ℕ) → weighAll ws (S w) ≡ hit w) → t 0 ≡ false
+    → (m : ℕ) → overKeys (foundAt shows ws) [] (suc m) S ≡ map (λ w. record { window = w; score = hit w }) (keep t (down m))
 unfolding overKeys down
-found-down o ws S t hit a b z zero = rw (a 0, z)
-found-down o ws S t hit a b z (suc m) =
+found-down shows ws S t hit a b z zero = rw (a 0, z)
+found-down shows ws S t hit a b z (suc m) =
     by-test (t (suc m))
-    (λ y. rw (a (suc m), y, b (suc m)) (ap (λ (r : List Hit). record { window = suc m; score = hit (suc m) } ∷ r) (found-down o ws S t hit a b z m)))
-    (λ y. rw (a (suc m), y) (found-down o ws S t hit a b z m))
+    (λ y. rw (a (suc m), y, b (suc m)) (ap (λ (r : List Hit). record { window = suc m; score = hit (suc m) } ∷ r) (found-down shows ws S t hit a b z m)))
+    (λ y. rw (a (suc m), y) (found-down shows ws S t hit a b z m))
 
 -- the best of what is found are the query's hits
-pub found-hits : (W : List ℕ) (s : State) (k : ℕ) (is : List ℕ) (ts : List Term) → Serving W s is ts → take k (foldr place [] (foundIn (s .windows .current) ts)) ≡ hitsOf W s k is
+pub found-hits : (W : List ℕ) (s : State) (k : ℕ) (is : List ℕ) (ts : List Term) → Serving W s is ts → take k (foldr place [] (foundIn (shows (s .windows .current)) ts)) ≡ hitsOf W s k is
 unfolding foundBy hitsOf ranked matching score
 found-hits W s k is ts v =
     ap (λ (l : List Hit). take k (foldr place [] l))
-    (found-down o (weightsIn ts) (λ w. map (sums w) (groupsIn ts)) counts (λ w. totalBy (adds W s w) is)
+    (found-down (shows o) (weightsIn ts) (λ w. map (sums w) (groupsIn ts)) counts (λ w. totalBy (adds W s w) is)
     (λ w. ap (λ (b : Bool). b && shows o w) (served-any W s w is ts v)) (λ w. served-score W s w is ts v) (ap (λ (b : Bool). b && shows o 0) (served-none W s is ts v)) 65535
     ∙ ap (map (λ w. record { window = w; score = totalBy (adds W s w) is })) both)
   where

@@ -12,7 +12,7 @@ use Rattle.state.specs.declared.State.{State}
 use Rattle.state.specs.Views.{blocks, finished}
 use Rattle.state.specs.Rules.{stateRule}
 use Rattle.state.specs.Probe.{Probe, sameLength}
-use Rattle.state.specs.Shown.{shown}
+use Rattle.state.specs.Shown.{shows, shown}
 use Rattle.state.proofs.Kept.{state-kept}
 use Rattle.identifiers.specs.Names.{Name, badLength, distinct}
 use Rattle.identifiers.specs.Register.{names, registerRule}
@@ -195,7 +195,7 @@ module _ (s : State) (card register : List ℕ) (sound : Sound s card register) 
         hits-few n q = rw q (omega (arith, length-take k (foldr place [] (map (λ w. record { window = w; score = score (s .windows .live) (countIn (words card) s) (shown (s .windows)) (numbers register ns) w }) (matching (s .windows .live) (countIn (words card) s) (shown (s .windows)) (numbers register ns))))))
 
         -- the best hits of the walk are the answer's
-        pub finds-walked : (t : Top) → t ≡ topOf (take k (foldr place [] (foundIn (s .windows .current) terms)))
+        pub finds-walked : (t : Top) → t ≡ topOf (take k (foldr place [] (foundIn (shows (s .windows .current)) terms)))
             → Finds p ns k (found.Hits (t .used) (known .taken)) t
         finds-walked t q =
             let n : length (replicate k noHit) ≡ k = length-replicate k noHit in

@@ -1,4 +1,4 @@
--- The second pass of a query: what is found from a window down, step by step. The open window's number is o.
+-- The second pass of a query: what is found from a window down, step by step. `shows` tells which windows show.
 use Rattle.lists.proofs.Prelude.{Bool, true, false, cond, _&&_, _||_, List, [], _∷_, foldr, map, _≡_, refl, sym, ap, _∙_, ℕ, zero, suc, _+_, _-_, _*_, _<_, _≤_, zero-le, arith, ℤ, ltb, length, getD, take, ne-eqb, any, every, elem, different, AllOf, by-test, and-left, and-right, and-both}
 use Rattle.lists.proofs.TopK.{topAfter}
 use Rattle.keyed.specs.Keys.{sums, overKeys, headVals}
@@ -7,7 +7,6 @@ use Rattle.keyed.proofs.Walk.{over-none}
 use Rattle.keyed.proofs.Groups.{Zero, under-all, step-all, spent-zero, top-all-falls, step-falls-all}
 use Rattle.postings.specs.Sums.{isAbove}
 use Rattle.answers.specs.declared.Hit.{Hit}
-use Rattle.state.specs.Shown.{shows}
 use Rattle.partitions.specs.Formed.{inRange}
 use Rattle.kway.specs.Parts.{parts}
 use Rattle.scores.specs.Terms.{KeptGroup, termsOf}
@@ -23,16 +22,16 @@ use Rattle.ranking.proofs.Tops.{listed-of, held-of, held-take}
 
 -- ---- each window is found once
 
-module _ (o : ℕ) (ws : List ℕ) (S : ℕ → List ℤ) where
+module _ (shows : ℕ → Bool) (ws : List ℕ) (S : ℕ → List ℤ) where
   abbrev windows : ℕ → List ℕ
-  windows m = map (λ (h : Hit). h .window) (overKeys (foundAt o ws) [] m S)
+  windows m = map (λ (h : Hit). h .window) (overKeys (foundAt shows ws) [] m S)
 
   -- no window from m on is found below m
   found-high : (m k : ℕ) → m ≤ k → elem k (windows m) ≡ false
   unfolding overKeys
   found-high zero k h = refl
   found-high (suc m) k h =
-      by-test (any isAbove (S m) && shows o m)
+      by-test (any isAbove (S m) && shows m)
       (λ y. rw (y, ne-eqb m k (λ e. omega arith)) (found-high m k (omega arith)))
       (λ y. rw y (found-high m k (omega arith)))
 
@@ -40,14 +39,14 @@ module _ (o : ℕ) (ws : List ℕ) (S : ℕ → List ℤ) where
   unfolding overKeys
   found-once zero = refl
   found-once (suc m) =
-      by-test (any isAbove (S m) && shows o m)
+      by-test (any isAbove (S m) && shows m)
       (λ y. rw (y, found-high m m (omega arith)) (found-once m))
       (λ y. rw y (found-once m))
 
 -- placed as they come, they end as the best of all
-pub walked-best : (o places : ℕ) (ws : List ℕ) (gs : List Group) → topAfter place places [] (foundBy o ws gs) ≡ take places (foldr place [] (foundBy o ws gs))
+pub walked-best : (shows : ℕ → Bool) (places : ℕ) (ws : List ℕ) (gs : List Group) → topAfter place places [] (foundBy shows ws gs) ≡ take places (foldr place [] (foundBy shows ws gs))
 unfolding foundBy
-walked-best o places ws gs = walked-hits places (overKeys (foundAt o ws) [] 65536 (λ w. map (sums w) gs)) (found-once o ws (λ w. map (sums w) gs) 65536)
+walked-best shows places ws gs = walked-hits places (overKeys (foundAt shows ws) [] 65536 (λ w. map (sums w) gs)) (found-once shows ws (λ w. map (sums w) gs) 65536)
 
 -- ---- windows without a sum
 
@@ -70,8 +69,8 @@ unfolding overKeys
 ranges-over S h zero = refl
 ranges-over S h (suc m) = and-both (every inRange (S m)) _ (h m) (ranges-over S h m)
 
-module _ (o places : ℕ) (ws : List ℕ) where
-  still : (w : ℕ) (v : List ℤ) (r : List Hit) → AllOf Zero v → foundAt o ws w v r ≡ r
+module _ (shows : ℕ → Bool) (places : ℕ) (ws : List ℕ) where
+  still : (w : ℕ) (v : List ℤ) (r : List Hit) → AllOf Zero v → foundAt shows ws w v r ≡ r
   still w v r z = rw (none-above v z)
 
   quiet : (w : ℕ) (v : List ℤ) (r : Bool) → AllOf Zero v → rangesAt w v r ≡ r
@@ -82,20 +81,20 @@ module _ (o places : ℕ) (ws : List ℕ) where
     pub low : bound ≤ 65536
     pub falls : allFallAll bound gs ≡ true
     pub ranges : overKeys rangesAt true bound (λ w. map (sums w) gs) ≡ true
-    pub rest : whole ≡ topAfter place places l (overKeys (foundAt o ws) [] bound (λ w. map (sums w) gs))
+    pub rest : whole ≡ topAfter place places l (overKeys (foundAt shows ws) [] bound (λ w. map (sums w) gs))
 
   -- at the start all is left
   pub started : (gs : List Group) → allFallAll 65536 gs ≡ true → ((w : ℕ) → every inRange (map (sums w) gs) ≡ true)
-      → Left 65536 gs [] (take places (foldr place [] (foundBy o ws gs)))
+      → Left 65536 gs [] (take places (foldr place [] (foundBy shows ws gs)))
   unfolding foundBy
-  started gs f r = record { low = omega arith; falls = f; ranges = ranges-over (λ w. map (sums w) gs) r 65536; rest = sym (walked-best o places ws gs) }
+  started gs f r = record { low = omega arith; falls = f; ranges = ranges-over (λ w. map (sums w) gs) r 65536; rest = sym (walked-best shows places ws gs) }
 
   module _ {bound : ℕ} (gs : List Group) {l whole : List Hit} (left : Left bound gs l whole) where
     -- where nothing is left, the best so far is the best of all
     pub ended : topAll 0 gs ≡ 0 → whole ≡ l
     ended e =
         let u = rw e at (under-all 0 gs) in
-        left .rest ∙ ap (topAfter place places l) (over-none (foundAt o ws) [] bound (λ w. map (sums w) gs) (λ j r. still j (map (sums j) gs) r (spent-zero j gs u)))
+        left .rest ∙ ap (topAfter place places l) (over-none (foundAt shows ws) [] bound (λ w. map (sums w) gs) (λ j r. still j (map (sums j) gs) r (spent-zero j gs u)))
 
     module _ (k : ℕ) (top : topAll 0 gs ≡ suc k) where
       -- the sums of the highest window, and the best with its hit
@@ -103,7 +102,7 @@ module _ (o places : ℕ) (ws : List ℕ) where
       now = map (headVals k) gs
 
       abbrev better : List Hit
-      better = cond (any isAbove now && shows o k) (take places (place (hitAt ws k now) l)) l
+      better = cond (any isAbove now && shows k) (take places (place (hitAt ws k now) l)) l
 
       pub within : suc k ≤ bound
       within = let h = top-all-falls bound 0 gs zero-le (left .falls) in omega arith
@@ -121,11 +120,11 @@ module _ (o places : ℕ) (ws : List ℕ) where
         low = omega (arith, within, left .low);
         falls = and-right (headsFineAll k gs) _ (sym (step-falls-all bound k gs (rw top at (under-all 0 gs)) within) ∙ left .falls);
         ranges = and-right (every inRange now) _ ranged;
-        rest = left .rest ∙ ap (topAfter place places l) (step-all (foundAt o ws) [] still bound k gs within top (left .falls)) ∙ put (any isAbove now && shows o k);
+        rest = left .rest ∙ ap (topAfter place places l) (step-all (foundAt shows ws) [] still bound k gs within top (left .falls)) ∙ put (any isAbove now && shows k);
       }
         where
           after : List Hit
-          after = overKeys (foundAt o ws) [] k (λ w. map (sums w) (moveAll k gs))
+          after = overKeys (foundAt shows ws) [] k (λ w. map (sums w) (moveAll k gs))
 
           put : (t : Bool) → topAfter place places l (cond t (hitAt ws k now ∷ after) after) ≡ topAfter place places (cond t (take places (place (hitAt ws k now) l)) l) after
           put true = refl
@@ -137,13 +136,13 @@ module _ (o places : ℕ) (ws : List ℕ) where
 
 -- ---- the merge of terms
 
-module _ (W R : List ℕ) (m g o places : ℕ) (H₀ : List ℕ) where
+module _ (W R : List ℕ) (m g : ℕ) (shows : ℕ → Bool) (places : ℕ) (H₀ : List ℕ) where
   -- the weights, and the best of all windows
   abbrev weights : List ℕ
   weights = weightsIn (termsOf W R m g H₀)
 
   abbrev best-of : List Hit
-  best-of = take places (foldr place [] (foundIn o (termsOf W R m g H₀)))
+  best-of = take places (foldr place [] (foundIn shows (termsOf W R m g H₀)))
 
   -- it began with H₀, and has come to H with these best hits; `top` is the reach of what is left
   pub record Walking (H : List ℕ) (best : Top) (top : ℕ) : Type 0 where
@@ -154,7 +153,7 @@ module _ (W R : List ℕ) (m g o places : ℕ) (H₀ : List ℕ) where
     pub reach : top ≡ topAll 0 (groupsIn (termsOf W R m g H))
     pub held : Held places best
     pub sorted : Sorted (listedHits best)
-    pub left : Left o places weights bound (groupsIn (termsOf W R m g H)) (listedHits best) best-of
+    pub left : Left shows places weights bound (groupsIn (termsOf W R m g H)) (listedHits best) best-of
 
   -- at the start
   pub walk-begun : Walkable W R m g H₀ → 1 ≤ places → places ≤ 32 → (best : Top) → best ≡ topOf [] → (top : ℕ) → top ≡ topAll 0 (groupsIn (termsOf W R m g H₀)) → Walking H₀ best top
@@ -166,7 +165,7 @@ module _ (W R : List ℕ) (m g o places : ℕ) (H₀ : List ℕ) where
     reach = r;
     held = rw e (held-of places [] p q (omega arith));
     sorted = rw e tt;
-    left = rw e (started o places weights (groupsIn (termsOf W R m g H₀)) (w .falls) (w .ranges));
+    left = rw e (started shows places weights (groupsIn (termsOf W R m g H₀)) (w .falls) (w .ranges));
   }
 
   module _ (H : List ℕ) (best : Top) (top : ℕ) (walking : Walking H best top) where
@@ -175,7 +174,7 @@ module _ (W R : List ℕ) (m g o places : ℕ) (H₀ : List ℕ) where
 
     -- at the end
     pub walk-ended : top ≡ 0 → best ≡ topOf best-of
-    walk-ended e = walking .held .clean ∙ ap topOf (sym (ended o places weights gs (walking .left) (sym (walking .reach) ∙ e)))
+    walk-ended e = walking .held .clean ∙ ap topOf (sym (ended shows places weights gs (walking .left) (sym (walking .reach) ∙ e)))
 
     module _ (k : ℕ) (high : top ≡ suc k) where
       at-top : topAll 0 gs ≡ suc k
@@ -183,7 +182,7 @@ module _ (W R : List ℕ) (m g o places : ℕ) (H₀ : List ℕ) where
 
       -- the highest window is one
       pub walk-window : k < 65536
-      walk-window = omega (arith, within o places weights gs (walking .left) k at-top, walking .left .low)
+      walk-window = omega (arith, within shows places weights gs (walking .left) k at-top, walking .left .low)
 
       -- no head is above it
       pub walk-top : topAll 0 gs ≤ k + 1
@@ -191,7 +190,7 @@ module _ (W R : List ℕ) (m g o places : ℕ) (H₀ : List ℕ) where
 
       -- its sums are in range
       pub walk-ranges : every inRange (map (headVals k) gs) ≡ true
-      walk-ranges = in-range o places weights gs (walking .left) k at-top
+      walk-ranges = in-range shows places weights gs (walking .left) k at-top
 
       module _ (H′ : List ℕ) (next : ℕ) (long : length H′ ≡ length H) (kept : AllOf (KeptGroup W R m) (parts (4 * m + 4) g H′))
           (rests : termsOf W R m g H′ ≡ map (moved k) (termsOf W R m g H)) (up : next ≡ topAll 0 (groupsIn (termsOf W R m g H′))) where
@@ -200,9 +199,9 @@ module _ (W R : List ℕ) (m g o places : ℕ) (H₀ : List ℕ) where
 
         -- what is left has a lower highest window
         pub walk-lower : next ≤ k
-        walk-lower = rw up (rw groups-moved (lower o places weights gs (walking .left) k at-top))
+        walk-lower = rw up (rw groups-moved (lower shows places weights gs (walking .left) k at-top))
 
-        on : (l : List Hit) (then : Top) → listedHits then ≡ l → Held places then → Sorted l → better o places weights gs (walking .left) k at-top ≡ l → Walking H′ then next
+        on : (l : List Hit) (then : Top) → listedHits then ≡ l → Held places then → Sorted l → better shows places weights gs (walking .left) k at-top ≡ l → Walking H′ then next
         on l then e h d f = record {
           bound = k;
           long = long ∙ walking .long;
@@ -211,14 +210,14 @@ module _ (W R : List ℕ) (m g o places : ℕ) (H₀ : List ℕ) where
           reach = up;
           held = h;
           sorted = rw e d;
-          left = rw (groups-moved, e, ← f) (stepped o places weights gs (walking .left) k at-top);
+          left = rw (groups-moved, e, ← f) (stepped shows places weights gs (walking .left) k at-top);
         }
 
         -- the hit of the window
         abbrev found : ℕ → Hit
         found score = record { window = k; score = score }
 
-        module _ (score : ℕ) (weight : score ≡ scoreAt k (termsOf W R m g H)) (counts : (any isAbove (map (headVals k) gs) && shows o k) ≡ true) where
+        module _ (score : ℕ) (weight : score ≡ scoreAt k (termsOf W R m g H)) (counts : (any isAbove (map (headVals k) gs) && shows k) ≡ true) where
           by-weights : score ≡ weighAll weights (map (headVals k) gs)
           by-weights = weight ∙ ap (λ (ws : List ℕ). weighAll ws (map (headVals k) gs)) (walking .same)
 
@@ -235,5 +234,5 @@ module _ (W R : List ℕ) (m g o places : ℕ) (H₀ : List ℕ) where
               (rw counts (ap (λ (x : ℕ). take places (place (found x) (listedHits best))) (sym by-weights) ∙ left-out places best (found score) (walking .held) (walking .sorted) n))
 
         -- past one that does not
-        pub walk-passed : (any isAbove (map (headVals k) gs) && shows o k) ≡ false → (then : Top) → then ≡ best → Walking H′ then next
+        pub walk-passed : (any isAbove (map (headVals k) gs) && shows k) ≡ false → (then : Top) → then ≡ best → Walking H′ then next
         walk-passed a then e = on (listedHits best) then (ap listedHits e) (rw e (walking .held)) (walking .sorted) (rw a)

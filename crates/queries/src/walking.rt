@@ -6,6 +6,7 @@ ghost use mathlib.Core.Path.{_≡_};
 ghost use Prim.Native.Nat.{_≤_};
 ghost use lib.ListN.{take as first};
 ghost use Rattle.words.specs.Words.{words as wordsOf};
+ghost use Rattle.state.specs.Shown.{shows};
 ghost use Rattle.scores.specs.Terms.{termsOf};
 ghost use Rattle.ranking.specs.Hits.{place};
 ghost use Rattle.ranking.specs.Top.{topOf};
@@ -22,7 +23,7 @@ pub fn walk(
     current: u32,
 ) -> Top
     requires { ⌜ Walkable (wordsOf (now card)) (now run) m g (now heads) × (1 ≤ places) × (places ≤ 32) ⌝ }
-    ensures { λ r. ⌜ r ≡ topOf (first places (foldr place [] (foundIn current (termsOf (wordsOf (now (card .entry))) (now (run .entry)) m g (now (heads .entry)))))) ⌝ }
+    ensures { λ r. ⌜ r ≡ topOf (first places (foldr place [] (foundIn (shows current) (termsOf (wordsOf (now (card .entry))) (now (run .entry)) m g (now (heads .entry)))))) ⌝ }
 {
     let mut best = ranking::no_hits();
     let mut top = scores::scoring::top_terms(card, run, heads, g, m);

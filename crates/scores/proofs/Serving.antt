@@ -1,5 +1,5 @@
 -- From what the judging tells of an identifier's heads to its term.
-use Rattle.lists.proofs.Prelude.{true, false, List, [], _∷_, _++_, map, ⊎-elim, _≡_, sym, ap, ap₂, _∙_, subst, ℕ, zero, suc, _+_, _-_, _*_, _<_, _≤_, eq-or-lt-of-le, arith, ltb, ℤ, pos, _+ℤ_, +ℤ-assoc, +ℤ-idl, +ℤ-idr, length, drop, set, length-set, ltb-true, ltb-false, every, totalBy, AllOf, by-test, and-left, and-right, never, total-more}
+use Rattle.lists.proofs.Prelude.{Bool, true, false, List, [], _∷_, _++_, map, ⊎-elim, _≡_, sym, ap, ap₂, _∙_, subst, ℕ, zero, suc, _+_, _-_, _*_, _<_, _≤_, eq-or-lt-of-le, arith, ltb, ℤ, pos, _+ℤ_, +ℤ-assoc, +ℤ-idl, +ℤ-idr, length, drop, set, length-set, ltb-true, ltb-false, every, totalBy, AllOf, by-test, and-left, and-right, never, total-more}
 use borrow.Rule.Slice.PartMut.{putMid}
 use Rattle.keyed.specs.Keys.{Item, falls, allFall, sumOf, sums, overKeys, topFrom}
 use Rattle.keyed.specs.Groups.{Group, allFallAll}
@@ -11,6 +11,7 @@ use Rattle.postings.specs.Order.{ordered}
 use Rattle.postings.specs.Sums.{sum, under}
 use Rattle.state.specs.declared.State.{State}
 use Rattle.state.specs.Views.{buffered}
+use Rattle.state.specs.Shown.{shows}
 use Rattle.partitions.specs.Reading.{stored}
 use Rattle.partitions.specs.Formed.{inRange, identifierFormed}
 use Rattle.kway.specs.Parts.{part, parts}
@@ -47,15 +48,15 @@ over-at (suc m) j S h e =
 
 -- ---- what is told
 
-told-none : (o : ℕ) (gs : List Group) → toldOf o gs ≡ Malformed → formed gs ≡ false
+told-none : (shows : ℕ → Bool) (gs : List Group) → toldOf shows gs ≡ Malformed → formed gs ≡ false
 unfolding toldOf
-told-none o gs e = by-test (formed gs) (λ y. let q : Windows (risen o gs) ≡ Malformed = rw y at e in let z : _≡_ {A = ℕ} 0 1 = cc in absurd (omega arith)) (λ n. n)
+told-none shows gs e = by-test (formed gs) (λ y. let q : Windows (risen shows gs) ≡ Malformed = rw y at e in let z : _≡_ {A = ℕ} 0 1 = cc in absurd (omega arith)) (λ n. n)
 
-told-windows : (o : ℕ) (gs : List Group) (n : ℕ) → toldOf o gs ≡ Windows n → (formed gs ≡ true) × (n ≡ risen o gs)
+told-windows : (shows : ℕ → Bool) (gs : List Group) (n : ℕ) → toldOf shows gs ≡ Windows n → (formed gs ≡ true) × (n ≡ risen shows gs)
 unfolding toldOf
-told-windows o gs n e =
+told-windows shows gs n e =
     by-test (formed gs)
-    (λ y. let q : Windows (risen o gs) ≡ Windows n = rw y at e in (y, cc))
+    (λ y. let q : Windows (risen shows gs) ≡ Windows n = rw y at e in (y, cc))
     (λ f. let q : Malformed ≡ Windows n = rw f at e in let z : _≡_ {A = ℕ} 0 1 = cc in absurd (omega arith))
 
 module _ (W R : List ℕ) (s : State) (i : ℕ) (H : List ℕ) (opens : Opens W R s i H) (small : Below 4294967296 W) (few : Below 4294967296 R)
@@ -63,9 +64,9 @@ module _ (W R : List ℕ) (s : State) (i : ℕ) (H : List ℕ) (opens : Opens W 
   abbrev gs : List Group
   gs = both W R (s .partitions .used) H
 
-  -- the open window's number
-  abbrev o : ℕ
-  o = s .windows .current
+  -- is a window closed
+  abbrev closed : ℕ → Bool
+  closed = shows (s .windows .current)
 
   -- the lists on the card, the run, and both in one group
   abbrev cards : Group
@@ -81,20 +82,20 @@ module _ (W R : List ℕ) (s : State) (i : ℕ) (H : List ℕ) (opens : Opens W 
   all-parts = views-more (view W R) 4 (s .partitions .used) H
 
   -- not well formed
-  pub judged-bad : toldOf o gs ≡ Malformed → identifierFormed W s i ≡ false
-  judged-bad e = formed-same W R s i H opens small few order rules ∙ told-none o gs e
+  pub judged-bad : toldOf closed gs ≡ Malformed → identifierFormed W s i ≡ false
+  judged-bad e = formed-same W R s i H opens small few order rules ∙ told-none closed gs e
 
   -- well formed
-  pub judged-good : (n : ℕ) → toldOf o gs ≡ Windows n → identifierFormed W s i ≡ true
-  judged-good n e = formed-same W R s i H opens small few order rules ∙ told-windows o gs n e .0
+  pub judged-good : (n : ℕ) → toldOf closed gs ≡ Windows n → identifierFormed W s i ≡ true
+  judged-good n e = formed-same W R s i H opens small few order rules ∙ told-windows closed gs n e .0
 
-  module _ (n : ℕ) (told : toldOf o gs ≡ Windows n) where
+  module _ (n : ℕ) (told : toldOf closed gs ≡ Windows n) where
     ok : formed gs ≡ true
-    ok = told-windows o gs n told .0
+    ok = told-windows closed gs n told .0
 
     -- F fits
     pub windows-few : n ≤ 65535
-    windows-few = omega (arith, told-windows o gs n told .1, risen-few o gs (none-at-zero W R s i H opens small few order rules ok))
+    windows-few = omega (arith, told-windows closed gs n told .1, risen-few closed gs (none-at-zero W R s i H opens small few order rules ok))
 
     pub all-fall : allFall 65536 all ≡ true
     all-fall = rw all-parts (falls-more 65536 cards run (lists-fall W R s i H opens small few order rules ok) (run-fall W R s i H opens small few order rules ok))
@@ -126,7 +127,7 @@ module _ (W R : List ℕ) (s : State) (i : ℕ) (H : List ℕ) (opens : Opens W 
           totals = totals;
           ranges = in-range;
           none = total-same W R s i H opens small few order rules 0 ∙ total-none (map (sums 0) gs) (none-at-zero W R s i H opens small few order rules ok);
-          weight = ap (idfWeight (s .windows .live)) (told-windows o gs n told .1 ∙ sym (risen-same W R s i H opens small few order rules ok));
+          weight = ap (idfWeight (s .windows .live)) (told-windows closed gs n told .1 ∙ sym (risen-same W R s i H opens small few order rules ok));
         })
 
 -- ---- reach, weight and lead put in front of a group's heads

@@ -9,7 +9,6 @@ use Rattle.postings.specs.Sums.{sum, isAbove}
 use Rattle.postings.proofs.Order.{precedes-cases}
 use Rattle.postings.proofs.Sums.{sum-pairs}
 use Rattle.postings.proofs.Merge.{every-puts, pairs-ordered}
-use Rattle.state.specs.Shown.{shows}
 use Rattle.partitions.specs.Formed.{inRange, sumsInRange}
 use Rattle.terms.specs.Judged.{totalZ, ranges, countAbove}
 
@@ -87,9 +86,9 @@ over-two A B (suc m) =
     rw (over-two A B m) (and-swap (inRange (A m)) (inRange (A m +ℤ (B m +ℤ pos 0))) (overKeys range true m A) (overKeys range true m (λ w. A w +ℤ (B w +ℤ pos 0))))
 
 -- how many windows from n down pass a test, where window 0 does not
-pub over-down : (o : ℕ) (t : ℕ → Bool) (S : ℕ → List ℤ) → ((w : ℕ) → t w ≡ (isAbove (totalZ (S w)) && shows o w)) → t 0 ≡ false → (n : ℕ) → length (keep t (down n)) ≡ overKeys (countAbove o) 0 (suc n) S
+pub over-down : (shows t : ℕ → Bool) (S : ℕ → List ℤ) → ((w : ℕ) → t w ≡ (isAbove (totalZ (S w)) && shows w)) → t 0 ≡ false → (n : ℕ) → length (keep t (down n)) ≡ overKeys (countAbove shows) 0 (suc n) S
 unfolding down overKeys
-over-down o t S e z zero = rw (← e 0, z)
-over-down o t S e z (suc n) =
-    let r = over-down o t S e z n in
+over-down shows t S e z zero = rw (← e 0, z)
+over-down shows t S e z (suc n) =
+    let r = over-down shows t S e z n in
     by-test (t (suc n)) (λ y. rw (y, ← e (suc n), y) (omega arith)) (λ y. rw (y, ← e (suc n), y) (omega arith))

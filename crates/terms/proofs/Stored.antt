@@ -220,11 +220,11 @@ module _ (W R : List ℕ) (s : State) (i : ℕ) (H : List ℕ) (opens : Opens W 
     unfolding AllOf view
     none-at-zero = (zero-lists W R 65536 hs lists-fall, (rw (zero-words 65536 (coming W R last) run-falls), tt))
 
-    pub risen-same : frequency (shown (s .windows)) (stored W s) i ≡ risen o gs
+    pub risen-same : frequency (shown (s .windows)) (stored W s) i ≡ risen (shows o) gs
     unfolding frequency shown risen
     risen-same =
         ap length (sym (keep-both (λ w. isAbove (sum (stored W s) i w)) (shows o) counts (λ w. refl) (down 65535)))
-        ∙ over-down o counts (λ w. map (sums w) gs) (λ w. ap (λ (z : ℤ). isAbove z && shows o w) (total-same w))
+        ∙ over-down (shows o) counts (λ w. map (sums w) gs) (λ w. ap (λ (z : ℤ). isAbove z && shows o w) (total-same w))
         (ap (λ (z : ℤ). isAbove z && shows o 0) (total-same 0 ∙ total-none (map (sums 0) gs) none-at-zero)) 65535
       where
         counts : ℕ → Bool
@@ -232,12 +232,12 @@ module _ (W R : List ℕ) (s : State) (i : ℕ) (H : List ℕ) (opens : Opens W 
 
 -- ---- at most 65,535 windows count
 
-few-windows : (o : ℕ) (S : ℕ → List ℤ) → AllOf Zero (S 0) → (n : ℕ) → overKeys (countAbove o) 0 (suc n) S ≤ n
+few-windows : (shows : ℕ → Bool) (S : ℕ → List ℤ) → AllOf Zero (S 0) → (n : ℕ) → overKeys (countAbove shows) 0 (suc n) S ≤ n
 unfolding overKeys
-few-windows o S z zero = rw (total-none (S 0) z) (omega arith)
-few-windows o S z (suc n) = let h = few-windows o S z n in by-test (isAbove (totalZ (S (suc n))) && shows o (suc n)) (λ y. rw y (omega arith)) (λ y. rw y (omega arith))
+few-windows shows S z zero = rw (total-none (S 0) z) (omega arith)
+few-windows shows S z (suc n) = let h = few-windows shows S z n in by-test (isAbove (totalZ (S (suc n))) && shows (suc n)) (λ y. rw y (omega arith)) (λ y. rw y (omega arith))
 
 -- so F fits
-pub risen-few : (o : ℕ) (gs : List Group) → AllOf Zero (map (sums 0) gs) → risen o gs ≤ 65535
+pub risen-few : (shows : ℕ → Bool) (gs : List Group) → AllOf Zero (map (sums 0) gs) → risen shows gs ≤ 65535
 unfolding risen
-risen-few o gs z = few-windows o (λ w. map (sums w) gs) z 65535
+risen-few shows gs z = few-windows shows (λ w. map (sums w) gs) z 65535

@@ -74,7 +74,7 @@ fn judge_window(
 // The whole merge, by falling window, where `current` is the open window's number, or 0. No list may reach a window that was passed. The heads are spent by it.
 pub fn judge(card: &[u8], run: &[u32], heads: &mut [u32], n: usize, current: u32) -> Told
     requires { ⌜ (length (now heads) ≡ 4 * n + 4) × (n ≤ 51) × Ready (wordsOf (now card)) (now run) n (now heads) ⌝ }
-    ensures { λ r. ⌜ r ≡ toldOf current (bothOf (wordsOf (now (card .entry))) (now (run .entry)) n (now (heads .entry))) ⌝ }
+    ensures { λ r. ⌜ r ≡ toldOf (shows current) (bothOf (wordsOf (now (card .entry))) (now (run .entry)) n (now (heads .entry))) ⌝ }
 {
     let l = heads::leading::leader(card, run, heads, n);
     let mut top = kway::larger(l.top, heads[4 * n]);

@@ -8,7 +8,7 @@ use Rattle.queries.proofs.walking.walk.Statement.{statement}
 use Rattle.queries.proofs.walking.walk.Tie as tie
 
 abbrev Inv-loop : tie.InvT-loop
-Inv-loop card run heads₀ g m places current best₀ top₀ heads best top = Walking (words card) run m g current places heads₀ heads best top
+Inv-loop card run heads₀ g m places current best₀ top₀ heads best top = Walking (words card) run m g (shows current) places heads₀ heads best top
 
 abbrev μ-loop : tie.MeasureT-loop
 μ-loop card run heads₀ g m places current best₀ top₀ heads best top = top
@@ -20,7 +20,7 @@ loop-holds : tie.Need-loop-holds Inv-loop μ-loop
 loop-holds c =
     let s = c .before .before .before .before .before .before in
     let a = s .args in
-    walk-begun (words (a .card .now)) (a .run .now) (a .m) (a .g) (a .current) (a .places) (a .heads .now) (s .pre .0) (s .pre .1) (s .pre .2) _ (c .before .before .no-hits .ensures) _ (c .top-terms .ensures)
+    walk-begun (words (a .card .now)) (a .run .now) (a .m) (a .g) (shows (a .current)) (a .places) (a .heads .now) (s .pre .0) (s .pre .1) (s .pre .2) _ (c .before .before .no-hits .ensures) _ (c .top-terms .ensures)
 
 take-terms-requires : tie.Need-take-terms-requires Inv-loop μ-loop
 take-terms-requires c κs =
@@ -33,7 +33,7 @@ take-terms-requires c κs =
     let high : l .loop .top ≡ suc k = omega (arith, c .before .loop-test .taken) in
     let w = s .pre .0 in
     let v = l .loop .inv in
-    (omega (arith, w .fits, v .long), omega (arith, w .short, v .long), w .lists, w .terms, walk-window W R (s .args .m) (s .args .g) (s .args .current) (s .args .places) H (l .loop .heads) (l .loop .best) (l .loop .top) (l .loop .inv) k high, v .kept, walk-top W R (s .args .m) (s .args .g) (s .args .current) (s .args .places) H (l .loop .heads) (l .loop .best) (l .loop .top) (l .loop .inv) k high, walk-ranges W R (s .args .m) (s .args .g) (s .args .current) (s .args .places) H (l .loop .heads) (l .loop .best) (l .loop .top) (l .loop .inv) k high)
+    (omega (arith, w .fits, v .long), omega (arith, w .short, v .long), w .lists, w .terms, walk-window W R (s .args .m) (s .args .g) (shows (s .args .current)) (s .args .places) H (l .loop .heads) (l .loop .best) (l .loop .top) (l .loop .inv) k high, v .kept, walk-top W R (s .args .m) (s .args .g) (shows (s .args .current)) (s .args .places) H (l .loop .heads) (l .loop .best) (l .loop .top) (l .loop .inv) k high, walk-ranges W R (s .args .m) (s .args .g) (shows (s .args .current)) (s .args .places) H (l .loop .heads) (l .loop .best) (l .loop .top) (l .loop .inv) k high)
 
 cast-at : tie.Need-cast-at Inv-loop μ-loop
 cast-at c =
@@ -44,7 +44,7 @@ cast-at c =
     let H = s .args .heads .now in
     let k = l .loop .top - 1 in
     let high : l .loop .top ≡ suc k = omega (arith, c .before .before .before .before .before .before .loop-test .taken) in
-    omega (arith, walk-window W R (s .args .m) (s .args .g) (s .args .current) (s .args .places) H (l .loop .heads) (l .loop .best) (l .loop .top) (l .loop .inv) k high)
+    omega (arith, walk-window W R (s .args .m) (s .args .g) (shows (s .args .current)) (s .args .places) H (l .loop .heads) (l .loop .best) (l .loop .top) (l .loop .inv) k high)
 
 sub-at : tie.Need-sub-at Inv-loop μ-loop
 sub-at c = omega (arith, c .before .before .before .before .before .before .before .before .before .before .before .before .before .before .pre .1)
@@ -71,7 +71,7 @@ loop-less c =
     let k = l .loop .top - 1 in
     let high : l .loop .top ≡ suc k = omega (arith, c .before .before .before .before .before .before .before .before .before .before .loop-test .taken) in
     let t = c .before .before .before .before .before .before .before .before .take-terms in
-    omega (arith, walk-lower W R (s .args .m) (s .args .g) (s .args .current) (s .args .places) H (l .loop .heads) (l .loop .best) (l .loop .top) (l .loop .inv) k high (t .last .1 .1 .0) (t .result .next) (t .ensures .0 .0) (t .ensures .0 .1) (t .ensures .0 .2) (t .ensures .1 .2), high)
+    omega (arith, walk-lower W R (s .args .m) (s .args .g) (shows (s .args .current)) (s .args .places) H (l .loop .heads) (l .loop .best) (l .loop .top) (l .loop .inv) k high (t .last .1 .1 .0) (t .result .next) (t .ensures .0 .0) (t .ensures .0 .1) (t .ensures .0 .2) (t .ensures .1 .2), high)
 
 loop-again : tie.Need-loop-again Inv-loop μ-loop
 loop-again c =
@@ -83,7 +83,7 @@ loop-again c =
     let k = l .loop .top - 1 in
     let high : l .loop .top ≡ suc k = omega (arith, c .before .before .before .before .before .before .before .before .before .before .loop-test .taken) in
     let t = c .before .before .before .before .before .before .before .before .take-terms in
-    walk-placed W R (s .args .m) (s .args .g) (s .args .current) (s .args .places) H (l .loop .heads) (l .loop .best) (l .loop .top) (l .loop .inv) k high (t .last .1 .1 .0) (t .result .next) (t .ensures .0 .0) (t .ensures .0 .1) (t .ensures .0 .2) (t .ensures .1 .2) (t .result .score) (t .ensures .1 .0) (ap (λ (b : Bool). b && shows (s .args .current) k) (sym (t .ensures .1 .1)) ∙ c .before .before .before .before .if1 .taken) _ (c .place-hit .ensures)
+    walk-placed W R (s .args .m) (s .args .g) (shows (s .args .current)) (s .args .places) H (l .loop .heads) (l .loop .best) (l .loop .top) (l .loop .inv) k high (t .last .1 .1 .0) (t .result .next) (t .ensures .0 .0) (t .ensures .0 .1) (t .ensures .0 .2) (t .ensures .1 .2) (t .result .score) (t .ensures .1 .0) (ap (λ (b : Bool). b && shows (s .args .current) k) (sym (t .ensures .1 .1)) ∙ c .before .before .before .before .if1 .taken) _ (c .place-hit .ensures)
 
 loop-less-2 : tie.Need-loop-less-2 Inv-loop μ-loop
 loop-less-2 c =
@@ -95,7 +95,7 @@ loop-less-2 c =
     let k = l .loop .top - 1 in
     let high : l .loop .top ≡ suc k = omega (arith, c .before .before .before .before .before .before .before .before .before .loop-test .taken) in
     let t = c .before .before .before .before .before .before .before .take-terms in
-    omega (arith, walk-lower W R (s .args .m) (s .args .g) (s .args .current) (s .args .places) H (l .loop .heads) (l .loop .best) (l .loop .top) (l .loop .inv) k high (t .last .1 .1 .0) (t .result .next) (t .ensures .0 .0) (t .ensures .0 .1) (t .ensures .0 .2) (t .ensures .1 .2), high)
+    omega (arith, walk-lower W R (s .args .m) (s .args .g) (shows (s .args .current)) (s .args .places) H (l .loop .heads) (l .loop .best) (l .loop .top) (l .loop .inv) k high (t .last .1 .1 .0) (t .result .next) (t .ensures .0 .0) (t .ensures .0 .1) (t .ensures .0 .2) (t .ensures .1 .2), high)
 
 loop-again-2 : tie.Need-loop-again-2 Inv-loop μ-loop
 loop-again-2 c =
@@ -107,7 +107,7 @@ loop-again-2 c =
     let k = l .loop .top - 1 in
     let high : l .loop .top ≡ suc k = omega (arith, c .before .before .before .before .before .before .before .before .before .loop-test .taken) in
     let t = c .before .before .before .before .before .before .before .take-terms in
-    walk-out W R (s .args .m) (s .args .g) (s .args .current) (s .args .places) H (l .loop .heads) (l .loop .best) (l .loop .top) (l .loop .inv) k high (t .last .1 .1 .0) (t .result .next) (t .ensures .0 .0) (t .ensures .0 .1) (t .ensures .0 .2) (t .ensures .1 .2) (t .result .score) (t .ensures .1 .0) (ap (λ (b : Bool). b && shows (s .args .current) k) (sym (t .ensures .1 .1)) ∙ c .before .before .before .if1 .taken) (sym (c .before .enters .ensures) ∙ c .if2 .left) _ refl
+    walk-out W R (s .args .m) (s .args .g) (shows (s .args .current)) (s .args .places) H (l .loop .heads) (l .loop .best) (l .loop .top) (l .loop .inv) k high (t .last .1 .1 .0) (t .result .next) (t .ensures .0 .0) (t .ensures .0 .1) (t .ensures .0 .2) (t .ensures .1 .2) (t .result .score) (t .ensures .1 .0) (ap (λ (b : Bool). b && shows (s .args .current) k) (sym (t .ensures .1 .1)) ∙ c .before .before .before .if1 .taken) (sym (c .before .enters .ensures) ∙ c .if2 .left) _ refl
 
 loop-less-3 : tie.Need-loop-less-3 Inv-loop μ-loop
 loop-less-3 c =
@@ -119,7 +119,7 @@ loop-less-3 c =
     let k = l .loop .top - 1 in
     let high : l .loop .top ≡ suc k = omega (arith, c .before .before .before .before .before .before .loop-test .taken) in
     let t = c .before .before .before .before .take-terms in
-    omega (arith, walk-lower W R (s .args .m) (s .args .g) (s .args .current) (s .args .places) H (l .loop .heads) (l .loop .best) (l .loop .top) (l .loop .inv) k high (t .last .1 .1 .0) (t .result .next) (t .ensures .0 .0) (t .ensures .0 .1) (t .ensures .0 .2) (t .ensures .1 .2), high)
+    omega (arith, walk-lower W R (s .args .m) (s .args .g) (shows (s .args .current)) (s .args .places) H (l .loop .heads) (l .loop .best) (l .loop .top) (l .loop .inv) k high (t .last .1 .1 .0) (t .result .next) (t .ensures .0 .0) (t .ensures .0 .1) (t .ensures .0 .2) (t .ensures .1 .2), high)
 
 loop-again-3 : tie.Need-loop-again-3 Inv-loop μ-loop
 loop-again-3 c =
@@ -131,7 +131,7 @@ loop-again-3 c =
     let k = l .loop .top - 1 in
     let high : l .loop .top ≡ suc k = omega (arith, c .before .before .before .before .before .before .loop-test .taken) in
     let t = c .before .before .before .before .take-terms in
-    walk-passed W R (s .args .m) (s .args .g) (s .args .current) (s .args .places) H (l .loop .heads) (l .loop .best) (l .loop .top) (l .loop .inv) k high (t .last .1 .1 .0) (t .result .next) (t .ensures .0 .0) (t .ensures .0 .1) (t .ensures .0 .2) (t .ensures .1 .2) (ap (λ (b : Bool). b && shows (s .args .current) k) (sym (t .ensures .1 .1)) ∙ c .if1 .left) _ refl
+    walk-passed W R (s .args .m) (s .args .g) (shows (s .args .current)) (s .args .places) H (l .loop .heads) (l .loop .best) (l .loop .top) (l .loop .inv) k high (t .last .1 .1 .0) (t .result .next) (t .ensures .0 .0) (t .ensures .0 .1) (t .ensures .0 .2) (t .ensures .1 .2) (ap (λ (b : Bool). b && shows (s .args .current) k) (sym (t .ensures .1 .1)) ∙ c .if1 .left) _ refl
 
 same-length : tie.Need-same-length Inv-loop μ-loop
 same-length c = c .before .loop .inv .long
@@ -140,7 +140,7 @@ returns : tie.Need-returns Inv-loop μ-loop
 returns c =
     let l = c .before in
     let a = c .before .before .before .before .before .before .before .before .args in
-    walk-ended (words (a .card .now)) (a .run .now) (a .m) (a .g) (a .current) (a .places) (a .heads .now) (l .loop .heads) (l .loop .best) (l .loop .top) (l .loop .inv) (omega arith)
+    walk-ended (words (a .card .now)) (a .run .now) (a .m) (a .g) (shows (a .current)) (a .places) (a .heads .now) (l .loop .heads) (l .loop .best) (l .loop .top) (l .loop .inv) (omega arith)
 
 pub walk-spec : {M : Type 1} → statement M
 walk-spec =

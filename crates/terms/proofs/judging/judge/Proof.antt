@@ -3,6 +3,7 @@
 use mir.Val.{boolByte}
 use Rattle.lists.proofs.Prelude.{_≡_, sym, refl, ap, _∙_, suc, _≤_, _+_, _-_, arith, not-true, not-false, length, needs}
 use Rattle.words.specs.Words.{words}
+use Rattle.state.specs.Shown.{shows}
 use Rattle.keyed.specs.Groups.{topAll}
 use Rattle.kway.specs.Parts.{part}
 use Rattle.heads.specs.Heads.{view, views}
@@ -17,7 +18,7 @@ use Rattle.terms.proofs.judging.judge.Tie as tie
 abbrev Inv-loop : tie.InvT-loop
 Inv-loop card run heads₀ n current top₀ at₀ others₀ bound₀ count₀ heads top at others bound count =
     (length heads ≡ length heads₀) × Ready (words card) run n heads × (top ≡ topAll 0 (both (words card) run n heads)) × Leads (views (words card) run n heads) at others × (count + bound ≤ 65536)
-    × (toldOf current (both (words card) run n heads₀) ≡ resume current bound count (both (words card) run n heads))
+    × (toldOf (shows current) (both (words card) run n heads₀) ≡ resume (shows current) bound count (both (words card) run n heads))
 
 abbrev μ-loop : tie.MeasureT-loop
 μ-loop card run heads₀ n current top₀ at₀ others₀ bound₀ count₀ heads top at others bound count = bound
@@ -33,7 +34,7 @@ loop-holds c =
     let n = s .args .n in
     let H = s .args .heads .now in
     let l = c .before .before .leader in
-    (refl, s .pre .2, sym (top-step (views W R n H) (view W R (part 4 n H)) (l .result .top) _ _ (l .ensures .0) (reach-at W R H n (s .pre .2 .run)) (c .larger .ensures)), l .ensures .1, omega arith, start (s .args .current) _)
+    (refl, s .pre .2, sym (top-step (views W R n H) (view W R (part 4 n H)) (l .result .top) _ _ (l .ensures .0) (reach-at W R H n (s .pre .2 .run)) (c .larger .ensures)), l .ensures .1, omega arith, start (shows (s .args .current)) _)
 
 same-length : tie.Need-same-length Inv-loop μ-loop
 same-length c = c .before .before .loop .inv .0
@@ -44,7 +45,7 @@ returns c =
     let s = c .before .before .before .before .before .before .before .before .before .before in
     let gs = both (words (s .args .card .now)) (s .args .run .now) (s .args .n) (a .loop .heads) in
     let v = a .loop .inv in
-    sym (v .5 ∙ too-high (s .args .current) (a .loop .bound) (a .loop .count) gs (omega (arith, v .2, c .if1 .taken)))
+    sym (v .5 ∙ too-high (shows (s .args .current)) (a .loop .bound) (a .loop .count) gs (omega (arith, v .2, c .if1 .taken)))
 
 judge-window-requires : tie.Need-judge-window-requires Inv-loop μ-loop
 judge-window-requires c κs =
@@ -67,7 +68,7 @@ returns-2 c =
     let high : topAll 0 gs ≡ suc k = sym (v .2) ∙ omega (arith, test) in
     let low : suc k ≤ a .loop .bound = omega (arith, below, test) in
     let t = c .before .before .before .judge-window in
-    sym (v .5 ∙ faulty (s .args .current) (a .loop .bound) (a .loop .count) k gs high low (sym (t .ensures .1 .0 .0) ∙ not-true _ (c .if2 .taken)))
+    sym (v .5 ∙ faulty (shows (s .args .current)) (a .loop .bound) (a .loop .count) k gs high low (sym (t .ensures .1 .0 .0) ∙ not-true _ (c .if2 .taken)))
 
 loop-again : tie.Need-loop-again Inv-loop μ-loop
 loop-again c =
@@ -82,7 +83,7 @@ loop-again c =
     let low : suc k ≤ a .loop .bound = omega (arith, below, test) in
     let t = c .before .before .before .before .judge-window in
     let f = sym (t .ensures .1 .0 .0) ∙ not-false _ (c .before .if2 .left) in
-    (t .ensures .0 .0 ∙ v .0, t .ensures .0 .1, t .ensures .1 .0 .2, t .ensures .1 .1, omega (arith, v .4, below, test, one-most (t .result .counts)), v .5 ∙ counted (s .args .current) (a .loop .bound) (a .loop .count) k gs high low f (t .result .counts) (t .ensures .1 .0 .1) ∙ ap (resume (s .args .current) k (a .loop .count + boolByte (t .result .counts))) (sym (t .ensures .0 .2)))
+    (t .ensures .0 .0 ∙ v .0, t .ensures .0 .1, t .ensures .1 .0 .2, t .ensures .1 .1, omega (arith, v .4, below, test, one-most (t .result .counts)), v .5 ∙ counted (shows (s .args .current)) (a .loop .bound) (a .loop .count) k gs high low f (t .result .counts) (t .ensures .1 .0 .1) ∙ ap (resume (shows (s .args .current)) k (a .loop .count + boolByte (t .result .counts))) (sym (t .ensures .0 .2)))
 
 add-count : tie.Need-add-count Inv-loop μ-loop
 add-count c = omega (arith, c .before .before .before .before .before .before .before .before .loop .inv .4, one-most (c .before .before .before .before .judge-window .result .counts))
@@ -96,7 +97,7 @@ returns-3 c =
     let s = c .before .before .before .before .before .before .before .before .before in
     let gs = both (words (s .args .card .now)) (s .args .run .now) (s .args .n) (a .loop .heads) in
     let v = a .loop .inv in
-    sym (v .5 ∙ ended (s .args .current) (a .loop .bound) (a .loop .count) gs (sym (v .2) ∙ omega arith))
+    sym (v .5 ∙ ended (shows (s .args .current)) (a .loop .bound) (a .loop .count) gs (sym (v .2) ∙ omega arith))
 
 pub judge-spec : {M : Type 1} → statement M
 judge-spec =
