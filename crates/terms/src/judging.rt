@@ -1,5 +1,4 @@
 // Judging an identifier's lists: one k-way merge over its lists on the card and its part of the run.
-ghost use mathlib.Core.Bool.{_&&_};
 ghost use mathlib.Core.Path.{_≡_};
 ghost use mathlib.Core.List.{map};
 ghost use Prim.Native.Nat.{_+_, _*_, _≤_, _<_};
@@ -14,8 +13,8 @@ ghost use Rattle.heads.specs.Heads.{views};
 ghost use Rattle.heads.specs.Leads.{Leads};
 ghost use Rattle.terms.specs.Both.{Ready, both as bothOf};
 
-// What is taken under a window: whether it is well formed with sums in range, whether it shows and counts, one more than the greatest window to come, and
-// the list on the card that leads.
+// What is taken under a window: whether it is well formed with sums in range, whether it counts, one more than the greatest window to come, and the
+// list on the card that leads.
 struct Judged {
     pub fine: bool,
     pub counts: bool,
@@ -30,7 +29,7 @@ pub enum Told {
     Windows(u32),
 }
 
-// Takes the heads that have the key. The sum is judged without the run and with it, that of the open window too, which does not count.
+// Takes the heads that have the key. The sum is judged without the run and with it.
 fn judge_window(
     card: &[u8],
     run: &[u32],
@@ -39,7 +38,6 @@ fn judge_window(
     lead: u32,
     others: u32,
     key: u32,
-    current: u32,
 ) -> Judged
     requires { ⌜ (length (now heads) ≡ 4 * n + 4) × (n ≤ 51) × (key < 4294967295) × Ready (wordsOf (now card)) (now run) n (now heads)
         × Leads (views (wordsOf (now card)) (now run) n (now heads)) lead others ⌝ }
@@ -48,7 +46,7 @@ fn judge_window(
         × (bothOf (wordsOf (now (card .entry))) (now (run .entry)) n (now (heads .exit))
         ≡ moveAll key (bothOf (wordsOf (now (card .entry))) (now (run .entry)) n (now (heads .entry)))) ⌝ }
     ensures judged { λ r. ⌜ (r .fine ≡ fineAt key (bothOf (wordsOf (now (card .entry))) (now (run .entry)) n (now (heads .entry))))
-        × (r .counts ≡ (isAbove (totalZ (map (headVals key) (bothOf (wordsOf (now (card .entry))) (now (run .entry)) n (now (heads .entry))))) && shows current key))
+        × (r .counts ≡ isAbove (totalZ (map (headVals key) (bothOf (wordsOf (now (card .entry))) (now (run .entry)) n (now (heads .entry))))))
         × (r .next ≡ topAll 0 (bothOf (wordsOf (now (card .entry))) (now (run .entry)) n (now (heads .exit)))) ⌝ }
     ensures lead { λ r. ⌜ Leads (views (wordsOf (now (card .entry))) (now (run .entry)) n (now (heads .exit))) (r .at) (r .others) ⌝ }
 {
@@ -60,7 +58,7 @@ fn judge_window(
     let total = kway::added(sum, q.count);
     let ranges = kway::in_range(sum) & kway::in_range(total);
     let fine = (t.fine & q.fine) & ranges;
-    let counts = kway::above(total) & (key != current);
+    let counts = kway::above(total);
     let next = kway::larger(t.next, q.reach);
     Judged {
         fine: fine,
@@ -71,7 +69,8 @@ fn judge_window(
     }
 }
 
-// The whole merge, by falling window, where `current` is the open window's number, or 0. No list may reach a window that was passed. The heads are spent by it.
+// The whole merge, by falling window, where `current` is the open window's number, or 0: it is judged and not counted. No list may reach a window that was
+// passed. The heads are spent by it.
 pub fn judge(card: &[u8], run: &[u32], heads: &mut [u32], n: usize, current: u32) -> Told
     requires { ⌜ (length (now heads) ≡ 4 * n + 4) × (n ≤ 51) × Ready (wordsOf (now card)) (now run) n (now heads) ⌝ }
     ensures { λ r. ⌜ r ≡ toldOf (shows current) (bothOf (wordsOf (now (card .entry))) (now (run .entry)) n (now (heads .entry))) ⌝ }
@@ -87,12 +86,13 @@ pub fn judge(card: &[u8], run: &[u32], heads: &mut [u32], n: usize, current: u32
             return Told::Malformed;
         }
         let w = top - 1;
-        let t = judge_window(card, run, heads, n, at, others, w, current);
+        let t = judge_window(card, run, heads, n, at, others, w);
         let fine = t.fine;
         if !fine {
             return Told::Malformed;
         }
-        count += t.counts as u32;
+        let counts = t.counts & (w != current);
+        count += counts as u32;
         top = t.next;
         at = t.at;
         others = t.others;

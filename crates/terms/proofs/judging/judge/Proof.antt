@@ -1,7 +1,7 @@
 -- `terms::judging::judge` meets its contract. The invariant: the answer is the answer where `count` windows are counted and the heads have windows below
 -- `bound` to come.
 use mir.Val.{boolByte}
-use Rattle.lists.proofs.Prelude.{_≡_, sym, refl, ap, _∙_, suc, _≤_, _+_, _-_, arith, not-true, not-false, length, needs}
+use Rattle.lists.proofs.Prelude.{Bool, _&&_, _≡_, sym, refl, ap, _∙_, suc, _≤_, _+_, _-_, arith, not-true, not-false, length, needs}
 use Rattle.words.specs.Words.{words}
 use Rattle.state.specs.Shown.{shows}
 use Rattle.keyed.specs.Groups.{topAll}
@@ -83,10 +83,10 @@ loop-again c =
     let low : suc k ≤ a .loop .bound = omega (arith, below, test) in
     let t = c .before .before .before .before .judge-window in
     let f = sym (t .ensures .1 .0 .0) ∙ not-false _ (c .before .if2 .left) in
-    (t .ensures .0 .0 ∙ v .0, t .ensures .0 .1, t .ensures .1 .0 .2, t .ensures .1 .1, omega (arith, v .4, below, test, one-most (t .result .counts)), v .5 ∙ counted (shows (s .args .current)) (a .loop .bound) (a .loop .count) k gs high low f (t .result .counts) (t .ensures .1 .0 .1) ∙ ap (resume (shows (s .args .current)) k (a .loop .count + boolByte (t .result .counts))) (sym (t .ensures .0 .2)))
+    (t .ensures .0 .0 ∙ v .0, t .ensures .0 .1, t .ensures .1 .0 .2, t .ensures .1 .1, omega (arith, v .4, below, test, one-most (t .result .counts && shows (s .args .current) k)), v .5 ∙ counted (shows (s .args .current)) (a .loop .bound) (a .loop .count) k gs high low f (t .result .counts && shows (s .args .current) k) (ap (λ (b : Bool). b && shows (s .args .current) k) (t .ensures .1 .0 .1)) ∙ ap (resume (shows (s .args .current)) k (a .loop .count + boolByte (t .result .counts && shows (s .args .current) k))) (sym (t .ensures .0 .2)))
 
 add-count : tie.Need-add-count Inv-loop μ-loop
-add-count c = omega (arith, c .before .before .before .before .before .before .before .before .loop .inv .4, one-most (c .before .before .before .before .judge-window .result .counts))
+add-count c = omega (arith, c .before .before .before .before .before .before .before .before .loop .inv .4, one-most (c .before .before .before .before .judge-window .result .counts && shows (c .before .before .before .before .before .before .before .before .before .before .before .before .before .before .before .before .args .current) (c .before .before .before .before .before .before .before .before .loop .top - 1)))
 
 same-length-3 : tie.Need-same-length-3 Inv-loop μ-loop
 same-length-3 c = c .before .loop .inv .0

@@ -1,11 +1,10 @@
 -- `terms::judging::judge_window` meets its contract: what is taken of the lists, and then of the run.
-use Rattle.lists.proofs.Prelude.{Bool, _&&_, _≡_, sym, ap, ap₂, _∙_, _+_, _-_, _*_, _≤_, arith, _+ℤ_, length, length-take-le, needs}
+use Rattle.lists.proofs.Prelude.{_&&_, _≡_, sym, ap, ap₂, _∙_, _+_, _-_, _*_, _≤_, arith, _+ℤ_, length, length-take-le, needs}
 use mir.Facts.{toZ-ofZ}
 use mir.Syntax.{w16, w32}
 use mir.Val.{SFits}
 use Rattle.words.specs.Words.{words}
 use Rattle.postings.specs.Sums.{isAbove}
-use Rattle.state.specs.Shown.{shows}
 use Rattle.partitions.specs.Formed.{inRange}
 use Rattle.kway.specs.Parts.{part}
 use Rattle.heads.specs.Heads.{view, views}
@@ -76,7 +75,7 @@ returns c =
         (
           ap₂ _&&_ (ap₂ _&&_ (tt .1 .0 .1) (qq .3)) (ap₂ _&&_ (c .before .before .before .before .before .in-range .ensures ∙ ap inRange (toZ-ofZ fs)) (c .before .before .before .before .in-range2 .ensures ∙ ap inRange zt))
               ∙ fine-step g v k (t .result .sum) (a .result) (tt .1 .0 .0) total,
-          ap (λ (b : Bool). b && shows (s .args .current) k) (c .before .above .ensures ∙ ap isAbove zt ∙ counts-step g v k (t .result .sum) (a .result) (tt .1 .0 .0) total),
+          c .before .above .ensures ∙ ap isAbove zt ∙ counts-step g v k (t .result .sum) (a .result) (tt .1 .0 .0) total,
           rw (after-parts n H X Y (s .pre .0) front four, after-part n H X Y (s .pre .0) front four) (sym (top-step (views W R n X) (view W R Y) (t .result .next) (q .result .reach) _ (tt .1 .0 .2) (qq .4) (c .larger .ensures))),
         ),
         rw (after-parts n H X Y (s .pre .0) front four) (tt .1 .1),
