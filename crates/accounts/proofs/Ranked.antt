@@ -1,27 +1,13 @@
 -- A query by number and by name, over all windows that show and over those given, finds the same.
-use Rattle.lists.proofs.Prelude.{Bool, true, false, _||_, _&&_, cond, and-true, List, [], _∷_, foldr, map, _≡_, refl, sym, ap, ap₂, _∙_, fun-ext, ℕ, zero, suc, _+_, _*_, _<_, _≤_, arith, ltb, length, getD, take, keep, any, totalBy, down, by-test, any-none, keep-both, keep-up, and-false}
+use Rattle.lists.proofs.Prelude.{Bool, true, false, _||_, cond, List, [], _∷_, foldr, map, _≡_, refl, ap, ap₂, _∙_, fun-ext, ℕ, suc, _+_, _*_, _<_, _≤_, arith, ltb, length, getD, take, keep, any, totalBy, down, by-test, any-none, keep-down, keep-low, map-kept}
 use Rattle.weights.specs.Weights.{tfWeight, idfWeight}
+use Rattle.answers.specs.declared.Hit.{Hit}
 use Rattle.identifiers.specs.Names.{Name, among, numbersOf}
 use Rattle.identifiers.proofs.Names.{number-at}
 use Rattle.ranking.specs.Hits.{place, frequency, score, matching, ranked}
 use Rattle.accounts.proofs.Numbers.{known-is}
 
 -- ---- windows above m that are left out, or in which nothing counts, do not matter
-
--- those of the windows from M down that p and t keep are those of the windows from m down that t keeps
-keep-low : (t p : ℕ → Bool) (m M : ℕ) → m ≤ M → ((v : ℕ) → v < m → p (suc v) ≡ true) → ((v : ℕ) → m < v → p v ≡ true → t v ≡ false) → keep t (keep p (down M)) ≡ keep t (down m)
-unfolding down
-keep-low t p m M h low high =
-    sym (keep-both t p both (λ w. refl) (down M))
-    ∙ keep-up both m M h (λ v l. by-test (p v) (λ y. rw (high v l y)) (λ z. rw z (and-false (t v))))
-    ∙ all m low
-  where
-    both : ℕ → Bool
-    both w = t w && p w
-
-    all : (n : ℕ) → ((v : ℕ) → v < n → p (suc v) ≡ true) → keep both (down n) ≡ keep t (down n)
-    all zero f = refl
-    all (suc n) f = rw (f n (omega arith), and-true (t (suc n)), all n (λ v k. f v (omega arith)))
 
 pub ranked-windows : {I : Type 0} (n : ℕ) (count : I → ℕ → ℕ) (p : ℕ → Bool) (m M k : ℕ) (is : List I) → m ≤ M → ((v : ℕ) → v < m → p (suc v) ≡ true) → ((i : I) (v : ℕ) → m < v → p v ≡ true → count i v ≡ 0)
     → ranked n count (keep p (down M)) k is ≡ ranked n count (down m) k is
@@ -30,6 +16,19 @@ ranked-windows {I} n count p m M k is h low z =
     ap₂ (λ (fr : I → ℕ) (fo : List ℕ). take k (foldr place [] (map (λ w. record { window = w; score = totalBy (λ i. cond (ltb 0 (count i w)) (tfWeight (count i w) * idfWeight n (fr i)) 0) is }) fo)))
     (fun-ext λ i. ap length (keep-low (λ w. ltb 0 (count i w)) p m M h low (λ v l y. ap (ltb 0) (z i v l y))))
     (keep-low (λ w. any (λ i. ltb 0 (count i w)) is) p m M h low (λ v l y. any-none (λ i. ltb 0 (count i v)) (λ i. ap (ltb 0) (z i v l y)) is))
+
+-- ---- nor do counts outside the windows looked at
+
+pub ranked-agree : {I : Type 0} (n : ℕ) (count others : I → ℕ → ℕ) (m k : ℕ) (is : List I) → ((i : I) (v : ℕ) → v ≤ m → count i v ≡ others i v)
+    → ranked n count (down m) k is ≡ ranked n others (down m) k is
+unfolding ranked matching score frequency
+ranked-agree {I} n count others m k is e =
+    ap (λ (l : List Hit). take k (foldr place [] l))
+    (map-kept _ _ _ _ m
+    (λ v h. ap (λ (t : I → Bool). any t is) (fun-ext λ i. ap (ltb 0) (e i v h)))
+    (λ v h. ap {B = Hit} (λ (g : I → ℕ). record { window = v; score = totalBy g is })
+    (fun-ext λ i. ap₂ (λ (c f : ℕ). cond (ltb 0 c) (tfWeight c * idfWeight n f) 0) (e i v h)
+    (ap length (keep-down (λ w. ltb 0 (count i w)) (λ w. ltb 0 (others i w)) m (λ w l. ap (ltb 0) (e i w l)))))))
 
 -- ---- identifiers that the register does not have add nothing
 

@@ -1,11 +1,11 @@
--- That a refusal changes nothing goes through the forms that calls are written in.
+-- What goes through the forms that calls are written in: that a refusal changes nothing, and what holds before and of all that is left.
 use mathlib.Core.Bool.{Bool, true, false}
 use mathlib.Core.List.{List}
 use mathlib.Core.Path.{_≡_, refl}
 use Prim.Native.Nat.{ℕ}
 use native.Mathlib.Omega.{arith}
 use Rattle.answers.specs.declared.Hit.{Hit}
-use Rattle.answers.specs.Answers.{done, number, hits, Outcome, refuse, leave, refuseIf, choose, carry}
+use Rattle.answers.specs.Answers.{done, number, hits, Outcome, refuse, leave, refuseIf, choose, stateOf, carry}
 use Rattle.answers.specs.Unchanged.{Unchanged}
 
 module _ {S : Type 0} {s : S} where
@@ -32,3 +32,15 @@ module _ {S : Type 0} {s : S} where
 pub unchanged-carry : {S T : Type 0} (f : S → T) (s : S) (t : T) (o : Outcome S) → f s ≡ t → Unchanged s o → Unchanged t (carry f o)
 unchanged-carry f s t (refuse n) e h = record { same = λ m r. refl }
 unchanged-carry f s t (leave x u) e h = record { same = λ m r. rw (h .same m r) e }
+
+-- what holds of what was there before and of what the later tests leave holds afterwards
+module _ {S : Type 0} (P : S → Type 0) (s : S) where
+  pub after-if : P s → (t : Bool) (n : ℕ) (o : Outcome S) → (t ≡ false → P (stateOf s o)) → P (stateOf s (refuseIf t n o))
+  unfolding refuseIf
+  after-if here true n o h = here
+  after-if here false n o h = h refl
+
+  pub after-choose : (t : Bool) (o p : Outcome S) → (t ≡ true → P (stateOf s o)) → (t ≡ false → P (stateOf s p)) → P (stateOf s (choose t o p))
+  unfolding choose
+  after-choose true o p h k = h refl
+  after-choose false o p h k = k refl

@@ -1,8 +1,9 @@
 -- From a start on a card's bytes are those of its words, since a call writes words. So a word of all ones is four bytes 255.
-use Rattle.lists.proofs.Prelude.{Bool, true, false, List, [], _∷_, _≡_, sym, ap, _∙_, subst, ℕ, zero, suc, _/_, _%_, arith, getD, replicate, length-replicate}
+use Rattle.lists.proofs.Prelude.{Bool, List, [], _∷_, _≡_, sym, ap, _∙_, subst, ℕ, zero, suc, _/_, _%_, arith, getD, replicate, length-replicate}
 use Rattle.words.specs.Words.{words, bytes, allOnes, Below}
 use Rattle.words.proofs.Views.{words-bytes, bytes-words}
 use Rattle.answers.specs.Answers.{Outcome, refuseIf, choose, stateOf, carry}
+use Rattle.answers.proofs.Kept.{after-if, after-choose}
 use Rattle.answers.specs.declared.Hit.{Hit}
 use Rattle.state.specs.declared.State.{State}
 use Rattle.state.specs.Probe.{Store, Probe}
@@ -27,14 +28,10 @@ whole-bytes W = ap bytes (words-bytes W)
 
 module _ {S : Type 0} (f : S → List ℕ) (s : S) (here : Whole (f s)) where
   pass : (t : Bool) (n : ℕ) (o : Outcome S) → Whole (f (stateOf s o)) → Whole (f (stateOf s (refuseIf t n o)))
-  unfolding refuseIf
-  pass true n o h = here
-  pass false n o h = h
+  pass t n o h = after-if (λ (q : S). Whole (f q)) s here t n o (λ _. h)
 
   either : (t : Bool) (o p : Outcome S) → Whole (f (stateOf s o)) → Whole (f (stateOf s p)) → Whole (f (stateOf s (choose t o p)))
-  unfolding choose
-  either true o p h k = h
-  either false o p h k = k
+  either t o p h k = after-choose (λ (q : S). Whole (f q)) s t o p (λ _. h) (λ _. k)
 
   -- what follows a flush
   module _ (t : State) (card : List ℕ) (w : Whole card) (k : State → List ℕ → Outcome S) (h : (u : State) (c : List ℕ) → Whole c → Whole (f (stateOf s (k u c)))) where

@@ -4,7 +4,8 @@ use Rattle.lists.proofs.Prelude.{Bool, true, false, List, [], _∷_, inl, inr, 
 use Rattle.words.specs.Words.{words, bytes, Below}
 use Rattle.words.proofs.Views.{length-words, length-bytes}
 use Rattle.answers.specs.declared.Hit.{Hit}
-use Rattle.answers.specs.Answers.{Outcome, refuse, leave, stateOf, carry, refuseIf, choose}
+use Rattle.answers.specs.Answers.{Outcome, refuse, leave, stateOf, carry, refuseIf}
+use Rattle.answers.proofs.Kept.{after-if, after-choose}
 use Rattle.state.specs.declared.State.{State}
 use Rattle.state.specs.Views.{blocks}
 use Rattle.state.specs.Rules.{stateRule}
@@ -44,18 +45,6 @@ by-words card n small long W′ l m =
     record { long = omega (arith, length-bytes W′, length-words card); rule = moves-bytes card W′ small (omega arith) l m }
 
 -- Outcomes ---------------------------------------------------------------------------------------------------------------
-
--- what holds of what was there before and of what the later tests leave holds afterwards
-module _ {S : Type 0} (P : S → Type 0) (s : S) where
-  after-if : P s → (t : Bool) (n : ℕ) (o : Outcome S) → (t ≡ false → P (stateOf s o)) → P (stateOf s (refuseIf t n o))
-  unfolding refuseIf
-  after-if here true n o h = here
-  after-if here false n o h = h refl
-
-  after-choose : (t : Bool) (o p : Outcome S) → (t ≡ true → P (stateOf s o)) → (t ≡ false → P (stateOf s p)) → P (stateOf s (choose t o p))
-  unfolding choose
-  after-choose true o p h k = h refl
-  after-choose false o p h k = k refl
 
 -- of the whole from the part that a call works on
 after-carry : {S T : Type 0} (P : T → Type 0) (f : S → T) (s : S) (t : T) (o : Outcome S) → P t → P (f (stateOf s o)) → P (stateOf t (carry f o))

@@ -1,8 +1,8 @@
 -- Laws of tests over lists.
-use mathlib.Core.Bool.{Bool, true, false, _&&_, _||_, true≢false}
-use mathlib.Core.List.{List, [], _∷_, _++_, List·Memᴰ, List·Memᴰ·not-nil, List·Memᴰ·cases-cons, List·Memᴰ·head, List·Memᴰ·tail}
+use mathlib.Core.Bool.{Bool, true, false, _&&_, _||_, and-true, and-false, true≢false}
+use mathlib.Core.List.{List, [], _∷_, _++_, map, List·Memᴰ, List·Memᴰ·not-nil, List·Memᴰ·cases-cons, List·Memᴰ·head, List·Memᴰ·tail}
 use mathlib.Core.Logic.{⊎-elim}
-use mathlib.Core.Path.{_≡_, refl, ap, ap₂, _∙_}
+use mathlib.Core.Path.{_≡_, refl, sym, ap, ap₂, _∙_}
 use Prim.Native.Nat.{ℕ, zero, suc, _+_, _<_, _≤_}
 use native.Mathlib.Omega.{arith}
 use lib.ListN.{length, getD, take, drop, replicate}
@@ -137,3 +137,28 @@ keep-up t m zero h k = let e : m ≡ 0 = omega arith in rw e
 keep-up t m (suc n) h k =
     by-test (eqb m (suc n)) (λ y. rw (eqb-true m (suc n) y))
     (λ f. let d = eqb-false m (suc n) f in rw (k (suc n) (omega arith)) (keep-up t m n (omega arith) k))
+
+-- where p passes 1 to m, and t nothing above m that p passes, both keep of 1 to M what t keeps of 1 to m
+pub keep-low : (t p : ℕ → Bool) (m M : ℕ) → m ≤ M → ((v : ℕ) → v < m → p (suc v) ≡ true) → ((v : ℕ) → m < v → p v ≡ true → t v ≡ false) → keep t (keep p (down M)) ≡ keep t (down m)
+unfolding down
+keep-low t p m M h low high =
+    sym (keep-both t p both (λ w. refl) (down M))
+    ∙ keep-up both m M h (λ v l. by-test (p v) (λ y. rw (high v l y)) (λ z. rw z (and-false (t v))))
+    ∙ all m low
+  where
+    both : ℕ → Bool
+    both w = t w && p w
+
+    all : (n : ℕ) → ((v : ℕ) → v < n → p (suc v) ≡ true) → keep both (down n) ≡ keep t (down n)
+    all zero f = refl
+    all (suc n) f = rw (f n (omega arith), and-true (t (suc n)), all n (λ v k. f v (omega arith)))
+
+-- tests and functions that agree on 1 to n have the same values of what is kept
+pub map-kept : {A : Type 0} (f g : ℕ → A) (t u : ℕ → Bool) (m : ℕ) → ((v : ℕ) → v ≤ m → t v ≡ u v) → ((v : ℕ) → v ≤ m → f v ≡ g v) → map f (keep t (down m)) ≡ map g (keep u (down m))
+unfolding down
+map-kept f g t u zero a b = refl
+map-kept f g t u (suc m) a b =
+    let rest = map-kept f g t u m (λ v h. a v (omega arith)) (λ v h. b v (omega arith)) in
+    by-test (u (suc m))
+    (λ y. rw (a (suc m) (omega arith), y) (ap₂ _∷_ (b (suc m) (omega arith)) rest))
+    (λ z. rw (a (suc m) (omega arith), z) rest)
