@@ -1,5 +1,5 @@
 -- What counting an event asks for, from its admission and its flush's target.
-use Rattle.lists.proofs.Prelude.{Bool, true, false, _&&_, not, List, [], _≡_, refl, sym, ap, subst, _∙_, ℕ, zero, suc, _/_, _<_, _≤_, arith, eqb, leb, length, length-take, leb-true, leb-false, eqb-true, eqb-false, le-leb, lt-leb, not-false, any, elem, empty, by-test, empty-length}
+use Rattle.lists.proofs.Prelude.{Bool, true, false, _&&_, not, List, [], _≡_, refl, sym, ap, subst, _∙_, ℕ, _/_, _<_, _≤_, arith, eqb, leb, length, length-take, leb-true, leb-false, eqb-true, eqb-false, le-leb, lt-leb, not-false, any, elem, empty, by-test, empty-length}
 use Rattle.postings.specs.Order.{samePair}
 use Rattle.state.specs.declared.State.{State}
 use Rattle.state.specs.Views.{registerSize, listed, buffered}
@@ -61,10 +61,6 @@ and-none : (a b : Bool) → (not a && b) ≡ false → a ≡ false → b ≡ fal
 and-none true b e f = let z : _≡_ {A = ℕ} 0 1 = cc in absurd (omega arith)
 and-none false b e f = e
 
-open-some : (c : ℕ) → not (eqb c 0) ≡ true → 1 ≤ c
-open-some zero e = let z : _≡_ {A = ℕ} 0 1 = cc in absurd (omega arith)
-open-some (suc c) e = omega arith
-
 module _ (p : Probe) (n : Name) (i : ℕ) (a : Admitted p n i) where
   -- its number is a place of the register
   number-placed : i < length (p .register) / 65
@@ -92,10 +88,8 @@ module _ (p : Probe) (n : Name) (i : ℕ) (a : Admitted p n i) where
       let k = state-kept s (a .rule) in
       let short : length (buffered (s .buffer)) ≤ 128 = omega (arith, k .buffer .used, length-take (s .buffer .used) (s .buffer .postings)) in
       record {
-        windowsKept = r .windows;
         listedKept = r .listed;
         bufferKept = r .buffer;
-        current = open-some (s .windows .current) (a .current);
         events = events-left p n i a;
         small = number-small;
         identifiers = listed-room;
@@ -111,10 +105,8 @@ module _ (p : Probe) (n : Name) (i : ℕ) (a : Admitted p n i) where
       let s = p .state in
       let r = rules-of s (a .rule) in
       record {
-        windowsKept = r .windows;
         listedKept = r .listed;
         bufferKept = buffer-rule (s .windows) [] (omega arith) refl refl;
-        current = open-some (s .windows .current) (a .current);
         events = events-left p n i a;
         small = number-small;
         identifiers = listed-room;

@@ -15,7 +15,7 @@ use Rattle.state.specs.declared.Windows.{Windows}
 use Rattle.state.specs.declared.Listed.{Listed}
 use Rattle.state.specs.declared.State.{State}
 use Rattle.state.specs.Views.{listed, buffered}
-use Rattle.state.specs.Rules.{windowsRule, listedRule, bufferRule, stateRule}
+use Rattle.state.specs.Rules.{listedRule, bufferRule, stateRule}
 use Rattle.state.specs.Probe.{Probe}
 use Rattle.identifiers.specs.Names.{Name, badLength, numberOf}
 use Rattle.identifiers.specs.Register.{names, registerRule}
@@ -63,13 +63,11 @@ pub record Placed (register : List ℕ) (n : Name) (i : ℕ) : Type 0 where
   pub number : i ≡ numberOf (names register) n
   pub inside : 65 * i + 65 ≤ length register
 
--- an event of identifier i can be counted: the parts that it changes keep their rules, a window is open and below its most events, and there is
--- room for the identifier and for its pair
+-- an event of identifier i can be counted: the lists that it changes keep their rules, the window is below its most events, and there is room for the
+-- identifier and for its pair
 pub record Countable (s : State) (i : ℕ) : Type 0 where
-  pub windowsKept : windowsRule (s .windows) ≡ true
   pub listedKept : listedRule (s .windows) (s .listed) ≡ true
   pub bufferKept : bufferRule (s .windows) (s .buffer) ≡ true
-  pub current : 1 ≤ s .windows .current
   pub events : s .windows .events < 32767
   pub small : i ≤ 1023
   pub identifiers : elem i (listed (s .listed)) ≡ false → length (listed (s .listed)) < 64
