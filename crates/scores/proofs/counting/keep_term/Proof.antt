@@ -36,30 +36,20 @@ cast-weigh c =
     let few : Below 4294967296 (s .args .run .now) = λ j. omega (arith, c .before .before .before .before .before .before .before .before .before .before .before .before .before .before .before .before .before .before .before .before .before .shared-slice-known2 .given j) in
     let rules = rule-each (s .args .s .windows) (buffered (s .args .s .buffer)) (k .buffer .rules) in
     let o = c .before .before .before .before .before .before .before .before .before .before .before .before .before .before .before .before .open-heads in
-    let W = words (s .args .card .now) in
-    let R = s .args .run .now in
-    let n = s .args .s .partitions .used in
     let H = o .last .1 .1 .0 in
-    let G = s .args .group .now in
     let told = sym (c .before .before .before .before .before .before .judge .ensures) ∙ c .before .before .told .given .1 in
-    let P = c .before .before .before .before .before .before .before .before .before .before .before .copy .last .0 in
-    let d = copied W R n H G P (s .pre .5) (o .ensures .long) (c .before .before .before .before .before .before .before .before .before .before .before .copy .ensures) (o .ensures .ready) in
     record { fits = omega (arith, windows-few (words (s .args .card .now)) (s .args .run .now) (s .args .s) (s .args .id) H (o .ensures) small few (k .buffer .order) rules _ told) }
 
 weigh-requires : tie.Need-weigh-requires
 weigh-requires c κs =
     let s = c .before .before .before .before .before .before .before .before .before .before .before .before .before .before .before .before .before .before .before .before .before .before .before in
     let k = state-kept (s .args .s) (s .pre .0) in
-    let small = words-below (s .args .card .now) (λ j. omega (arith, c .before .before .before .before .before .before .before .before .before .before .before .before .before .before .before .before .before .before .before .before .before .before .shared-slice-known .given j)) in
-    let few : Below 4294967296 (s .args .run .now) = λ j. omega (arith, c .before .before .before .before .before .before .before .before .before .before .before .before .before .before .before .before .before .before .before .before .before .shared-slice-known2 .given j) in
-    let rules = rule-each (s .args .s .windows) (buffered (s .args .s .buffer)) (k .buffer .rules) in
     let o = c .before .before .before .before .before .before .before .before .before .before .before .before .before .before .before .before .open-heads in
     let W = words (s .args .card .now) in
     let R = s .args .run .now in
     let n = s .args .s .partitions .used in
     let H = o .last .1 .1 .0 in
     let G = s .args .group .now in
-    let told = sym (c .before .before .before .before .before .before .judge .ensures) ∙ c .before .before .told .given .1 in
     let P = c .before .before .before .before .before .before .before .before .before .before .before .copy .last .0 in
     let d = copied W R n H G P (s .pre .5) (o .ensures .long) (c .before .before .before .before .before .before .before .before .before .before .before .copy .ensures) (o .ensures .ready) in
     (d .0, omega (arith, k .partitions .used), d .1)
