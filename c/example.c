@@ -1,4 +1,5 @@
-/* Counts events in nine windows, with a flush after each, merges the partitions a step at a time, and queries before, between and after. */
+/* Counts events in nine windows, with a flush after each, merges the partitions a step at a time, and queries before, between and after. Tells the
+ * mean count of an identifier before a removal and after. */
 #include "gemsilver.h"
 
 #include <stdio.h>
@@ -35,6 +36,17 @@ static void query(void) {
     printf("\n");
 }
 
+static void mean(const char *identifier) {
+    uint64_t found = gemsilver_mean(image, sizeof image, card, sizeof card, reg, sizeof reg, (const uint8_t *)identifier,
+                                    strlen(identifier));
+    if (gemsilver_mean_refusal(found) != 0) {
+        told("mean", gemsilver_mean_refusal(found));
+        return;
+    }
+    printf("%s counts in %u windows: %u each, %u left over\n", identifier, (unsigned)gemsilver_mean_windows(found),
+           (unsigned)gemsilver_mean_quotient(found), (unsigned)gemsilver_mean_remainder(found));
+}
+
 int main(void) {
     told("start", gemsilver_start(image, sizeof image, card, sizeof card, reg, sizeof reg));
     for (int window = 1; window <= 9; window++) {
@@ -55,8 +67,11 @@ int main(void) {
         told("flush", gemsilver_flush(image, sizeof image, card, sizeof card));
     }
     query();
+    mean("LUCKY");
     told("remove", gemsilver_remove(image, sizeof image, card, sizeof card, 9));
     query();
+    mean("LUCKY");
+    mean("COIN"); /* counted in no window */
     uint32_t steps = 0;
     while (gemsilver_step(image, sizeof image, card, sizeof card) == 0) {
         steps++;

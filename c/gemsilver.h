@@ -1,4 +1,4 @@
-/* Gemsilver for C and C++: counts events by identifier in windows of play, keeps them on a card, and finds the closed windows that match best.
+/* Gemsilver for C and C++: counts events by identifier in windows of play, keeps them on a card, finds the closed windows that match best, and tells the mean count of an identifier.
  *
  * The caller lends three buffers and hands them back to the next call as they were left: the state's image, the card and the register.
  * docs/FORMAT.md tells them byte by byte. They belong together: save all three or none, and at the same moment.
@@ -15,8 +15,8 @@
  * The archive: `rt staticlib capi` writes target/staticlib/libcapi.a, for x86-64 Linux. It uses no heap and keeps nothing of its own; of the C
  * library it needs memcpy and memset alone.
  *
- * Stack, in bytes as measured on x86-64 (docs/PERFORMANCE.md); leave some more: start 1,720, open 4,920, close 4,632, event 14,872, flush 10,440, remove 14,888,
- * step 15,128, query 20,280. */
+ * Stack, in bytes as measured on x86-64 (docs/PERFORMANCE.md); leave some more: start 1,720, open 4,904, close 4,632, event 11,208, flush 10,312, remove 12,104,
+ * step 12,136, query 12,232, mean 9,000. */
 #ifndef GEMSILVER_H
 #define GEMSILVER_H
 
@@ -54,7 +54,8 @@ enum gemsilver_refusal {
     GEMSILVER_HALF_FULL = 11,
     GEMSILVER_TOO_FEW_FREE = 12,
     GEMSILVER_NOTHING_DUE = 13,
-    GEMSILVER_BAD_QUERY = 14
+    GEMSILVER_BAD_QUERY = 14,
+    GEMSILVER_UNCOUNTED = 15
 };
 
 /* A refusal's number in words; of any other number that it is none. */
@@ -88,6 +89,8 @@ static inline const char *gemsilver_refusal_text(uint32_t refusal) {
         return "no merge is in progress and none is due";
     case GEMSILVER_BAD_QUERY:
         return "no identifiers, more than 5 or one twice, or a list of no places or more than 32";
+    case GEMSILVER_UNCOUNTED:
+        return "the identifier counts in no closed window";
     default:
         return "no refusal";
     }
@@ -158,6 +161,29 @@ static inline uint32_t gemsilver_hit_window(const uint8_t *hits, size_t place) {
 
 static inline uint32_t gemsilver_hit_score(const uint8_t *hits, size_t place) {
     return gemsilver_word(hits + GEMSILVER_HIT * place + 4);
+}
+
+/* The mean count of an identifier over the closed windows in which it counts: the sum of its counts there, divided by the number of these windows, as a
+ * quotient and a remainder. The open window is none of them, wherever its counts lie. It only reads. What it gives is taken apart by the functions below. */
+uint64_t gemsilver_mean(const uint8_t *image, size_t image_length, const uint8_t *card, size_t card_length, const uint8_t *reg,
+                        size_t reg_length, const uint8_t *identifier, size_t identifier_length);
+
+/* Of what a mean gave: its refusal, 0 where it is none, and all else is 0 where it is one; in how many closed windows the identifier counts; the remainder,
+ * below that number; the quotient. Quotient x windows + remainder is the sum: at most 65,535 x 32,767, which fits 32 bits. */
+static inline uint32_t gemsilver_mean_refusal(uint64_t mean) {
+    return (uint32_t)(mean % 65536);
+}
+
+static inline uint32_t gemsilver_mean_windows(uint64_t mean) {
+    return (uint32_t)(mean / 65536 % 65536);
+}
+
+static inline uint32_t gemsilver_mean_remainder(uint64_t mean) {
+    return (uint32_t)((mean >> 32) % 65536);
+}
+
+static inline uint32_t gemsilver_mean_quotient(uint64_t mean) {
+    return (uint32_t)(mean >> 48);
 }
 
 /* 1 where a register keeps its rule: 1 to 1,024 whole entries, used ones first and all different, unused ones zero; else 0. */

@@ -1,5 +1,5 @@
 -- The engine on lists answers every call as ledger and account do, and leaves the lists that stand for what they leave.
-use Rattle.lists.proofs.Prelude.{Bool, true, false, _||_, _&&_, not, cond, true≢false, List, [], _∷_, map, _≡_, refl, sym, ap, ap₂, _∙_, fun-ext, subst, ℕ, suc, _+_, _-_, _*_, _<_, _≤_, arith, eqb, ltb, leb, pos, length, getD, length-map, eqb-true, eqb-false, ne-eqb, ltb-true, ltb-false, le-ltb, not-true, not-false, empty, by-test, empty-is}
+use Rattle.lists.proofs.Prelude.{Bool, true, false, _||_, _&&_, not, cond, true≢false, List, [], _∷_, map, _≡_, refl, sym, ap, ap₂, _∙_, fun-ext, subst, ℕ, suc, _+_, _-_, _*_, _<_, _≤_, arith, eqb, ltb, leb, pos, length, getD, length-map, eqb-true, eqb-false, ne-eqb, ltb-true, ltb-false, le-ltb, not-true, not-false, empty, totalBy, by-test, empty-is}
 use Rattle.postings.specs.declared.Posting.{Posting}
 use Rattle.postings.specs.Merge.{put, nonzero, negated}
 use Rattle.postings.specs.Sums.{above}
@@ -11,17 +11,18 @@ use Rattle.state.specs.Shown as S
 use Rattle.buffer.proofs.Canonical.{buffered-of}
 use Rattle.identifiers.specs.Names.{Name, badLength, among, numberOf, numbersOf}
 use Rattle.events.proofs.Pairs.{pair-kept}
-use Rattle.ranking.specs.Hits.{ranked}
+use Rattle.ranking.specs.Hits.{frequency, ranked}
+use Rattle.averages.specs.Average.{total, averaged}
 use Rattle.removals.specs.Removal.{countsOf, isLive}
-use Rattle.engine.specs.Calls.{Call, Open, Event, Close, Remove, Flush, Step, Query}
+use Rattle.engine.specs.Calls.{Call, Open, Event, Close, Remove, Flush, Step, Query, Mean}
 use Rattle.accounts.specs.Account.{Account, storedIn, takenFrom, blocksIn, blocksAhead, steppedAccount, flushedAccount, overflows, exceeds, addedTo, stepping, flushing, flushingIf}
 use Rattle.accounts.specs.Ledger.{Ledger, live, shown, existing, opens, closes, including, counts, removes, byNumber}
 use Rattle.accounts.specs.Books.{once, takenBack, Books, books}
-use Rattle.accounts.specs.Lists.{Lists, isOpen, openedLists, closedLists, onceOf, countedLists, removedLists, countOf, removingLists, pursued, listsCall}
+use Rattle.accounts.specs.Lists.{Lists, isOpen, openedLists, closedLists, onceOf, countedLists, removedLists, countOf, frequencyOf, totalOf, removingLists, pursued, listsCall}
 use Rattle.accounts.proofs.Stored.{levelOf}
 use Rattle.accounts.proofs.Shaped.{Roomed, asBefore, emptied, event-room, removal-room}
 use Rattle.accounts.proofs.Numbers.{new-is, noted-is, elem-numbers, numbers-including}
-use Rattle.accounts.proofs.Ranked.{ranked-windows, ranked-names}
+use Rattle.accounts.proofs.Ranked.{frequency-windows, total-windows, ranked-windows, frequency-none, total-none, one-query, ranked-names}
 use Rattle.accounts.proofs.Live.{not-live, existing-opens, existing-closes, existing-counts, existing-removes}
 use Rattle.accounts.proofs.Lawful.{Lawful}
 use Rattle.accounts.proofs.Held.{counts-back, counts-live, counts-length, length-back}
@@ -157,35 +158,60 @@ module _ (blocks entries : ℕ) (l : Ledger) (a : Account) (k : Kept blocks entr
   counts-read = fun-ext λ i. fun-ext λ w. ap above (k .sums i w)
 
   -- of the windows that show in the lists, those that the ledger has not count nothing
+  highest : ℕ
+  highest = cond (l .isOpen) (l .last - 1) (l .last)
+
+  fits : highest ≤ 65535
+  unfolding highest
+  fits = by-test (l .isOpen) (λ o. rw o (omega (arith, k .lawful .lastFits))) (λ n. rw n (k .lawful .lastFits))
+
+  low : (v : ℕ) → v < highest → S.shows (windowsOf l .current) (suc v) ≡ true
+  unfolding highest
+  low v h =
+      by-test (l .isOpen)
+      (λ o. let b : v < l .last - 1 = rw o at h in rw o (ap not (ne-eqb (suc v) (l .last) (λ q. omega arith))))
+      (λ n. rw n (ap not (ne-eqb (suc v) 0 (λ q. omega arith))))
+
+  high : (i v : ℕ) → highest < v → S.shows (windowsOf l .current) v ≡ true → byNumber l i v ≡ 0
+  unfolding highest
+  high i v h e =
+      by-test (l .isOpen)
+      (λ o. let b : l .last - 1 < v = rw o at h in
+      let d = eqb-false v (l .last) (not-true _ (rw o at e)) in
+      k .lawful .unborn (getD (l .identifiers) i []) v (omega arith))
+      (λ n. k .lawful .unborn (getD (l .identifiers) i []) v (rw n at h))
+
   shown-same : (m : ℕ) (is : List ℕ) → ranked (existing l) (byNumber l) (S.shown (windowsOf l)) m is ≡ ranked (existing l) (byNumber l) (shown l) m is
-  unfolding S.shown shown
+  unfolding S.shown shown highest
   shown-same m is = ranked-windows (existing l) (byNumber l) (S.shows (windowsOf l .current)) highest 65535 m is fits low high
-    where
-      highest : ℕ
-      highest = cond (l .isOpen) (l .last - 1) (l .last)
-
-      fits : highest ≤ 65535
-      fits = by-test (l .isOpen) (λ o. rw o (omega (arith, k .lawful .lastFits))) (λ n. rw n (k .lawful .lastFits))
-
-      low : (v : ℕ) → v < highest → S.shows (windowsOf l .current) (suc v) ≡ true
-      low v h =
-          by-test (l .isOpen)
-          (λ o. let b : v < l .last - 1 = rw o at h in rw o (ap not (ne-eqb (suc v) (l .last) (λ q. omega arith))))
-          (λ n. rw n (ap not (ne-eqb (suc v) 0 (λ q. omega arith))))
-
-      high : (i v : ℕ) → highest < v → S.shows (windowsOf l .current) v ≡ true → byNumber l i v ≡ 0
-      high i v h e =
-          by-test (l .isOpen)
-          (λ o. let b : l .last - 1 < v = rw o at h in
-          let d = eqb-false v (l .last) (not-true _ (rw o at e)) in
-          k .lawful .unborn (getD (l .identifiers) i []) v (omega arith))
-          (λ n. k .lawful .unborn (getD (l .identifiers) i []) v (rw n at h))
 
   pub query-same : (m : ℕ) (ns : List Name) → ranked (existing l) (countOf a) (S.shown (windowsOf l)) m (numbersOf (l .identifiers) ns) ≡ ranked (existing l) (l .count) (shown l) m ns
   query-same m ns =
       ap (λ (c : ℕ → ℕ → ℕ). ranked (existing l) c (S.shown (windowsOf l)) m (numbersOf (l .identifiers) ns)) counts-read
       ∙ shown-same m (numbersOf (l .identifiers) ns)
       ∙ ranked-names (existing l) (l .count) (l .identifiers) ns (shown l) m (λ n w z. k .lawful .uncounted n w z)
+
+  -- ---- a mean
+
+  frequency-same : (n : Name) → frequencyOf (listsOf l a) n ≡ frequency (l .count) (shown l) n
+  unfolding frequencyOf frequency
+  frequency-same n =
+      ap (λ (g : ℕ → ℕ). totalBy g (numbersOf (l .identifiers) (n ∷ [])))
+      (ap (λ (c : ℕ → ℕ → ℕ). frequency c (S.shown (windowsOf l))) counts-read ∙ fun-ext each)
+      ∙ one-query (frequency (l .count) (shown l)) (l .identifiers) n (λ m z. frequency-none (l .count) m (λ w. k .lawful .uncounted m w z) (shown l))
+    where
+      each : (i : ℕ) → frequency (byNumber l) (S.shown (windowsOf l)) i ≡ frequency (byNumber l) (shown l) i
+      each i = unfold S.shown shown highest in frequency-windows (byNumber l) (S.shows (windowsOf l .current)) highest 65535 fits low i (high i)
+
+  total-same : (n : Name) → totalOf (listsOf l a) n ≡ total (l .count) (shown l) n
+  unfolding totalOf total
+  total-same n =
+      ap (λ (g : ℕ → ℕ). totalBy g (numbersOf (l .identifiers) (n ∷ [])))
+      (ap (λ (c : ℕ → ℕ → ℕ). total c (S.shown (windowsOf l))) counts-read ∙ fun-ext each)
+      ∙ one-query (total (l .count) (shown l)) (l .identifiers) n (λ m z. total-none (l .count) m (λ w. k .lawful .uncounted m w z) (shown l))
+    where
+      each : (i : ℕ) → total (byNumber l) (S.shown (windowsOf l)) i ≡ total (byNumber l) (shown l) i
+      each i = unfold S.shown shown highest in total-windows (byNumber l) (S.shows (windowsOf l .current)) highest 65535 fits low i (high i)
 
 -- ---- outcomes that are alike
 
@@ -289,6 +315,10 @@ module _ (blocks entries : ℕ) where
         refusing _ _ 4 _ _ refl λ _. refusing _ _ 14 _ _ refl λ _.
         subst (λ hs. Alike blocks entries (leave (hits hs (takenFrom (numbersOf (l .identifiers) ns) a)) (listsOf l a)) (leave (hits (ranked (existing l) (l .count) (shown l) m ns) (takenFrom (numbersOf (l .identifiers) ns) a)) (record { ledger = l; account = a })))
         (sym (query-same blocks entries l a k m ns)) (bothLeave refl k)
+    pursued-alike (Mean n) =
+        refusing _ _ 4 _ _ refl λ _. refusing _ _ 15 _ _ (ap (λ f. eqb f 0) (frequency-same blocks entries l a k n)) λ _.
+        subst (λ x. Alike blocks entries (leave x (listsOf l a)) (leave (averaged (frequency (l .count) (shown l) n) (total (l .count) (shown l) n)) (record { ledger = l; account = a })))
+        (sym (ap₂ averaged (frequency-same blocks entries l a k n) (total-same blocks entries l a k n))) (bothLeave refl k)
 
     -- refusals 1 and 3 are not given
     pub unrefused : (c : Call) → listsCall blocks entries (listsOf l a) c ≡ pursued blocks entries (listsOf l a) c

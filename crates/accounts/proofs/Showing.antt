@@ -5,7 +5,7 @@ use Rattle.answers.specs.declared.Hit.{Hit}
 use Rattle.answers.proofs.Kept.{after-if, after-choose}
 use Rattle.identifiers.specs.Names.{Name, among}
 use Rattle.ranking.specs.Hits.{ranked}
-use Rattle.engine.specs.Calls.{Call, Open, Event, Close, Remove, Flush, Step, Query}
+use Rattle.engine.specs.Calls.{Call, Open, Event, Close, Remove, Flush, Step, Query, Mean}
 use Rattle.accounts.specs.Account.{Account, stepping, flushing, flushingIf}
 use Rattle.accounts.specs.Ledger.{Ledger, shown, existing, opens, counts}
 use Rattle.accounts.specs.Books.{Books, showing, books, booksCall}
@@ -78,3 +78,4 @@ module _ (blocks entries : ℕ) (b : Books) (s : Lawful entries (b .ledger)) (k 
   hits-stay Flush e = stays-flush b Same refl blocks (b .account) _ (λ a. refl)
   hits-stay Step e = stays-step b Same refl blocks (b .account) _ (λ a. refl)
   hits-stay (Query j ms) e = after-if Same b refl _ 4 _ λ _. after-if Same b refl _ 14 _ λ _. refl
+  hits-stay (Mean n) e = after-if Same b refl _ 4 _ λ _. after-if Same b refl _ 15 _ λ _. refl

@@ -21,7 +21,7 @@ use Rattle.partitions.specs.Layout.{lengthOf}
 use Rattle.partitions.specs.Formed.{listRule, inRange, sumsInRange}
 use Rattle.removals.specs.Removal.{countsOf}
 use Rattle.plans.specs.Merging.{isLast}
-use Rattle.engine.specs.Calls.{Call, Open, Event, Close, Remove, Flush, Step, Query}
+use Rattle.engine.specs.Calls.{Call, Open, Event, Close, Remove, Flush, Step, Query, Mean}
 use Rattle.accounts.specs.Account.{Portion, Account, postingsIn, storedIn, blocksOf, blocksIn, blocksAhead, dueOf, inputsOf}
 use Rattle.accounts.specs.Ledger.{Ledger, live, existing, byNumber}
 use Rattle.accounts.specs.Lists.{Lists, recordLike, listsRule, identifierRule, windowRule, inputsRule, callRule}
@@ -238,6 +238,10 @@ module _ (blocks entries : ℕ) (l : Ledger) (a : Account) (k : Kept blocks entr
           by-test (eqb (a .steps) 0) (λ y. rw y)
           (λ n. let d = eqb-false (a .steps) 0 n in rw (n, lt-leb (length (pairs (inputsOf a))) (16 * a .steps) (k .shaped .progress (omega arith))))
 
+  identifiers-formed : (is : List ℕ) → every (identifierRule a) is ≡ true
+  identifiers-formed [] = refl
+  identifiers-formed (i ∷ is) = and-both (identifierRule a i) _ (identifier-formed i) (identifiers-formed is)
+
   pub call-formed : (c : Call) → callRule (listsOf l a) c ≡ true
   unfolding callRule
   call-formed Open = refl
@@ -246,8 +250,5 @@ module _ (blocks entries : ℕ) (l : Ledger) (a : Account) (k : Kept blocks entr
   call-formed (Remove w) = window-formed w
   call-formed Flush = refl
   call-formed Step = inputs-formed
-  call-formed (Query m ns) = all (numbersOf (l .identifiers) ns)
-    where
-      all : (is : List ℕ) → every (identifierRule a) is ≡ true
-      all [] = refl
-      all (i ∷ is) = and-both (identifierRule a i) _ (identifier-formed i) (all is)
+  call-formed (Query m ns) = identifiers-formed (numbersOf (l .identifiers) ns)
+  call-formed (Mean n) = identifiers-formed (numbersOf (l .identifiers) (n ∷ []))

@@ -1,10 +1,10 @@
 -- What ledger and account say is never refusal 1, 2 or 3: these are of what the probe remembers and was lent.
 use Rattle.lists.proofs.Prelude.{Bool, true, false, List, [], _∷_, ℕ, _≤_, arith, AllOf}
 use Rattle.answers.specs.Answers.{Outcome, refuseIf, choose, answerOf}
-use Rattle.engine.specs.Calls.{Call, Open, Event, Close, Remove, Flush, Step, Query, run}
+use Rattle.engine.specs.Calls.{Call, Open, Event, Close, Remove, Flush, Step, Query, Mean, run}
 use Rattle.accounts.specs.Account.{Account, stepping, flushing, flushingIf}
 use Rattle.accounts.specs.Ledger.{Ledger}
-use Rattle.accounts.specs.Books.{Books, Granted, isDone, isNumber, isHits, isLater, books, booksCall, expected}
+use Rattle.accounts.specs.Books.{Books, Granted, isDone, isNumber, isHits, isMean, isLater, books, booksCall, expected}
 
 -- one test
 later : (t : Bool) (n : ℕ) (o : Outcome Books) → 4 ≤ n → Granted (answerOf o) → Granted (answerOf (refuseIf t n o))
@@ -40,6 +40,7 @@ module _ (blocks entries : ℕ) where
   books-granted l a Flush = flush-granted a _ (λ b. isDone)
   books-granted l a Step = step-granted a _ (λ b. isDone)
   books-granted l a (Query k ns) = later _ 4 _ (omega arith) (later _ 14 _ (omega arith) isHits)
+  books-granted l a (Mean n) = later _ 4 _ (omega arith) (later _ 15 _ (omega arith) isMean)
 
   run-granted : (cs : List Call) (b : Books) → AllOf Granted (run (booksCall blocks entries) b cs)
   unfolding run AllOf

@@ -1,5 +1,5 @@
--- The ledger with the account beside it: what each call is to answer. Window numbers, hits, scores and refusals 4 to 9 and 14 come from the
--- ledger alone; refusals 10 to 13 and the postings taken from the account.
+-- The ledger with the account beside it: what each call is to answer. Window numbers, hits, scores and means, and refusals 4 to 9, 14 and 15 come
+-- from the ledger alone; refusals 10 to 13 and the postings taken from the account.
 use mathlib.Core.Bool.{Bool, true, false, _&&_, not, cond}
 use mathlib.Core.List.{List, [], _∷_}
 use Prim.Native.Nat.{ℕ, suc, _≤_}
@@ -9,14 +9,15 @@ use lib.ListN.{length, getD}
 use Rattle.lists.specs.Lists.{any, upTo}
 use Rattle.postings.specs.declared.Posting.{Posting}
 use Rattle.postings.specs.Merge.{isZero}
-use Rattle.answers.specs.Answers.{Answer, done, number, hits, refused, Outcome, leave}
+use Rattle.answers.specs.Answers.{Answer, done, number, hits, mean, refused, Outcome, leave}
 use Rattle.answers.specs.Order as order
 use Rattle.answers.specs.Order.{past, admit}
 use Rattle.answers.specs.declared.Hit.{Hit}
 use Rattle.identifiers.specs.Names.{Name, badLength, among, numberOf, numbersOf}
-use Rattle.ranking.specs.Hits.{ranked}
+use Rattle.ranking.specs.Hits.{frequency, ranked}
 use Rattle.ranking.specs.Asked.{badQuery}
-use Rattle.engine.specs.Calls.{Call, Open, Event, Close, Remove, Flush, Step, Query, run}
+use Rattle.averages.specs.Average.{total, averaged}
+use Rattle.engine.specs.Calls.{Call, Open, Event, Close, Remove, Flush, Step, Query, Mean, run}
 use Rattle.accounts.specs.Account.{Account, emptyAccount, takenFrom, overflows, exceeds, addedTo, stepping, flushing, flushingIf}
 use Rattle.accounts.specs.Ledger.{Ledger, emptyLedger, live, shown, existing, opens, closes, counts, removes}
 
@@ -42,6 +43,7 @@ pub data Granted : Answer → Type 0 where
   isDone : Granted done
   isNumber : {n : ℕ} → Granted (number n)
   isHits : {hs : List Hit} {n : ℕ} → Granted (hits hs n)
+  isMean : {q r f : ℕ} → Granted (mean q r f)
   isLater : {n : ℕ} → 4 ≤ n → Granted (refused n)
 
 -- may a window start to show by a call, or cease to: by its close it starts, by its removal it ceases
@@ -53,6 +55,7 @@ showing (Remove w) = true
 showing Flush = false
 showing Step = false
 showing (Query k ns) = false
+showing (Mean n) = false
 
 -- on a card of so many blocks and a register of so many entries
 module _ (blocks entries : ℕ) where
@@ -83,6 +86,9 @@ module _ (blocks entries : ℕ) where
       admit (past 3 order.query) (any badLength ns ∷ badQuery k ns ∷ [])
       (leave (hits (ranked (existing l) (l .count) (shown l) k ns) (takenFrom (numbersOf (l .identifiers) ns) a))
       (record { ledger = l; account = a }))
+  books l a (Mean n) =
+      admit (past 3 order.mean) (badLength n ∷ eqb (frequency (l .count) (shown l) n) 0 ∷ [])
+      (leave (averaged (frequency (l .count) (shown l) n) (total (l .count) (shown l) n)) (record { ledger = l; account = a }))
 
   abbrev pub booksCall : Books → Call → Outcome Books
   booksCall b c = books (b .ledger) (b .account) c

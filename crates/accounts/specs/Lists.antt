@@ -6,7 +6,7 @@ use Prim.Native.Nat.{ℕ, suc, _-_}
 use lib.Dec.{eqb, ltb, leb}
 use lib.IntN.{pos}
 use lib.ListN.{length}
-use Rattle.lists.specs.Lists.{any, every, empty, elem}
+use Rattle.lists.specs.Lists.{any, every, empty, elem, totalBy}
 use Rattle.postings.specs.declared.Posting.{Posting}
 use Rattle.postings.specs.Merge.{put, pairs, negated}
 use Rattle.postings.specs.Sums.{sum, under, above}
@@ -22,11 +22,12 @@ use Rattle.state.specs.Rules.{windowsRule, listedRule, bufferRule, partitionsRu
 use Rattle.identifiers.specs.Names.{Name, badLength, numberOf, numbersOf}
 use Rattle.partitions.specs.Layout.{lengthOf}
 use Rattle.partitions.specs.Formed.{listRule, inRange, sumsInRange}
-use Rattle.ranking.specs.Hits.{ranked}
+use Rattle.ranking.specs.Hits.{frequency, ranked}
 use Rattle.ranking.specs.Asked.{badQuery}
 use Rattle.removals.specs.Removal.{ofWindow, countsOf, isLive}
 use Rattle.plans.specs.Merging.{isLast}
-use Rattle.engine.specs.Calls.{Call, Open, Event, Close, Remove, Flush, Step, Query, run}
+use Rattle.averages.specs.Average.{total, averaged}
+use Rattle.engine.specs.Calls.{Call, Open, Event, Close, Remove, Flush, Step, Query, Mean, run}
 use Rattle.accounts.specs.Account.{Portion, Account, emptyAccount, postingsIn, storedIn, takenFrom, dueOf, inputsOf, overflows, exceeds, addedTo, stepping, flushing, flushingIf}
 
 -- the state's window numbers; the register's identifiers, by number; the numbers of the open window's identifiers, in order of first count; the
@@ -90,6 +91,7 @@ callRule e (Remove w) = windowRule (e .account) w
 callRule e Flush = true
 callRule e Step = inputsRule (e .account)
 callRule e (Query k ns) = every (identifierRule (e .account)) (numbersOf (e .names) ns)
+callRule e (Mean n) = every (identifierRule (e .account)) (numbersOf (e .names) (n ∷ []))
 
 -- ---- what the calls leave
 
@@ -147,6 +149,13 @@ withAccount e a = record { windows = e .windows; names = e .names; listed = e .l
 unfoldable pub countOf : Account → ℕ → ℕ → ℕ
 countOf a i w = above (sum (storedIn a) i w)
 
+-- F of an identifier, and the sum of its counts, in the windows that show; nothing of one without a number
+unfoldable pub frequencyOf : Lists → Name → ℕ
+frequencyOf e n = totalBy (frequency (countOf (e .account)) (shown (e .windows))) (numbersOf (e .names) (n ∷ []))
+
+unfoldable pub totalOf : Lists → Name → ℕ
+totalOf e n = totalBy (total (countOf (e .account)) (shown (e .windows))) (numbersOf (e .names) (n ∷ []))
+
 -- ---- what the calls come to, on a card of so many blocks and a register of so many entries
 
 module _ (blocks entries : ℕ) where
@@ -182,6 +191,9 @@ module _ (blocks entries : ℕ) where
   pursued e (Query k ns) =
       admit (past 3 order.query) (any badLength ns ∷ badQuery k ns ∷ [])
       (leave (hits (ranked (e .windows .live) (countOf (e .account)) (shown (e .windows)) k (numbersOf (e .names) ns)) (takenFrom (numbersOf (e .names) ns) (e .account))) e)
+  pursued e (Mean n) =
+      admit (past 3 order.mean) (badLength n ∷ eqb (frequencyOf e n) 0 ∷ [])
+      (leave (averaged (frequencyOf e n) (totalOf e n)) e)
 
   unfoldable pub listsCall : Lists → Call → Outcome Lists
   listsCall e c = refuseIf (not (listsRule blocks e)) 1 (refuseIf (not (callRule e c)) 3 (pursued e c))

@@ -1,10 +1,10 @@
 -- What an admission tells of a call's outcome, over any tests that come first and whatever follows them.
 use Rattle.lists.proofs.Prelude.{Bool, true, false, _&&_, not, List, [], _∷_, _++_, _≡_, refl, sym, _∙_, ℕ, _≤_, arith, eqb, leb, length, leb-true, eqb-true, every, and-left, and-right}
 use Rattle.answers.specs.declared.Refusal.{Refusal}
-use Rattle.answers.specs.declared.Refusal.the-variants.{BrokenState, WrongLength, Malformed, BadIdentifier, OutOfTurn, Exhausted, NotLive, RegisterFull, WindowFull, LevelFull, HalfFull, TooFewFree, NothingDue, BadQuery}
 use Rattle.answers.specs.Answers.{Outcome, refuse, refuseIf}
 use Rattle.answers.specs.Numbers.{refusalNumber}
 use Rattle.answers.specs.Order.{admit}
+use Rattle.answers.proofs.Refusals.{number-within}
 use Rattle.state.specs.declared.Lengths.{Lengths}
 use Rattle.state.specs.declared.State.{State}
 use Rattle.state.specs.Rules.{stateRule}
@@ -12,23 +12,6 @@ use Rattle.state.proofs.Kept.{state-kept}
 use Rattle.identifiers.specs.Register.{registerRule}
 use Rattle.admission.specs.declared.Admission.{Admission}
 use Rattle.admission.specs.Admission.{firstOf, sameLengths, cardTests, probeTests}
-
--- every refusal has a number
-some : (why : Refusal) → 1 ≤ refusalNumber why
-some BrokenState = omega arith
-some WrongLength = omega arith
-some Malformed = omega arith
-some BadIdentifier = omega arith
-some OutOfTurn = omega arith
-some Exhausted = omega arith
-some NotLive = omega arith
-some RegisterFull = omega arith
-some WindowFull = omega arith
-some LevelFull = omega arith
-some HalfFull = omega arith
-some TooFewFree = omega arith
-some NothingDue = omega arith
-some BadQuery = omega arith
 
 module _ {S : Type 0} (ms : List ℕ) (us : List Bool) (o : Outcome S) where
   barred-by : (ns : List ℕ) (ts : List Bool) (n : ℕ) → 1 ≤ n → n ≡ firstOf ns ts → admit (ns ++ ms) (ts ++ us) o ≡ refuse n
@@ -40,7 +23,7 @@ module _ {S : Type 0} (ms : List ℕ) (us : List Bool) (o : Outcome S) where
 
   -- the refusal that is told is the call's, whatever follows
   pub barred : (ns : List ℕ) (ts : List Bool) (why : Refusal) → refusalNumber why ≡ firstOf ns ts → admit (ns ++ ms) (ts ++ us) o ≡ refuse (refusalNumber why)
-  barred ns ts why e = barred-by ns ts (refusalNumber why) (some why) e
+  barred ns ts why e = barred-by ns ts (refusalNumber why) (number-within why .0) e
 
   -- where no number is told, what follows decides
   pub granted : (ns : List ℕ) (ts : List Bool) → every (leb 1) ns ≡ true → length ns ≡ length ts → 0 ≡ firstOf ns ts → admit (ns ++ ms) (ts ++ us) o ≡ admit ms us o

@@ -5,7 +5,7 @@ use mathlib.Core.Path.{_≡_, refl}
 use Prim.Native.Nat.{ℕ}
 use native.Mathlib.Omega.{arith}
 use Rattle.answers.specs.declared.Hit.{Hit}
-use Rattle.answers.specs.Answers.{done, number, hits, Outcome, refuse, leave, refuseIf, choose, stateOf, carry}
+use Rattle.answers.specs.Answers.{done, number, hits, mean, Outcome, refuse, leave, refuseIf, choose, stateOf, carry}
 use Rattle.answers.specs.Unchanged.{Unchanged}
 
 module _ {S : Type 0} {s : S} where
@@ -27,6 +27,9 @@ module _ {S : Type 0} {s : S} where
 
   pub unchanged-hits : (hs : List Hit) (k : ℕ) (t : S) → Unchanged s (leave (hits hs k) t)
   unchanged-hits hs k t = record { same = λ m e. let z : _≡_ {A = ℕ} 0 1 = cc in absurd (omega arith) }
+
+  pub unchanged-mean : (q r f : ℕ) (t : S) → Unchanged s (leave (mean q r f) t)
+  unchanged-mean q r f t = record { same = λ m e. let z : _≡_ {A = ℕ} 0 1 = cc in absurd (omega arith) }
 
 -- of the whole from the part that a call works on
 pub unchanged-carry : {S T : Type 0} (f : S → T) (s : S) (t : T) (o : Outcome S) → f s ≡ t → Unchanged s o → Unchanged t (carry f o)

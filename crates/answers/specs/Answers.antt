@@ -4,11 +4,13 @@ use mathlib.Core.List.{List}
 use Prim.Native.Nat.{ℕ}
 use Rattle.answers.specs.declared.Hit.{Hit}
 
--- an answer in the document's terms: nothing but done, a window's number, a list of hits with the postings taken up, or a refusal's number
+-- an answer in the document's terms: nothing but done, a window's number, a list of hits with the postings taken up,
+-- a mean's quotient, remainder and number of windows, or a refusal's number
 pub data Answer : Type 0 where
   done : Answer
   number : ℕ → Answer
   hits : List Hit → ℕ → Answer
+  mean : ℕ → ℕ → ℕ → Answer
   refused : ℕ → Answer
 
 -- a refusal says its number and nothing of what is there: that is as it was

@@ -2,7 +2,7 @@
 use mathlib.Core.List.{List}
 use Prim.Native.Nat.{ℕ}
 
--- an event has an identifier's bytes, a removal a window, and a query so many places in its list and the bytes of each identifier
+-- an event and a mean have an identifier's bytes, a removal a window, and a query so many places in its list and the bytes of each identifier
 pub data Call : Type 0 where
   Open : Call
   Event : List ℕ → Call
@@ -11,3 +11,4 @@ pub data Call : Type 0 where
   Flush : Call
   Step : Call
   Query : ℕ → List (List ℕ) → Call
+  Mean : List ℕ → Call

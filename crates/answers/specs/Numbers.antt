@@ -3,15 +3,17 @@ use mathlib.Core.List.{List}
 use Prim.Native.Nat.{ℕ}
 use lib.ListN.{take}
 use Rattle.answers.specs.declared.Refusal.{Refusal}
-use Rattle.answers.specs.declared.Refusal.the-variants.{BrokenState, WrongLength, Malformed, BadIdentifier, OutOfTurn, Exhausted, NotLive, RegisterFull, WindowFull, LevelFull, HalfFull, TooFewFree, NothingDue, BadQuery}
+use Rattle.answers.specs.declared.Refusal.the-variants.{BrokenState, WrongLength, Malformed, BadIdentifier, OutOfTurn, Exhausted, NotLive, RegisterFull, WindowFull, LevelFull, HalfFull, TooFewFree, NothingDue, BadQuery, Uncounted}
 use Rattle.answers.specs.declared.Reply.{Reply}
 use Rattle.answers.specs.declared.Reply.the-variants as reply
 use Rattle.answers.specs.declared.Opened.{Opened}
 use Rattle.answers.specs.declared.Opened.the-variants as opened
 use Rattle.answers.specs.declared.Found.{Found}
 use Rattle.answers.specs.declared.Found.the-variants as found
+use Rattle.answers.specs.declared.Averaged.{Averaged}
+use Rattle.answers.specs.declared.Averaged.the-variants as averaged
 use Rattle.answers.specs.declared.Hit.{Hit}
-use Rattle.answers.specs.Answers.{Answer, done, number, hits, refused}
+use Rattle.answers.specs.Answers.{Answer, done, number, hits, mean, refused}
 
 -- "Refused, checked in this order": the number of each refusal
 abbrev pub refusalNumber : Refusal → ℕ
@@ -29,6 +31,7 @@ refusalNumber HalfFull = 11
 refusalNumber TooFewFree = 12
 refusalNumber NothingDue = 13
 refusalNumber BadQuery = 14
+refusalNumber Uncounted = 15
 
 -- the answer that a reply stands for
 abbrev pub replied : Reply → Answer
@@ -44,3 +47,8 @@ openedAs (opened.Refused r) = refused (refusalNumber r)
 abbrev pub foundAs : Found → List Hit → Answer
 foundAs (found.Hits n taken) hs = hits (take n hs) taken
 foundAs (found.Refused r) hs = refused (refusalNumber r)
+
+-- the answer of a mean
+abbrev pub averagedAs : Averaged → Answer
+averagedAs (averaged.Mean q r f) = mean q r f
+averagedAs (averaged.Refused r) = refused (refusalNumber r)

@@ -26,6 +26,9 @@ step = 1 ∷ 2 ∷ 3 ∷ []
 abbrev pub query : List ℕ
 query = 1 ∷ 2 ∷ 3 ∷ 4 ∷ 14 ∷ []
 
+abbrev pub mean : List ℕ
+mean = 1 ∷ 2 ∷ 3 ∷ 4 ∷ 15 ∷ []
+
 -- a flush that writes a partition: an event's, a removal's, or a flush itself
 abbrev pub writing : List ℕ
 writing = 10 ∷ 11 ∷ 12 ∷ []

@@ -18,6 +18,7 @@ pub enum Refusal {
     TooFewFree,
     NothingDue,
     BadQuery,
+    Uncounted,
 }
 
 // The answer of a call that gives no value.
@@ -35,6 +36,12 @@ pub enum Opened {
 // The answer of a query: how many hits are listed, and how many postings were taken up.
 pub enum Found {
     Hits(u16, u32),
+    Refused(Refusal),
+}
+
+// The answer of a mean: whole quotient, remainder, and the number of windows that the sum was divided by.
+pub enum Averaged {
+    Mean(u16, u16, u16),
     Refused(Refusal),
 }
 
@@ -63,5 +70,6 @@ pub fn number_of(why: Refusal) -> u32
         Refusal::TooFewFree => 12,
         Refusal::NothingDue => 13,
         Refusal::BadQuery => 14,
+        Refusal::Uncounted => 15,
     }
 }

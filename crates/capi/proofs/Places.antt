@@ -15,7 +15,8 @@ use Rattle.queries.specs.Query.{fill, queryOf}
 use Rattle.ranking.specs.Top.{listedHits}
 use Rattle.queries.specs.Finds.{Finds}
 use Rattle.queries.proofs.Outcomes.{found-filled}
-use Rattle.capi.specs.Queries.{hitWords, hitsIn, hitBytes, numberFor, numberFound, Tells}
+use Rattle.numbers.specs.Images.{numberFor, numberFound}
+use Rattle.capi.specs.Queries.{hitWords, hitsIn, hitBytes, Tells}
 use Rattle.capi.proofs.Carried.{carried}
 
 -- Bytes --------------------------------------------------------------------------------------------------------------

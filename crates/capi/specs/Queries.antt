@@ -1,22 +1,20 @@
--- The exported query: the lent list of hits as bytes, eight to a hit.
+-- The exported query, with the lent list of hits as bytes, eight to a hit, and the exported mean.
 use mathlib.Core.Bool.{not}
 use mathlib.Core.List.{List, [], _∷_, _++_, map}
 use mathlib.Core.Path.{_≡_}
-use Prim.Native.Nat.{ℕ, _+_, _*_}
+use Prim.Native.Nat.{ℕ, _*_}
 use lib.ListN.{length, drop}
 use Rattle.lists.specs.Lists.{joined}
 use Rattle.words.specs.Words.{words, bytes}
-use Rattle.answers.specs.Answers.{Answer, done, number, hits, refused, Outcome, answerOf, stateOf, refuseIf, carry}
-use Rattle.answers.specs.Numbers.{refusalNumber}
-use Rattle.answers.specs.declared.Found.{Found}
-use Rattle.answers.specs.declared.Found.the-variants as found
+use Rattle.answers.specs.Answers.{Outcome, answerOf, stateOf, refuseIf, carry}
 use Rattle.answers.specs.declared.Hit.{Hit}
 use Rattle.identifiers.specs.Names.{Name}
 use Rattle.windows.specs.Promises.{probeOf}
 use Rattle.queries.specs.Query.{queryOf}
+use Rattle.means.specs.Mean.{meanOf}
 use Rattle.images.specs.Images.{imageRule}
+use Rattle.numbers.specs.Images.{stateOn, numberFor}
 use Rattle.capi.specs.Exports.{Lent}
-use Rattle.numbers.specs.Images.{stateOn}
 
 -- a hit is two words: window and score
 abbrev pub hitWords : Hit → List ℕ
@@ -32,18 +30,6 @@ hitsIn (w ∷ s ∷ ws) = record { window = w; score = s } ∷ hitsIn ws
 unfoldable pub hitBytes : List ℕ → List Hit → List ℕ
 hitBytes lent hs = bytes (joined (map hitWords hs)) ++ drop (8 * length hs) lent
 
--- the number of an answer: a refusal's, or 256 times how many hits there are and 65,536 times the postings taken
-abbrev pub numberFor : Answer → ℕ
-numberFor done = 0
-numberFor (number n) = 0
-numberFor (hits l taken) = 256 * length l + 65536 * taken
-numberFor (refused n) = n
-
--- the same of an answer of the code
-abbrev pub numberFound : Found → ℕ
-numberFound (found.Hits n taken) = 256 * n + 65536 * taken
-numberFound (found.Refused why) = refusalNumber why
-
 -- n is the number of an outcome's answer, and what is there afterwards is what it leaves, where s was there before
 pub record Tells {S : Type 0} (s : S) (o : Outcome S) (n : ℕ) (after : S) : Type 0 where
   pub number : n ≡ numberFor (answerOf o)
@@ -54,3 +40,6 @@ unfoldable pub queryOn : Lent → List Name → List ℕ → Outcome (List ℕ)
 queryOn l ns lent =
     refuseIf (not (imageRule (l .image))) 1
     (carry (hitBytes lent) (queryOf (probeOf (stateOn (l .image)) (l .card) (l .register)) ns (hitsIn (words lent))))
+
+unfoldable pub meanOn : Lent → Name → Outcome (Unit {0})
+meanOn l n = refuseIf (not (imageRule (l .image))) 1 (meanOf (probeOf (stateOn (l .image)) (l .card) (l .register)) n)

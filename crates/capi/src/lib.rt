@@ -1,4 +1,5 @@
 // The engine's functions for callers in C and Rust: numbers and byte slices alone. A state is lent as its byte image.
+use answers::Averaged;
 use answers::Found;
 use answers::Opened;
 use answers::Reply;
@@ -10,13 +11,14 @@ ghost use mathlib.Core.List.{map};
 ghost use mathlib.Core.Path.{_≡_};
 ghost use Prim.Native.Nat.{_*_, _≤_};
 ghost use lib.ListN.{length};
+ghost use Rattle.answers.specs.Answers.{answerOf};
 ghost use Rattle.identifiers.specs.Register.{registerRule};
 ghost use Rattle.state.specs.Rules.{registerLength};
 ghost use Rattle.windows.specs.Promises.{Gives};
 ghost use Rattle.ranking.specs.Top.{listedHits};
 ghost use Rattle.capi.specs.Exports.{cardedOf, lentOf, startOn, unstartedOn, openOn, closeOn, eventOn, flushOn, removeOn, stepOn};
-ghost use Rattle.numbers.specs.Images.{repliedBy, openedBy};
-ghost use Rattle.capi.specs.Queries.{hitBytes, numberFound, Tells, queryOn};
+ghost use Rattle.numbers.specs.Images.{repliedBy, openedBy, numberFor};
+ghost use Rattle.capi.specs.Queries.{hitBytes, Tells, queryOn, meanOn};
 
 // Has a register of so many bytes 1 to 1,024 whole entries?
 fn length_ok(bytes: usize) -> bool
@@ -131,16 +133,6 @@ fn put_hits(hits: &mut [u8], t: Top)
     }
 }
 
-// The number of a query's answer.
-fn found_number(answer: Found) -> u64
-    ensures { λ r. ⌜ r ≡ numberFound answer ⌝ }
-{
-    match answer {
-        Found::Refused(why) => answers::number_of(why) as u64,
-        Found::Hits(n, taken) => 256 * n as u64 + 65536 * taken as u64,
-    }
-}
-
 // The windows that match best, in the lent bytes. A refusal's number, or 256 times how many there are and 65,536 times the postings taken.
 #[no_mangle]
 pub extern "C" fn gemsilver_query(
@@ -160,7 +152,20 @@ pub extern "C" fn gemsilver_query(
     let r = queries::search(s, card, register, ids, hits.len() / 8);
     put_hits(hits, r.top);
     let answer = r.answer;
-    found_number(answer)
+    numbers::found_number(answer)
+}
+
+// The mean count of an identifier. A refusal's number, or 65,536 times how many windows count, 65,536² times the remainder and 65,536³ times the quotient.
+#[no_mangle]
+pub extern "C" fn gemsilver_mean(image: &[u8], card: &[u8], register: &[u8], id: &[u8]) -> u64
+    ensures { λ r. ⌜ r ≡ numberFor (answerOf (meanOn (lentOf (now (image .entry)) (now (card .entry)) (now (register .entry))) (now (id .entry)))) ⌝ }
+{
+    if !images::image_ok(image) {
+        return 1;
+    }
+    let s = images::read_state(image);
+    let answer = means::mean(s, card, register, id);
+    numbers::mean_number(answer)
 }
 
 // A window is removed.

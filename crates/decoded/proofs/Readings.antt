@@ -1,5 +1,5 @@
--- Query and removal on bytes are those on lists.
-use Rattle.lists.proofs.Prelude.{Bool, true, _||_, _&&_, not, List, foldr, _≡_, refl, sym, ap, ap₂, _∙_, subst, fun-ext, ℕ, _+_, _-_, eqb, ltb, leb, length, replicate, length-replicate, keep, every, elem, and-both, every-map}
+-- Query, mean and removal on bytes are those on lists.
+use Rattle.lists.proofs.Prelude.{Bool, true, _||_, _&&_, not, List, [], _∷_, foldr, _≡_, refl, sym, ap, ap₂, _∙_, subst, fun-ext, ℕ, _+_, _-_, eqb, ltb, leb, length, replicate, length-replicate, keep, every, elem, totalBy, and-both, every-map}
 use Rattle.words.specs.Words.{words}
 use Rattle.postings.specs.declared.Posting.{Posting}
 use Rattle.postings.specs.Merge.{put, nonzero, negated}
@@ -14,17 +14,19 @@ use Rattle.state.specs.Views.{blocks, registerSize, buffered, finished, bufferO
 use Rattle.state.specs.Probe.{Store, Probe}
 use Rattle.state.specs.Shown.{shown}
 use Rattle.identifiers.specs.Names.{Name, numbersOf}
-use Rattle.identifiers.specs.Register.{names, registerRule}
+use Rattle.identifiers.specs.Register.{registerRule}
 use Rattle.partitions.specs.Reading.{postingsOf, inPartitions, stored}
 use Rattle.partitions.specs.Formed.{partitionsFormed, listRule, sumsInRange, identifierFormed}
 use Rattle.flushes.specs.Flush.{flushingIf}
-use Rattle.ranking.specs.Hits.{ranked}
+use Rattle.ranking.specs.Hits.{frequency, ranked}
+use Rattle.averages.specs.Average.{total, averaged}
+use Rattle.means.specs.Mean.{frequencyIn, totalIn, meaning, meanOf}
 use Rattle.queries.specs.Query.{countIn, takenUp, numbers, queryFormed, hitsOf, querying, queryOf, fill}
 use Rattle.ranking.specs.Asked.{badQuery}
 use Rattle.removals.specs.Removal.{ofWindow, countsOf, isLive, listsFormed, removalFormed, removalFlushes, removed, removing, removeOf}
-use Rattle.engine.specs.Calls.{Remove, Query, noHit, withStore, probeCall}
+use Rattle.engine.specs.Calls.{Remove, Query, Mean, noHit, withStore, probeCall}
 use Rattle.accounts.specs.Account.{Portion, Account, postingsIn, storedIn, takenFrom, exceeds, addedTo, flushingIf as accountFlushingIf}
-use Rattle.accounts.specs.Lists.{Lists, identifierRule, windowRule, callRule, countOf, removedLists, removingLists, withAccount, pursued}
+use Rattle.accounts.specs.Lists.{Lists, identifierRule, windowRule, callRule, countOf, frequencyOf, totalOf, removedLists, removingLists, withAccount, pursued}
 use Rattle.decoded.specs.Portions.{portionOn}
 use Rattle.decoded.proofs.Holds.{Holds, Stored, partitions-is, buffer-is, stored-is}
 use Rattle.decoded.proofs.Fronts.{holds-fronted}
@@ -77,6 +79,14 @@ module _ {ls : Lengths} (p : Probe) (e : Lists) (k : Stored ls p e) (fine : Fine
   unfolding takenUp takenFrom
   taken-same ns = ap₂ (λ (is : List ℕ) (l : List Posting). length (keep (λ q. elem (q .id) is) l)) (numbers-same ns) stored-same
 
+  -- refusal 3 has no cause
+  well-formed : (ns : List Name) → every (identifierRule (e .account)) (numbersOf (e .names) ns) ≡ true → queryFormed W s (p .register) (numbers (p .register) ns) ≡ true
+  unfolding queryFormed
+  well-formed ns rule =
+      and-both (registerRule (p .register)) _ (k .rule)
+      (and-both (partitionsFormed W (blocks s) (finished (s .partitions))) _ (h .formed)
+      (ap₂ (λ (t : ℕ → Bool) (is : List ℕ). every t is) (fun-ext identifier-same) (numbers-same ns) ∙ rule))
+
   pub query-same : (m : ℕ) (ns : List Name) → callRule e (Query m ns) ≡ true → Same (Stored ls) (probeCall p (Query m ns)) (pursued (blocks s) (registerSize s) e (Query m ns))
   unfolding probeCall queryOf querying pursued
   query-same m ns rule =
@@ -103,14 +113,36 @@ module _ {ls : Lengths} (p : Probe) (e : Lists) (k : Stored ls p e) (fine : Fine
       said : hits found (takenUp W s (numbers (p .register) ns)) ≡ answer
       said = ap₂ hits (ap (λ n. hitsOf W s n (numbers (p .register) ns)) places ∙ hits-same m ns) (taken-same ns)
 
-      asked : every (identifierRule (e .account)) (numbersOf (e .names) ns) ≡ true
-      asked = unfold callRule in rule
-
       well : queryFormed W s (p .register) (numbers (p .register) ns) ≡ true
-      well = unfold queryFormed in
-          and-both (registerRule (p .register)) _ (k .rule)
-          (and-both (partitionsFormed W (blocks s) (finished (s .partitions))) _ (h .formed)
-          (ap₂ (λ (t : ℕ → Bool) (is : List ℕ). every t is) (fun-ext identifier-same) (numbers-same ns) ∙ asked))
+      well = well-formed ns (unfold callRule in rule)
+
+  -- ---- mean
+
+  frequency-same : (n : Name) → frequencyIn W s (numbers (p .register) (n ∷ [])) ≡ frequencyOf e n
+  unfolding frequencyIn frequencyOf
+  frequency-same n =
+      ap (λ (w : Windows). totalBy (frequency (countIn W s) (shown w)) (numbers (p .register) (n ∷ []))) (h .windows)
+      ∙ ap₂ (λ (c : ℕ → ℕ → ℕ) (is : List ℕ). totalBy (frequency c (shown (e .windows))) is) counts-same (numbers-same (n ∷ []))
+
+  total-same : (n : Name) → totalIn W s (numbers (p .register) (n ∷ [])) ≡ totalOf e n
+  unfolding totalIn totalOf
+  total-same n =
+      ap (λ (w : Windows). totalBy (total (countIn W s) (shown w)) (numbers (p .register) (n ∷ []))) (h .windows)
+      ∙ ap₂ (λ (c : ℕ → ℕ → ℕ) (is : List ℕ). totalBy (total c (shown (e .windows))) is) counts-same (numbers-same (n ∷ []))
+
+  pub mean-same : (n : Name) → callRule e (Mean n) ≡ true → Same (Stored ls) (probeCall p (Mean n)) (pursued (blocks s) (registerSize s) e (Mean n))
+  unfolding probeCall meanOf meaning pursued
+  mean-same n rule =
+      same-carry R (Stored ls) (λ (u : Unit {0}). p) (λ u e′ r. r)
+      (passing R _ 1 _ _ (no-first p e k fine)
+      (passing R _ 2 _ _ (no-second-both p e k fine)
+      (passing R _ 3 _ _ (ap not (well-formed (n ∷ []) (unfold callRule in rule)))
+      (refusing R _ _ 4 _ _ refl λ _.
+      refusing R _ _ 15 _ _ (ap (λ f. eqb f 0) (frequency-same n)) λ _.
+      subst (λ (x : Answer). Same R (leave x tt) (leave (averaged (frequencyOf e n) (totalOf e n)) e)) (sym (ap₂ averaged (frequency-same n) (total-same n))) (bothLeave k)))))
+    where
+      R : Unit {0} → Lists → Type 0
+      R u e′ = Stored ls p e′
 
   -- ---- removal
 

@@ -10,7 +10,7 @@ use Rattle.state.specs.Views.{blocks, registerSize}
 use Rattle.state.specs.Probe.{Probe}
 use Rattle.partitions.specs.Reading.{stored}
 use Rattle.partitions.specs.Formed.{listRule, inRange, sumsInRange, Writable}
-use Rattle.engine.specs.Calls.{Call, Open, Event, Close, Remove, Flush, Step, Query, probeCall, run, afterwards}
+use Rattle.engine.specs.Calls.{Call, Open, Event, Close, Remove, Flush, Step, Query, Mean, probeCall, run, afterwards}
 use Rattle.accounts.specs.Account.{Account, storedIn, inputsOf, merged}
 use Rattle.accounts.specs.Ledger.{Ledger, byNumber}
 use Rattle.accounts.specs.Books.{Books, booksCall}
@@ -27,7 +27,7 @@ use Rattle.accounts.proofs.History.{Stands, call-same, call-sound}
 use Rattle.decoded.proofs.Holds.{Stored, stored-is}
 use Rattle.decoded.proofs.Flushing.{Same, bothRefuse, bothLeave, Fine}
 use Rattle.decoded.proofs.WindowCalls.{open-same, close-same, flush-call-same, event-same}
-use Rattle.decoded.proofs.Readings.{query-same, remove-same}
+use Rattle.decoded.proofs.Readings.{query-same, mean-same, remove-same}
 use Rattle.decoded.proofs.StepCall.{step-same}
 
 -- ---- what ledger and account keep is what a probe can hold
@@ -77,6 +77,7 @@ module _ (ls : Lengths) where
     pursued-same p e k f Flush r = flush-call-same p e k f
     pursued-same p e k f Step r = step-same p e k f r
     pursued-same p e k f (Query x ns) r = query-same p e k f x ns r
+    pursued-same p e k f (Mean x) r = mean-same p e k f x r
 
     lists-pursued : (e : Lists) (b : Books) → Stands n m small e b → (c : Call) → listsCall n m e c ≡ pursued n m e c
     lists-pursued e b s c = subst (λ x. listsCall n m x c ≡ pursued n m x c) (sym (s .same)) (unrefused n m small (b .ledger) (b .account) (s .kept) c)

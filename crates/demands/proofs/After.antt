@@ -1,9 +1,9 @@
--- After every history: what a query lists, by the ledger, and what the card's blocks hold.
+-- After every history: what a query lists and a mean is, by the ledger, and what the card's blocks hold.
 use Rattle.lists.proofs.TopK.{different-down}
 use Rattle.lists.proofs.Prelude.{true, false, not, List, [], _∷_, _++_, _≡_, refl, sym, ap, _∙_, subst, ℕ, _*_, _/_, _%_, _<_, arith, eqb, length, getD, eqb-true, every, empty, and-left}
 use Rattle.words.specs.Words.{words, allOnes}
 use Rattle.postings.specs.Merge.{pairs}
-use Rattle.answers.specs.Answers.{Answer, done, hits, Outcome, answerOf, stateOf}
+use Rattle.answers.specs.Answers.{Answer, done, hits, mean, Outcome, answerOf, stateOf}
 use Rattle.answers.specs.declared.Hit.{Hit}
 use Rattle.state.specs.declared.Lengths.{Lengths}
 use Rattle.state.specs.declared.State.{State}
@@ -16,9 +16,11 @@ use Rattle.card.specs.Chains.{content}
 use Rattle.blocks.proofs.FreeBlocks.{free-word}
 use Rattle.plans.specs.Merging.{taking, result, outputBlocks, progress}
 use Rattle.plans.specs.Step.{inProgress}
-use Rattle.ranking.specs.Hits.{ranked}
+use Rattle.ranking.specs.Hits.{frequency, ranked}
+use Rattle.averages.specs.Average.{total, averaging}
+use Rattle.means.specs.Mean.{meanOf}
 use Rattle.queries.specs.Query.{queryOf}
-use Rattle.engine.specs.Calls.{Call, Query, probeCall, run, afterwards}
+use Rattle.engine.specs.Calls.{Call, Query, Mean, probeCall, run, afterwards}
 use Rattle.accounts.specs.Account.{Account, takenFrom, inputsOf, merged, blocksOf}
 use Rattle.accounts.specs.Ledger.{shown, existing}
 use Rattle.accounts.specs.Books.{Books, showing, books, booksCall}
@@ -29,9 +31,10 @@ use Rattle.decoded.proofs.Holds.{Holds, taking-is}
 use Rattle.decoded.proofs.Unused.{going, output-going}
 use Rattle.decoded.proofs.Simulated.{runs-simulated, Left}
 use Rattle.histories.proofs.Theorem.{entries-most, history-left}
+use Rattle.demands.specs.Words as words-of
 use Rattle.demands.specs.Words.{Listing, probeAfter, booksAfter, unused}
-use Rattle.demands.proofs.Granted.{Where, where-if, hits-granted, listOf, takenOf, ranked-listing}
-use Rattle.demands.proofs.Rows.{query-called}
+use Rattle.demands.proofs.Granted.{Where, where-if, hits-granted, listOf, takenOf, ranked-listing, mean-granted, mean-last}
+use Rattle.demands.proofs.Rows.{same-if, query-called, mean-called}
 use Rattle.demands.proofs.Cards.{whole-after, ones-bytes}
 
 -- ---- what ledger and account answer to a query
@@ -46,6 +49,14 @@ books-where : (n m : ℕ) (b : Books) (k : ℕ) (ns : List Name) (found : List H
 unfolding books
 books-where n m b k ns found taken =
     where-if (hits-granted found taken) _ 4 _ λ _. where-if (hits-granted found taken) _ 14 _ λ _. record { holds = λ e. record { hitsAre = ap listOf e; takenIs = ap takenOf e } }
+
+-- ---- and to a mean
+
+average-where : (n m : ℕ) (b : Books) (x : Name) (q r d : ℕ)
+    → Where b (mean q r d) (λ (c : Books). words-of.Mean (frequency (b .ledger .count) (shown (b .ledger)) x) (total (b .ledger .count) (shown (b .ledger)) x) q r d) (booksCall n m b (Mean x))
+unfolding books
+average-where n m b x q r d =
+    where-if (mean-granted q r d) _ 4 _ λ _. where-if (mean-granted q r d) _ 15 _ λ some. record { holds = λ e. mean-last _ _ q r d some e }
 
 -- ---- after a history
 
@@ -95,6 +106,16 @@ module _ (c r : ℕ) (cardFits : cardLength c ≡ true) (registerFits : register
   listing-by-ledger ns places found taken e =
       subst (Listing (existing (b .ledger)) (b .ledger .count) (shown (b .ledger)) (length places) ns) (by-books ns places found taken e .hitsAre)
       (ranked-listing (existing (b .ledger)) (b .ledger .count) (shown (b .ledger)) (length places) ns (unfold shown in different-down _))
+
+  -- a mean is told or refused as the ledger says
+  pub mean-told : (n : Name) → answerOf (meanOf p n) ≡ answerOf (averaging n (frequency (b .ledger .count) (shown (b .ledger)) n) (total (b .ledger .count) (shown (b .ledger)) n))
+  unfolding averaging books
+  mean-told n = mean-called p n ∙ answered (Mean n) ∙ same-if _ _ 4 _ _ refl (same-if _ _ 15 _ _ refl refl)
+
+  -- and loses nothing of its sum
+  pub mean-by-ledger : (n : Name) (q rest d : ℕ) → answerOf (meanOf p n) ≡ mean q rest d
+      → words-of.Mean (frequency (b .ledger .count) (shown (b .ledger)) n) (total (b .ledger .count) (shown (b .ledger)) n) q rest d
+  mean-by-ledger n q rest d e = average-where (c / 4096) (r / 65) b n q rest d .holds (sym (answered (Mean n)) ∙ sym (mean-called p n) ∙ e)
 
   -- one call more leaves the hits, unless it may make a window show or cease to
   books-more : (q : Call) → booksAfter c r (cs ++ (q ∷ [])) ≡ stateOf b (booksCall (c / 4096) (r / 65) b q)

@@ -12,9 +12,10 @@ use Rattle.flushes.specs.Flush.{flushing, flushingIf, flushOf}
 use Rattle.windows.specs.Calls.{fresh, openOf, closeOf}
 use Rattle.events.specs.Event.{eventOf}
 use Rattle.queries.specs.Query.{queryOf}
+use Rattle.means.specs.Mean.{meanOf}
 use Rattle.removals.specs.Removal.{removing, removeOf}
 use Rattle.plans.specs.Step.{stepping, stepOf}
-use Rattle.engine.specs.Calls.{Call, Open, Event, Close, Remove, Flush, Step, Query, storeIn, withStore, withState, noHit, probeCall, afterwards}
+use Rattle.engine.specs.Calls.{Call, Open, Event, Close, Remove, Flush, Step, Query, Mean, storeIn, withStore, withState, noHit, probeCall, afterwards}
 use Rattle.demands.proofs.Rows.{state-carry}
 
 -- the bytes of its words are the card
@@ -87,6 +88,7 @@ call-whole p w (Remove n) = carried (withStore p) (storeIn p) (removeOf (storeIn
 call-whole p w Flush = carried (withStore p) (storeIn p) (flushOf (storeIn p)) (flushed-whole (storeIn p) w)
 call-whole p w Step = carried (withStore p) (storeIn p) (stepOf (storeIn p)) (stepped-whole (storeIn p) w)
 call-whole p w (Query k ns) = carried (λ (l : List Hit). p) (replicate k noHit) (queryOf p ns (replicate k noHit)) w
+call-whole p w (Mean n) = carried (λ (u : Unit {0}). p) tt (meanOf p n) w
 
 after-whole : (p : Probe) → Whole (p .card) → (cs : List Call) → Whole (afterwards probeCall p cs .card)
 unfolding afterwards

@@ -1,12 +1,13 @@
 -- The three demands as theorems, each under a plain sentence. Who believes the definitions that they name, and the promises of the public functions,
 -- which equate result and lent buffers with those definitions, need read no further: every proof here cites a law.
-use Rattle.lists.proofs.Prelude.{true, false, _&&_, List, [], _∷_, _++_, map, _≡_, ap, _∙_, ℕ, _*_, _/_, _≤_, _<_, eqb, pos, length, getD, AllOf, any, every, empty, different}
+use Rattle.lists.proofs.Prelude.{true, false, _&&_, List, [], _∷_, _++_, map, _≡_, sym, ap, _∙_, ℕ, _*_, _/_, _≤_, _<_, eqb, pos, length, getD, AllOf, any, every, empty, different}
 use Rattle.words.specs.Words.{words, allOnes, Below}
 use Rattle.postings.specs.declared.Posting.{Posting}
 use Rattle.postings.specs.Merge.{pairs}
 use Rattle.postings.specs.Sums.{sum}
-use Rattle.answers.specs.Answers.{Answer, done, hits, refused, answerOf, stateOf, carry}
+use Rattle.answers.specs.Answers.{Answer, done, hits, mean, refused, answerOf, stateOf, carry}
 use Rattle.answers.specs.declared.Found.{Found}
+use Rattle.answers.specs.declared.Averaged.{Averaged}
 use Rattle.answers.specs.declared.Hit.{Hit}
 use Rattle.state.specs.declared.State.{State}
 use Rattle.state.specs.Probe.{Store, Probe}
@@ -32,6 +33,9 @@ use Rattle.windows.proofs.Refused.{start-unchanged}
 use Rattle.queries.specs.Query.{countIn, numbers, takenUp, queryFormed, fill, queryOf}
 use Rattle.queries.specs.declared.Answered.{Answered}
 use Rattle.queries.proofs.Refused.{query-unchanged}
+use Rattle.ranking.specs.Hits.{frequency}
+use Rattle.averages.specs.Average.{total, averaging}
+use Rattle.means.specs.Mean.{frequencyIn, totalIn, meanOf}
 use Rattle.plans.specs.Merging.{progress}
 use Rattle.engine.specs.Calls.{Call, probeCall}
 use Rattle.engine.proofs.Refused.{call-unchanged}
@@ -49,12 +53,12 @@ use Rattle.decoded.specs.Portions.{portionOn, outputOf, cleanPast}
 use Rattle.decoded.proofs.Simulated.{left-sums}
 use Rattle.histories.specs.Statement.{answers, SameAnswers}
 use Rattle.histories.proofs.Theorem.{entries-most, same-answers, none-malformed, history-left}
-use Rattle.demands.specs.Words.{Fit, Listing, probeAfter, booksAfter, unused}
-use Rattle.demands.specs.Promises.{Starts, Opens, Counts, Closes, Removes, Flushes, Steps, Asks, AsksValue, Begun}
-use Rattle.demands.proofs.Granted.{event-bad, query-bad, event-noted, query-answered, answered-listing, open-unlisted}
+use Rattle.demands.specs.Words.{Fit, Listing, Mean, probeAfter, booksAfter, unused}
+use Rattle.demands.specs.Promises.{Starts, Opens, Counts, Closes, Removes, Flushes, Steps, Asks, AsksValue, Averages, Begun}
+use Rattle.demands.proofs.Granted.{event-bad, query-bad, mean-bad, event-noted, query-answered, answered-listing, open-unlisted, mean-answered}
 use Rattle.demands.proofs.Rows.{start-fresh, start-refuses, all-unstarted, begun-run}
-use Rattle.demands.proofs.Single.{one-state, one-store, one-probe, one-opening, one-list, one-found}
-use Rattle.demands.proofs.After.{listing-by-ledger, hits-kept, free-left, byte-left, past-left, output-left}
+use Rattle.demands.proofs.Single.{one-state, one-store, one-probe, one-opening, one-list, one-found, one-averaged}
+use Rattle.demands.proofs.After.{listing-by-ledger, hits-kept, mean-told, mean-by-ledger, free-left, byte-left, past-left, output-left}
 
 -- ==== 1. Every call does what the page says, on every input
 
@@ -88,6 +92,9 @@ one-query s card register ids places x y places₁ places₂ g h = one-list x y 
 
 pub one-query-value : (s : State) (card register : List ℕ) (ids : List Name) (places : ℕ) (x y : Answered) → AsksValue s card register ids places x → AsksValue s card register ids places y → x ≡ y
 one-query-value s card register ids places x y g h = one-found (probeOf s card register) ids places x y g h
+
+pub one-mean : (s : State) (card register : List ℕ) (id : Name) (x y : Averaged) → Averages s card register id x → Averages s card register id y → x ≡ y
+one-mean s card register id x y g h = one-averaged x y (g ∙ sym h)
 
 -- A start on any bytes of lengths within the limits is done, and leaves the fresh state, card and register.
 pub started : (card register : List ℕ) → cardLength (length card) ≡ true → registerLength (length register) ≡ true
@@ -139,12 +146,17 @@ pub bad-query : (p : Probe) (ns : List Name) (places : List Hit) → Fit p → q
     → any badLength ns ≡ true → answerOf (queryOf p ns places) ≡ refused 4
 bad-query = query-bad
 
+-- And a mean of one.
+pub bad-mean : (p : Probe) (n : Name) → Fit p → queryFormed (words (p .card)) (p .state) (p .register) (numbers (p .register) (n ∷ [])) ≡ true
+    → badLength n ≡ true → answerOf (meanOf p n) ≡ refused 4
+bad-mean = mean-bad
+
 -- An identifier is never shortened: after a counted event the register's identifiers are those before, with this one included whole.
 pub counted-whole : (p : Probe) (n : Name) → answerOf (eventOf p n) ≡ done
     → (1 ≤ length n) × (length n ≤ 64) × (names (stateOf p (eventOf p n) .register) ≡ including (names (p .register)) n)
 counted-whole p n e = let w = event-noted p n e in (w .some, w .most, w .whole)
 
--- ==== 2. Hits are exact, and what is written reads back
+-- ==== 2. Hits and means are exact, and what is written reads back
 
 -- The hits that a query answers are of matching windows that show, with exactly the defined scores, in falling order, and cut only where the list is full.
 pub hits-exact : (p : Probe) (ns : List Name) (places found : List Hit) (taken : ℕ) → answerOf (queryOf p ns places) ≡ hits found taken
@@ -177,6 +189,24 @@ taken-exact p ns places found taken e = query-answered p ns places found taken e
 pub places-kept : (p : Probe) (ns : List Name) (places found : List Hit) (taken : ℕ) → answerOf (queryOf p ns places) ≡ hits found taken
     → stateOf places (queryOf p ns places) ≡ fill found places
 places-kept p ns places found taken e = query-answered p ns places found taken e .leftIs
+
+-- A mean loses nothing: quotient × F + remainder is the sum of the identifier's counts in the windows that show, the remainder is below F, and F is the number of those
+-- windows in which its count is above 0.
+pub mean-exact : (p : Probe) (n : Name) (quotient remainder divisor : ℕ) → answerOf (meanOf p n) ≡ mean quotient remainder divisor
+    → Mean (frequencyIn (words (p .card)) (p .state) (numbers (p .register) (n ∷ []))) (totalIn (words (p .card)) (p .state) (numbers (p .register) (n ∷ []))) quotient remainder divisor
+mean-exact = mean-answered
+
+-- After every history it is told, or refused with 4 or 15, as F and the sum of the ledger's closed windows say.
+pub means-answered : (c r : ℕ) → cardLength c ≡ true → registerLength r ≡ true → (cs : List Call) (n : Name)
+    → answerOf (meanOf (probeAfter c r cs) n)
+    ≡ answerOf (averaging n (frequency (booksAfter c r cs .ledger .count) (ledger.shown (booksAfter c r cs .ledger)) n) (total (booksAfter c r cs .ledger .count) (ledger.shown (booksAfter c r cs .ledger)) n))
+means-answered = mean-told
+
+-- So quotient × F + remainder is then the ledger's sum.
+pub mean-of-ledger : (c r : ℕ) → cardLength c ≡ true → registerLength r ≡ true → (cs : List Call) (n : Name) (quotient remainder divisor : ℕ)
+    → answerOf (meanOf (probeAfter c r cs) n) ≡ mean quotient remainder divisor
+    → Mean (frequency (booksAfter c r cs .ledger .count) (ledger.shown (booksAfter c r cs .ledger)) n) (total (booksAfter c r cs .ledger .count) (ledger.shown (booksAfter c r cs .ledger)) n) quotient remainder divisor
+mean-of-ledger = mean-by-ledger
 
 -- Postings in order, written as a partition of any level to any blocks of the card, keep the layout and read back as they were.
 pub written-reads-back : (W bs : List ℕ) (n level : ℕ) (ps : List Posting) → length W ≡ 1024 * n → onCard n bs ≡ true → different bs ≡ true → length bs ≡ blocksFor (lengthOf ps) → Writable ps

@@ -1,8 +1,8 @@
 -- What a call that is not refused has found and left.
-use Rattle.lists.proofs.Prelude.{Bool, true, false, _&&_, not, cond, List, [], _∷_, _++_, _≡_, refl, sym, ap, _∙_, subst, ℕ, _+_, _*_, _≤_, arith, leb, length, eqb-true, leb-false, not-true, not-false, any, every, keep, elem, different, down, by-test, and-left, and-right, and-both, every-from, every-keep, every-kept, every-elem, different-keep, eqb}
+use Rattle.lists.proofs.Prelude.{Bool, true, false, _&&_, not, cond, List, [], _∷_, _++_, _≡_, refl, sym, ap, _∙_, subst, ℕ, _+_, _*_, _/_, _%_, _≤_, arith, leb, length, eqb-true, eqb-false, leb-false, not-true, not-false, any, every, keep, elem, different, down, by-test, and-left, and-right, and-both, every-from, every-keep, every-kept, every-elem, different-keep, eqb}
 use Rattle.lists.proofs.TopK.{different-down}
 use Rattle.words.specs.Words.{words}
-use Rattle.answers.specs.Answers.{Answer, done, number, hits, refused, Outcome, leave, refuseIf, choose, answerOf, stateOf}
+use Rattle.answers.specs.Answers.{Answer, done, number, hits, mean, refused, Outcome, leave, refuseIf, choose, answerOf, stateOf}
 use Rattle.answers.specs.declared.Hit.{Hit}
 use Rattle.state.specs.declared.State.{State}
 use Rattle.state.specs.Views.{registerSize}
@@ -15,9 +15,12 @@ use Rattle.flushes.specs.Flush.{flushing, flushingIf}
 use Rattle.events.specs.Event.{isNew, eventOf}
 use Rattle.ranking.specs.Hits.{matching, ranked}
 use Rattle.queries.specs.Query.{countIn, numbers, takenUp, queryFormed, hitsOf, fill, querying, queryOf}
+use Rattle.averages.specs.Average.{averaged}
+use Rattle.averages.proofs.Division.{whole, left-below}
+use Rattle.means.specs.Mean.{frequencyIn, totalIn, meaning, meanOf}
 use Rattle.accounts.specs.Ledger.{including}
 use Rattle.accounts.proofs.Numbers.{new-is}
-use Rattle.demands.specs.Words.{Fit, scored, Listing}
+use Rattle.demands.specs.Words.{Fit, scored, Listing, Mean}
 use Rattle.demands.proofs.Listing.{listed-scores, listed-falls, left-out-only-when-full}
 
 -- where a is answered, what is left is as G says
@@ -108,12 +111,14 @@ abbrev pub listOf : Answer → List Hit
 listOf done = []
 listOf (number n) = []
 listOf (hits hs k) = hs
+listOf (mean q r f) = []
 listOf (refused n) = []
 
 abbrev pub takenOf : Answer → ℕ
 takenOf done = 0
 takenOf (number n) = 0
 takenOf (hits hs k) = k
+takenOf (mean q r f) = 0
 takenOf (refused n) = 0
 
 -- an answer with these hits and postings taken
@@ -188,6 +193,32 @@ open-unlisted p ns places found taken e =
         all : every (shows o) (matching N count (shown (p .state .windows)) is) ≡ true
         all = unfold matching shown in every-keep _ (shows o) (keep (shows o) (down 65535)) (every-kept (shows o) (down 65535))
 
+-- ---- means
+
+pub mean-granted : (q r f m : ℕ) → refused m ≡ mean q r f → ⊥
+mean-granted q r f m e = let z : _≡_ {A = ℕ} 0 1 = cc in absurd (omega arith)
+
+-- what is answered where F is not 0
+pub mean-last : (f t q r d : ℕ) → eqb f 0 ≡ false → averaged f t ≡ mean q r d → Mean f t q r d
+mean-last f t q r d some e =
+    let n = eqb-false f 0 some in
+    let a : t / f ≡ q = cc in
+    let b : t % f ≡ r = cc in
+    let c : f ≡ d = cc in
+    record { sum = rw (← a, ← b, ← c) (whole t f); below = rw (← b, ← c) (left-below t f (omega arith)); windows = sym c }
+
+mean-where : (p : Probe) (n : Name) (f t q r d : ℕ) → Where tt (mean q r d) (λ (u : Unit {0}). Mean f t q r d) (meaning p n f t)
+unfolding meaning
+mean-where p n f t q r d =
+    where-if (mean-granted q r d) _ 1 _ λ _. where-if (mean-granted q r d) _ 2 _ λ _. where-if (mean-granted q r d) _ 3 _ λ _.
+    where-if (mean-granted q r d) _ 4 _ λ _. where-if (mean-granted q r d) _ 15 _ λ some.
+    record { holds = λ e. mean-last f t q r d some e }
+
+pub mean-answered : (p : Probe) (n : Name) (q r d : ℕ) → answerOf (meanOf p n) ≡ mean q r d
+    → Mean (frequencyIn (words (p .card)) (p .state) (numbers (p .register) (n ∷ []))) (totalIn (words (p .card)) (p .state) (numbers (p .register) (n ∷ []))) q r d
+unfolding meanOf
+mean-answered p n q r d e = mean-where p n _ _ q r d .holds e
+
 -- ---- identifiers of a bad length
 
 refuse-now : {S : Type 0} (t : Bool) (n : ℕ) (o : Outcome S) → t ≡ true → answerOf (refuseIf t n o) ≡ refused n
@@ -212,6 +243,15 @@ pub query-bad : (p : Probe) (ns : List Name) (places : List Hit) → Fit p → q
     → any badLength ns ≡ true → answerOf (queryOf p ns places) ≡ refused 4
 unfolding queryOf querying
 query-bad p ns places s formed bad =
+    refuse-later _ 1 _ (refused 4) (s .state)
+    (refuse-later _ 2 _ (refused 4) (and-both (sameLength (p .card) (p .state .lengths .card)) _ (s .card) (s .register))
+    (refuse-later _ 3 _ (refused 4) formed
+    (refuse-now _ 4 _ bad)))
+
+pub mean-bad : (p : Probe) (n : Name) → Fit p → queryFormed (words (p .card)) (p .state) (p .register) (numbers (p .register) (n ∷ [])) ≡ true
+    → badLength n ≡ true → answerOf (meanOf p n) ≡ refused 4
+unfolding meanOf meaning
+mean-bad p n s formed bad =
     refuse-later _ 1 _ (refused 4) (s .state)
     (refuse-later _ 2 _ (refused 4) (and-both (sameLength (p .card) (p .state .lengths .card)) _ (s .card) (s .register))
     (refuse-later _ 3 _ (refused 4) formed

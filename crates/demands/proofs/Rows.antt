@@ -2,8 +2,9 @@
 use Rattle.lists.proofs.Prelude.{Bool, true, false, _&&_, List, _∷_, _≡_, refl, sym, ap, ap₂, _∙_, ℕ, arith, length, replicate, length-replicate}
 use Rattle.words.specs.Words.{words}
 use Rattle.answers.specs.Answers.{Answer, done, refused, Outcome, refuse, leave, refuseIf, hits, answerOf, stateOf, carry}
-use Rattle.answers.specs.Numbers.{foundAs}
+use Rattle.answers.specs.Numbers.{foundAs, averagedAs}
 use Rattle.answers.specs.declared.Found.{Found}
+use Rattle.answers.specs.declared.Averaged.{Averaged}
 use Rattle.answers.specs.declared.Hit.{Hit}
 use Rattle.state.specs.declared.State.{State}
 use Rattle.state.specs.Rules.{cardLength, registerLength, stateRule, lengthsRule}
@@ -18,11 +19,12 @@ use Rattle.queries.specs.Query.{numbers, takenUp, hitsOf, querying, queryOf}
 use Rattle.ranking.specs.Asked.{badQuery}
 use Rattle.queries.specs.Finds.{Finds}
 use Rattle.ranking.specs.declared.Top.{Top}
+use Rattle.means.specs.Mean.{meaning, meanOf}
 use Rattle.removals.specs.Removal.{removeOf}
 use Rattle.plans.specs.Step.{stepOf}
-use Rattle.engine.specs.Calls.{Call, Open, Event, Close, Remove, Flush, Step, Query, withStore, withState, noHit, probeCall, run}
+use Rattle.engine.specs.Calls.{Call, Open, Event, Close, Remove, Flush, Step, Query, Mean, withStore, withState, noHit, probeCall, run}
 use Rattle.histories.specs.Statement.{answers}
-use Rattle.demands.specs.Promises.{Row, noCall, opening, counting, closing, removing, flushing, stepping, asking, askingValue, Begun}
+use Rattle.demands.specs.Promises.{Row, noCall, opening, counting, closing, removing, flushing, stepping, asking, askingValue, averaging, Begun}
 
 -- ---- outcomes seen on the whole probe
 
@@ -36,7 +38,7 @@ state-carry f s (leave x t) = refl
 
 -- ---- a query's answer does not depend on what its list had
 
-same-if : {S : Type 0} (t u : Bool) (n : ℕ) (o p : Outcome S) → t ≡ u → answerOf o ≡ answerOf p → answerOf (refuseIf t n o) ≡ answerOf (refuseIf u n p)
+pub same-if : {S T : Type 0} (t u : Bool) (n : ℕ) (o : Outcome S) (p : Outcome T) → t ≡ u → answerOf o ≡ answerOf p → answerOf (refuseIf t n o) ≡ answerOf (refuseIf u n p)
 unfolding refuseIf
 same-if true true n o p e f = refl
 same-if false false n o p e f = f
@@ -52,6 +54,11 @@ query-any p ns places others e =
     (same-if _ _ 4 _ _ refl
     (same-if _ _ 14 _ _ (ap (λ k. badQuery k ns) e)
     (ap (λ k. hits (hitsOf (words (p .card)) (p .state) k (numbers (p .register) ns)) (takenUp (words (p .card)) (p .state) (numbers (p .register) ns))) e)))))
+
+-- the mean of a call
+pub mean-called : (p : Probe) (n : Name) → answerOf (meanOf p n) ≡ answerOf (probeCall p (Mean n))
+unfolding probeCall
+mean-called p n = sym (answer-carry (λ (u : Unit {0}). p) (meanOf p n))
 
 -- the query of a call, for whatever list is lent
 pub query-called : (p : Probe) (ns : List Name) (places : List Hit) → answerOf (queryOf p ns places) ≡ answerOf (probeCall p (Query (length places) ns))
@@ -111,6 +118,11 @@ module _ (p : Probe) where
   unfolding probeCall
   value-is ns k a t f = (f .answer ∙ sym (answer-carry (λ (l : List Hit). p) (queryOf p ns (replicate k noHit))), query-left k ns)
 
+  -- a mean leaves it too
+  mean-is : (n : Name) (a : Averaged) → averagedAs a ≡ answerOf (meanOf p n) → Is p (Mean n) (averagedAs a) p
+  unfolding probeCall
+  mean-is n a e = (e ∙ mean-called p n, sym (state-carry (λ (u : Unit {0}). p) tt (meanOf p n)))
+
 -- one call, and what follows it
 follow : (p : Probe) (c : Call) (cs : List Call) (x : Answer) (q : Probe) (told : List Answer) → Is p c x q → told ≡ run probeCall q cs → x ∷ told ≡ run probeCall p (c ∷ cs)
 unfolding run
@@ -128,6 +140,7 @@ row-run (asking {s} {card} {register} {cs} {told} {ids} {hits} r g row) =
     follow _ (Query (length hits) ids) cs _ _ told (query-is (probeOf s card register) ids hits _ _ (g .0)) (row-run row)
 row-run (askingValue {s} {card} {register} {cs} {told} {ids} {places} r g row) =
     follow _ (Query places ids) cs _ _ told (value-is (probeOf s card register) ids places (r .answer) (r .top) g) (row-run row)
+row-run (averaging {s} {card} {register} {cs} {told} {id} r g row) = follow _ (Mean id) cs _ _ told (mean-is (probeOf s card register) id r g) (row-run row)
 
 -- ---- start
 
@@ -149,7 +162,7 @@ zeros-broken = refl
 
 -- so every call on it is refused with 1
 pub all-unstarted : (card register : List ℕ) (c : Call) → answerOf (probeCall (unstarted card register) c) ≡ refused 1
-unfolding probeCall unstarted openOf closeOf eventOf flushOf removeOf stepOf queryOf querying refuseIf
+unfolding probeCall unstarted openOf closeOf eventOf flushOf removeOf stepOf queryOf querying meanOf meaning refuseIf
 all-unstarted card register Open = rw zeros-broken
 all-unstarted card register (Event n) = rw zeros-broken
 all-unstarted card register Close = rw zeros-broken
@@ -157,6 +170,7 @@ all-unstarted card register (Remove w) = rw zeros-broken
 all-unstarted card register Flush = rw zeros-broken
 all-unstarted card register Step = rw zeros-broken
 all-unstarted card register (Query k ns) = rw zeros-broken
+all-unstarted card register (Mean n) = rw zeros-broken
 
 -- ---- from a start on
 

@@ -1,15 +1,16 @@
 -- Two results that keep one promise are equal: the answer in the code's own form, the state, and every buffer.
-use Rattle.lists.proofs.Prelude.{List, [], _∷_, _≡_, refl, sym, ap, ap₂, _∙_, ℕ, _≤_, arith, length, getD, length-append, length-take-le}
-use Rattle.answers.specs.Answers.{Answer, done, number, hits, refused, Outcome}
-use Rattle.answers.specs.Numbers.{refusalNumber, replied, openedAs, foundAs}
-use Rattle.answers.specs.declared.Refusal.{Refusal}
-use Rattle.answers.specs.declared.Refusal.the-variants.{BrokenState, WrongLength, Malformed, BadIdentifier, OutOfTurn, Exhausted, NotLive, RegisterFull, WindowFull, LevelFull, HalfFull, TooFewFree, NothingDue, BadQuery}
+use Rattle.lists.proofs.Prelude.{List, _≡_, refl, sym, ap, ap₂, _∙_, ℕ, _≤_, arith, length, length-append, length-take-le}
+use Rattle.answers.specs.Answers.{Answer, done, number, hits, mean, refused, Outcome}
+use Rattle.answers.specs.Numbers.{replied, openedAs, foundAs, averagedAs}
+use Rattle.answers.proofs.Refusals.{refusalOf, refusal-back}
 use Rattle.answers.specs.declared.Reply.{Reply}
 use Rattle.answers.specs.declared.Reply.the-variants as reply
 use Rattle.answers.specs.declared.Opened.{Opened}
 use Rattle.answers.specs.declared.Opened.the-variants as opened
 use Rattle.answers.specs.declared.Found.{Found}
 use Rattle.answers.specs.declared.Found.the-variants as found
+use Rattle.answers.specs.declared.Averaged.{Averaged}
+use Rattle.answers.specs.declared.Averaged.the-variants as averaged
 use Rattle.answers.specs.declared.Hit.{Hit}
 use Rattle.state.specs.declared.State.{State}
 use Rattle.state.specs.Probe.{Store, Probe}
@@ -24,32 +25,11 @@ use Rattle.hits.specs.Lent.{hitCount}
 
 -- ---- an answer says which value of the code it stands for
 
--- the refusals by number; none has 0
-abbrev refusalOf : ℕ → Refusal
-refusalOf n =
-    getD
-    (BrokenState ∷ BrokenState ∷ WrongLength ∷ Malformed ∷ BadIdentifier ∷ OutOfTurn ∷ Exhausted ∷ NotLive ∷ RegisterFull ∷ WindowFull ∷ LevelFull ∷ HalfFull ∷ TooFewFree ∷ NothingDue ∷ BadQuery ∷ []) n BrokenState
-
-refusal-back : (r : Refusal) → refusalOf (refusalNumber r) ≡ r
-refusal-back BrokenState = refl
-refusal-back WrongLength = refl
-refusal-back Malformed = refl
-refusal-back BadIdentifier = refl
-refusal-back OutOfTurn = refl
-refusal-back Exhausted = refl
-refusal-back NotLive = refl
-refusal-back RegisterFull = refl
-refusal-back WindowFull = refl
-refusal-back LevelFull = refl
-refusal-back HalfFull = refl
-refusal-back TooFewFree = refl
-refusal-back NothingDue = refl
-refusal-back BadQuery = refl
-
 abbrev replyOf : Answer → Reply
 replyOf done = reply.Done
 replyOf (number n) = reply.Done
 replyOf (hits l n) = reply.Done
+replyOf (mean q r f) = reply.Done
 replyOf (refused n) = reply.Refused (refusalOf n)
 
 reply-back : (r : Reply) → replyOf (replied r) ≡ r
@@ -60,6 +40,7 @@ abbrev openedOf : Answer → Opened
 openedOf done = opened.Number 0
 openedOf (number n) = opened.Number n
 openedOf (hits l n) = opened.Number 0
+openedOf (mean q r f) = opened.Number 0
 openedOf (refused n) = opened.Refused (refusalOf n)
 
 opened-back : (r : Opened) → openedOf (openedAs r) ≡ r
@@ -70,11 +51,27 @@ abbrev foundOf : Answer → Found
 foundOf done = found.Hits 0 0
 foundOf (number n) = found.Hits 0 0
 foundOf (hits l n) = found.Hits (length l) n
+foundOf (mean q r f) = found.Hits 0 0
 foundOf (refused n) = found.Refused (refusalOf n)
 
 found-back : (r : Found) (l : List Hit) → hitCount r ≤ length l → foundOf (foundAs r l) ≡ r
 found-back (found.Hits n taken) l h = ap (λ m. found.Hits m taken) (length-take-le n l h)
 found-back (found.Refused w) l h = ap found.Refused (refusal-back w)
+
+abbrev averagedOf : Answer → Averaged
+averagedOf done = averaged.Mean 0 0 0
+averagedOf (number n) = averaged.Mean 0 0 0
+averagedOf (hits l n) = averaged.Mean 0 0 0
+averagedOf (mean q r f) = averaged.Mean q r f
+averagedOf (refused n) = averaged.Refused (refusalOf n)
+
+averaged-back : (r : Averaged) → averagedOf (averagedAs r) ≡ r
+averaged-back (averaged.Mean q r f) = refl
+averaged-back (averaged.Refused w) = ap averaged.Refused (refusal-back w)
+
+-- of a mean
+pub one-averaged : (x y : Averaged) → averagedAs x ≡ averagedAs y → x ≡ y
+one-averaged x y e = sym (averaged-back x) ∙ ap averagedOf e ∙ averaged-back y
 
 -- ---- promises
 

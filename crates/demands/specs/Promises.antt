@@ -3,8 +3,9 @@ use mathlib.Core.List.{List, [], _∷_}
 use Prim.Native.Nat.{ℕ}
 use lib.ListN.{length}
 use Rattle.answers.specs.Answers.{Answer}
-use Rattle.answers.specs.Numbers.{replied, openedAs, foundAs}
+use Rattle.answers.specs.Numbers.{replied, openedAs, foundAs, averagedAs}
 use Rattle.answers.specs.declared.Found.{Found}
+use Rattle.answers.specs.declared.Averaged.{Averaged}
 use Rattle.answers.specs.declared.Hit.{Hit}
 use Rattle.state.specs.declared.State.{State}
 use Rattle.identifiers.specs.Names.{Name}
@@ -15,9 +16,10 @@ use Rattle.windows.specs.declared.Opening.{Opening}
 use Rattle.windows.specs.declared.Replied.{Replied}
 pub use Rattle.queries.specs.Finds.{AsksValue}
 use Rattle.queries.specs.declared.Answered.{Answered}
+pub use Rattle.means.specs.Mean.{Averages}
 pub use Rattle.removals.specs.Promises.{Removes}
 pub use Rattle.merges.specs.Promises.{Steps}
-use Rattle.engine.specs.Calls.{Call, Open, Event, Close, Remove, Flush, Step, Query}
+use Rattle.engine.specs.Calls.{Call, Open, Event, Close, Remove, Flush, Step, Query, Mean}
 pub use Rattle.hits.specs.Lent.{Asks}
 
 -- from this state, card and register on: the calls, each given what the one before left, and the answers of results that keep their promises
@@ -41,6 +43,9 @@ pub data Row : State → List ℕ → List ℕ → List Call → List Answer →
   -- or so many places are asked for, and the hits are in the result
   askingValue : {s : State} {card register : List ℕ} {cs : List Call} {told : List Answer} {ids : List Name} {places : ℕ} (r : Answered)
       → AsksValue s card register ids places r → Row s card register cs told → Row s card register (Query places ids ∷ cs) (foundAs (r .answer) (r .top .hits) ∷ told)
+  -- a mean
+  averaging : {s : State} {card register : List ℕ} {cs : List Call} {told : List Answer} {id : Name} (r : Averaged)
+      → Averages s card register id r → Row s card register cs told → Row s card register (Mean id ∷ cs) (averagedAs r ∷ told)
 
 -- a start on these bytes, and calls in a row on what it leaves
 pub record Begun (card register : List ℕ) (cs : List Call) (told : List Answer) : Type 0 where

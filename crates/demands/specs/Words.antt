@@ -2,7 +2,7 @@
 use mathlib.Core.Bool.{Bool, true, false, _&&_, not}
 use mathlib.Core.List.{List, [], _∷_}
 use mathlib.Core.Path.{_≡_}
-use Prim.Native.Nat.{ℕ, _/_}
+use Prim.Native.Nat.{ℕ, _+_, _*_, _/_, _<_}
 use lib.Dec.{eqb}
 use lib.ListN.{length}
 use Rattle.lists.specs.Lists.{every, any, elem}
@@ -44,6 +44,13 @@ pub record Listing {I : Type 0} (N : ℕ) (count : I → ℕ → ℕ) (windows :
   -- a matching window that is not listed finds the list full, of hits that all outrank it
   pub full : (w : ℕ) → elem w (matching N count windows is) ≡ true → any (λ h. eqb (h .window) w) found ≡ false
       → (length found ≡ k) × (every (λ h. outranks h (scored N count windows is w)) found ≡ true)
+
+-- what a mean's quotient, remainder and divisor are, where an identifier counts t in all, in f windows
+pub record Mean (f t quotient remainder divisor : ℕ) : Type 0 where
+  -- nothing of the sum is lost
+  pub sum : quotient * divisor + remainder ≡ t
+  pub below : remainder < divisor
+  pub windows : divisor ≡ f
 
 -- the probe, and ledger and account, after a list of calls on a fresh card of c bytes with a register of r
 abbrev pub probeAfter : ℕ → ℕ → List Call → Probe

@@ -22,11 +22,12 @@ use Rattle.flushes.specs.Flush.{nextFree, flushedCard, flushing, flushingIf, fl
 use Rattle.windows.specs.Calls.{fresh, startOf, unstarted, openOf, closeOf}
 use Rattle.events.specs.Event.{eventOf}
 use Rattle.queries.specs.Query.{queryOf}
+use Rattle.means.specs.Mean.{meanOf}
 use Rattle.removals.specs.Removal.{removing, removeOf}
 use Rattle.plans.specs.Merging.{taking}
 use Rattle.plans.specs.Step.{stepFormed, outputOn, writtenOn, stepping, stepOf}
 use Rattle.merges.proofs.Filling.{step-moves, step-length}
-use Rattle.engine.specs.Calls.{Call, Open, Event, Close, Remove, Flush, Step, Query, storeIn, withStore, withState, noHit, probeCall}
+use Rattle.engine.specs.Calls.{Call, Open, Event, Close, Remove, Flush, Step, Query, Mean, storeIn, withStore, withState, noHit, probeCall}
 
 -- The rule ---------------------------------------------------------------------------------------------------------------
 
@@ -182,3 +183,4 @@ call-moved p small c = go c
     go Flush = after-carry P (withStore p) (storeIn p) p (flushOf (storeIn p)) here (flush-moved (storeIn p) small)
     go Step = after-carry P (withStore p) (storeIn p) p (stepOf (storeIn p)) here (step-moved (storeIn p) small)
     go (Query k ns) = after-carry P (λ (l : List Hit). p) (replicate k noHit) p (queryOf p ns (replicate k noHit)) here here
+    go (Mean n) = after-carry P (λ (u : Unit {0}). p) tt p (meanOf p n) here here

@@ -11,11 +11,13 @@ use Rattle.windows.specs.Calls.{openOf, closeOf}
 use Rattle.flushes.specs.Flush.{flushOf}
 use Rattle.queries.specs.Query.{queryOf}
 use Rattle.queries.proofs.Refused.{query-unchanged}
+use Rattle.means.specs.Mean.{meanOf}
+use Rattle.means.proofs.Refused.{mean-unchanged}
 use Rattle.removals.specs.Removal.{removeOf}
 use Rattle.removals.proofs.Refused.{removal-unchanged}
 use Rattle.plans.specs.Step.{stepOf}
 use Rattle.merges.proofs.Refused.{step-unchanged}
-use Rattle.engine.specs.Calls.{Call, Open, Event, Close, Remove, Flush, Step, Query, storeIn, withStore, withState, noHit, probeCall}
+use Rattle.engine.specs.Calls.{Call, Open, Event, Close, Remove, Flush, Step, Query, Mean, storeIn, withStore, withState, noHit, probeCall}
 
 pub call-unchanged : (p : Probe) (c : Call) → Unchanged p (probeCall p c)
 unfolding probeCall
@@ -27,3 +29,4 @@ call-unchanged p Flush = unchanged-carry (withStore p) (storeIn p) p (flushOf (s
 call-unchanged p Step = unchanged-carry (withStore p) (storeIn p) p (stepOf (storeIn p)) refl (step-unchanged (storeIn p))
 call-unchanged p (Query k ns) =
     unchanged-carry (λ (l : List Hit). p) (replicate k noHit) p (queryOf p ns (replicate k noHit)) refl (query-unchanged p ns (replicate k noHit))
+call-unchanged p (Mean n) = unchanged-carry (λ (u : Unit {0}). p) tt p (meanOf p n) refl (mean-unchanged p n)

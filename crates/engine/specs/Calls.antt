@@ -2,7 +2,7 @@
 use mathlib.Core.List.{List, [], _∷_}
 use lib.ListN.{replicate}
 use Rattle.answers.specs.Answers.{Answer, Outcome, answerOf, stateOf, carry}
-pub use Rattle.answers.specs.Calls.{Call, Open, Event, Close, Remove, Flush, Step, Query}
+pub use Rattle.answers.specs.Calls.{Call, Open, Event, Close, Remove, Flush, Step, Query, Mean}
 use Rattle.answers.specs.declared.Hit.{Hit}
 use Rattle.state.specs.declared.State.{State}
 use Rattle.state.specs.Probe.{Store, Probe}
@@ -12,6 +12,7 @@ use Rattle.flushes.specs.Flush.{flushOf}
 use Rattle.queries.specs.Query.{queryOf}
 pub use Rattle.ranking.specs.Top.{noHit}
 use Rattle.removals.specs.Removal.{removeOf}
+use Rattle.means.specs.Mean.{meanOf}
 use Rattle.plans.specs.Step.{stepOf}
 
 -- the parts of a probe that a call is lent, and the probe with them put back
@@ -24,7 +25,7 @@ withStore p s = record { state = s .state; card = s .card; register = p .registe
 abbrev pub withState : Probe → State → Probe
 withState p s = record { state = s; card = p .card; register = p .register }
 
--- a call on a probe. A query leaves the probe as it is
+-- a call on a probe. Query and mean leave the probe as it is
 unfoldable pub probeCall : Probe → Call → Outcome Probe
 probeCall p Open = carry (withState p) (openOf (p .state))
 probeCall p (Event n) = eventOf p n
@@ -33,6 +34,7 @@ probeCall p (Remove w) = carry (withStore p) (removeOf (storeIn p) w)
 probeCall p Flush = carry (withStore p) (flushOf (storeIn p))
 probeCall p Step = carry (withStore p) (stepOf (storeIn p))
 probeCall p (Query k ns) = carry (λ (l : List Hit). p) (queryOf p ns (replicate k noHit))
+probeCall p (Mean n) = carry (λ (u : Unit {0}). p) (meanOf p n)
 
 -- the answers to a list of calls, each made on what the one before left
 unfoldable pub run : {S : Type 0} → (S → Call → Outcome S) → S → List Call → List Answer

@@ -2,6 +2,7 @@
 // says, whatever it is given. Step and query are here by value; `jobs::step` is lent the record of the merge, and `hits::query` a list for its hits.
 pub use events::event;
 pub use flushes::flush;
+pub use means::mean;
 pub use merges::step as step_value;
 pub use queries::search as query_value;
 pub use removals::remove;

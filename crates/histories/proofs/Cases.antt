@@ -9,6 +9,7 @@ use Rattle.identifiers.specs.Register.{names, registerRule, added}
 use Rattle.partitions.specs.Layout.{lengthOf}
 use Rattle.ranking.specs.Hits.{frequency, score, matching, ranked}
 use Rattle.ranking.specs.Asked.{badQuery}
+use Rattle.averages.specs.Average.{total}
 use Rattle.engine.specs.Calls.{Call, run}
 use Rattle.accounts.specs.Account.{emptyAccount, takenFrom, blocksOf, blocksIn, inputsOf, merged, blocksAhead, completed, furthered, steppedAccount, flushedAccount, overflows, exceeds, addedTo, stepping, flushing, flushingIf}
 use Rattle.accounts.specs.Ledger.{emptyLedger, live, shown, existing, opens, closes, counts, removes}
@@ -19,7 +20,7 @@ use Rattle.histories.proofs.Theorem.{same-answers}
 
 -- on ledger and account
 pub table-expected : TableHolds onBooks
-unfolding TableHolds worked table onBooks down rising largest tfWeight idfWeight nonzero pairs refuseIf choose badLength numbersOf names registerRule added lengthOf frequency score matching ranked badQuery run emptyAccount takenFrom blocksOf blocksIn inputsOf merged blocksAhead completed furthered steppedAccount flushedAccount overflows exceeds addedTo stepping flushing flushingIf emptyLedger live shown existing opens closes counts removes takenBack books expected
+unfolding TableHolds worked table onBooks down rising largest tfWeight idfWeight nonzero pairs refuseIf choose badLength numbersOf names registerRule added lengthOf frequency score matching ranked badQuery total run emptyAccount takenFrom blocksOf blocksIn inputsOf merged blocksAhead completed furthered steppedAccount flushedAccount overflows exceeds addedTo stepping flushing flushingIf emptyLedger live shown existing opens closes counts removes takenBack books expected
 table-expected = refl
 
 -- the card of a case has a length within the limits

@@ -5,11 +5,11 @@ use mathlib.Core.Path.{_≡_}
 use Prim.Native.Nat.{ℕ, zero, suc, _*_, _/_}
 use lib.ListN.{take, length, replicate}
 use Rattle.weights.specs.Weights.{tfWeight, idfWeight}
-use Rattle.answers.specs.Answers.{Answer, done, number, hits, refused}
+use Rattle.answers.specs.Answers.{Answer, done, number, hits, mean, refused}
 use Rattle.answers.specs.declared.Hit.{Hit}
 use Rattle.identifiers.specs.Names.{Name, badLength, numberOf}
 use Rattle.identifiers.specs.Register.{names, registerRule, added}
-use Rattle.engine.specs.Calls.{Call, Open, Event, Close, Remove, Flush, Step, Query}
+use Rattle.engine.specs.Calls.{Call, Open, Event, Close, Remove, Flush, Step, Query, Mean}
 use Rattle.accounts.specs.Books.{expected}
 use Rattle.histories.specs.Statement.{answers}
 
@@ -134,6 +134,10 @@ table =
     -- the same where its counts came to the card in eight partitions, which are merged into one: 8 of TILT weigh 12
     ∷ History 64 (twoClosed ++ (Open ∷ times 8 (Event TILT ∷ Flush ∷ []) ++ (Step ∷ Query 32 (TILT ∷ []) ∷ Close ∷ Query 32 (TILT ∷ []) ∷ [])))
     (done ∷ hits (hit 1 16 ∷ []) 2 ∷ done ∷ hits (hit 3 24 ∷ hit 1 8 ∷ []) 2 ∷ [])
+    -- means: 3 and 1 of LUCKY are 2 in each of two windows; window 4, under way, adds its 1 with its close, and 5 in three windows are 1 with 2 left over. Without
+    -- window 1 the mean is 1. DOOR, whose only window is removed, and an identifier never counted are refused with 15, and an empty one with 4
+    ∷ History 4 (three ++ (Flush ∷ Open ∷ Event LUCKY ∷ Mean LUCKY ∷ Close ∷ Mean LUCKY ∷ Remove 1 ∷ Mean LUCKY ∷ Remove 3 ∷ Mean DOOR ∷ Mean (As 16) ∷ Mean [] ∷ []))
+    (mean 2 0 2 ∷ done ∷ mean 1 2 3 ∷ done ∷ mean 1 0 2 ∷ done ∷ refused 15 ∷ refused 15 ∷ refused 4 ∷ [])
     -- the command program's example
     ∷ History 16 (Open ∷ Event LUCKY ∷ Event LUCKY ∷ Event LUCKY ∷ Event TILT ∷ Close ∷ Open ∷ Event LUCKY ∷ Close ∷ Query 2 (LUCKY ∷ TILT ∷ []) ∷ [])
     (number 1 ∷ done ∷ done ∷ done ∷ done ∷ done ∷ number 2 ∷ done ∷ done ∷ hits (hit 1 16 ∷ hit 2 0 ∷ []) 3 ∷ [])

@@ -6,7 +6,7 @@ ghost use Prim.Native.Nat.{_≤_};
 ghost use lib.IntN.{_+ℤ_};
 ghost use lib.Signed.{mag};
 ghost use Rattle.keyed.specs.Keys.{larger as largerOf};
-ghost use Rattle.postings.specs.Sums.{isAbove};
+ghost use Rattle.postings.specs.Sums.{above as aboveOf};
 ghost use Rattle.partitions.specs.Formed.{inRange};
 
 // All keys are below this: the windows of 1,024 identifiers.
@@ -58,9 +58,9 @@ pub fn in_range(sum: i32) -> bool
     sum <= 32767
 }
 
-// Whether a sum counts.
-pub fn above(sum: i32) -> bool
-    ensures { λ r. ⌜ r ≡ isAbove sum ⌝ }
+// What a sum counts: nothing where it is not above 0.
+pub fn above(sum: i32) -> u32
+    ensures { λ r. ⌜ r ≡ aboveOf sum ⌝ }
 {
-    0 < sum
+    if sum < 0 { 0 } else { sum as u32 }
 }

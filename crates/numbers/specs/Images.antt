@@ -1,10 +1,14 @@
 -- A state as its image, and answers as numbers.
 use mathlib.Core.Bool.{cond}
 use mathlib.Core.List.{List}
-use Prim.Native.Nat.{ℕ, zero, suc, _-_}
+use Prim.Native.Nat.{ℕ, zero, suc, _+_, _*_, _-_}
 use lib.Dec.{ltb}
+use lib.ListN.{length}
 use Rattle.words.specs.Words.{words, bytes}
-use Rattle.answers.specs.Answers.{Answer, done, number, hits, refused}
+use Rattle.answers.specs.Answers.{Answer, done, number, hits, mean, refused}
+use Rattle.answers.specs.Numbers.{refusalNumber}
+use Rattle.answers.specs.declared.Found.{Found}
+use Rattle.answers.specs.declared.Found.the-variants as found
 use Rattle.state.specs.declared.State.{State}
 use Rattle.images.specs.Images.{imageOf, stateIn}
 
@@ -30,4 +34,19 @@ abbrev pub leftOn : Answer → State → List ℕ → List ℕ
 leftOn done s image = imaged s
 leftOn (number n) s image = imaged s
 leftOn (hits l n) s image = imaged s
+leftOn (mean q r f) s image = imaged s
 leftOn (refused n) s image = image
+
+-- the number of an answer: a refusal's; of a query 256 times how many hits there are and 65,536 times the postings taken; of a mean 65,536 times the
+-- number of windows, 65,536² times the remainder and 65,536³ times the quotient
+abbrev pub numberFor : Answer → ℕ
+numberFor done = 0
+numberFor (number n) = 0
+numberFor (hits l taken) = 256 * length l + 65536 * taken
+numberFor (mean q r f) = 65536 * f + 4294967296 * r + 281474976710656 * q
+numberFor (refused n) = n
+
+-- the same of an answer of the code
+abbrev pub numberFound : Found → ℕ
+numberFound (found.Hits n taken) = 256 * n + 65536 * taken
+numberFound (found.Refused why) = refusalNumber why

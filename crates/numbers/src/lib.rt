@@ -1,12 +1,14 @@
 // Answers as numbers, and the state that a call leaves put back into its image.
+use answers::Averaged;
+use answers::Found;
 use answers::Opened;
 use answers::Reply;
 use windows::Opening;
 use windows::Replied;
 ghost use mathlib.Core.Path.{_≡_};
 ghost use lib.ListN.{length};
-ghost use Rattle.answers.specs.Numbers.{replied, openedAs};
-ghost use Rattle.numbers.specs.Images.{repliedBy, openedBy, leftOn};
+ghost use Rattle.answers.specs.Numbers.{replied, openedAs, averagedAs};
+ghost use Rattle.numbers.specs.Images.{repliedBy, openedBy, leftOn, numberFor, numberFound};
 
 // The number of a reply.
 pub fn reply_number(reply: Reply) -> u32
@@ -44,6 +46,30 @@ pub fn settle_open(image: &mut [u8], after: Opening) -> u32
         Opened::Number(n) => {
             images::write_state(image, after.state);
             n as u32
+        }
+    }
+}
+
+// The number of a query's answer.
+pub fn found_number(answer: Found) -> u64
+    ensures { λ r. ⌜ r ≡ numberFound answer ⌝ }
+{
+    match answer {
+        Found::Refused(why) => answers::number_of(why) as u64,
+        Found::Hits(n, taken) => 256 * n as u64 + 65536 * taken as u64,
+    }
+}
+
+// The number of a mean's answer.
+pub fn mean_number(answer: Averaged) -> u64
+    ensures { λ r. ⌜ r ≡ numberFor (averagedAs answer) ⌝ }
+{
+    match answer {
+        Averaged::Refused(why) => answers::number_of(why) as u64,
+        Averaged::Mean(quotient, remainder, windows) => {
+            65536 * windows as u64
+                + 4294967296 * remainder as u64
+                + 281474976710656 * quotient as u64
         }
     }
 }

@@ -1,11 +1,11 @@
--- The count of a pair over a list of postings, and the windows in which an identifier counts.
+-- The count of a pair over a list of postings, the windows in which an identifier counts, and the sum of what it counts in them.
 use mathlib.Core.Bool.{Bool, cond, _&&_}
 use mathlib.Core.List.{List, [], _∷_}
 use Prim.Native.Nat.{ℕ}
 use lib.Dec.{ltb, eqb}
 use lib.IntN.{ℤ, pos, negsuc, _+ℤ_}
 use lib.ListN.{length}
-use Rattle.lists.specs.Lists.{keep}
+use Rattle.lists.specs.Lists.{keep, totalBy}
 use Rattle.postings.specs.declared.Posting.{Posting}
 
 -- what a posting adds to the pair of identifier i and window w
@@ -33,3 +33,7 @@ isAbove z = ltb 0 (above z)
 -- F: in how many of these windows the identifier's sum is above 0
 unfoldable pub frequency : List ℕ → List Posting → ℕ → ℕ
 frequency windows l i = length (keep (λ w. isAbove (sum l i w)) windows)
+
+-- what the identifier counts in these windows together
+unfoldable pub amount : List ℕ → List Posting → ℕ → ℕ
+amount windows l i = totalBy (λ w. above (sum l i w)) windows

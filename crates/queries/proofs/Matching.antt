@@ -45,7 +45,7 @@ module _ (W : List ℕ) (s : State) where
 
   -- what an identifier adds to the score of a window
   abbrev adds : ℕ → ℕ → ℕ
-  adds w i = cond (ltb 0 (countIn W s i w)) (tfWeight (countIn W s i w) * idfWeight (s .windows .live) (frequency (s .windows .live) (countIn W s) (shown (s .windows)) i)) 0
+  adds w i = cond (ltb 0 (countIn W s i w)) (tfWeight (countIn W s i w) * idfWeight (s .windows .live) (frequency (countIn W s) (shown (s .windows)) i)) 0
 
   served-one : (w i : ℕ) (t : Term) → Serves W s i t → tfWeight (above (sums w (t .lists))) * t .weight ≡ adds w i
   unfolding countIn frequency S.frequency

@@ -18,15 +18,17 @@ abbrev pub place : Hit → List Hit → List Hit
 place g [] = g ∷ []
 place g (h ∷ hs) = cond (outranks g h) (g ∷ h ∷ hs) (h ∷ place g hs)
 
--- n is how many windows exist; count is of an identifier in a window; windows are those to look at
-module _ {I : Type 0} (n : ℕ) (count : I → ℕ → ℕ) (windows : List ℕ) where
+-- count is of an identifier in a window; windows are those to look at
+module _ {I : Type 0} (count : I → ℕ → ℕ) (windows : List ℕ) where
   -- F: the number of windows in which an identifier's count is above 0
   unfoldable pub frequency : I → ℕ
   frequency i = length (keep (λ w. ltb 0 (count i w)) windows)
 
+-- and n is how many windows exist
+module _ {I : Type 0} (n : ℕ) (count : I → ℕ → ℕ) (windows : List ℕ) where
   -- a window's score: over the query's identifiers whose count in it is above 0, the weight of the count times the weight of N and F
   unfoldable pub score : List I → ℕ → ℕ
-  score is w = totalBy (λ i. cond (ltb 0 (count i w)) (tfWeight (count i w) * idfWeight n (frequency i)) 0) is
+  score is w = totalBy (λ i. cond (ltb 0 (count i w)) (tfWeight (count i w) * idfWeight n (frequency count windows i)) 0) is
 
   -- the windows in which some identifier counts
   unfoldable pub matching : List I → List ℕ

@@ -8,24 +8,26 @@ use Rattle.words.specs.Words.{Below}
 use Rattle.weights.specs.Weights.{idfWeight}
 use Rattle.weights.proofs.Laws.{idf-most}
 use Rattle.postings.specs.Order.{ordered}
-use Rattle.postings.specs.Sums.{sum, under}
+use Rattle.postings.specs.declared.Posting.{Posting}
+use Rattle.postings.specs.Sums.{sum, under, above, frequency, amount}
 use Rattle.state.specs.declared.State.{State}
 use Rattle.state.specs.Views.{buffered}
-use Rattle.state.specs.Shown.{shows}
+use Rattle.state.specs.Shown.{shows, shown}
 use Rattle.partitions.specs.Reading.{stored}
 use Rattle.partitions.specs.Formed.{inRange, identifierFormed}
 use Rattle.kway.specs.Parts.{part, parts}
 use Rattle.kway.proofs.Parts.{views-more}
+use Rattle.terms.specs.declared.judging.Told.{Told}
 use Rattle.terms.specs.declared.judging.Told.the-variants.{Malformed, Windows}
 use Rattle.heads.specs.Heads.{view, Kept, views}
 use Rattle.terms.specs.Both.{Ready, both}
 use Rattle.heads.specs.Leads.{Leads}
-use Rattle.terms.specs.Judged.{inRanges, ranges, formed, risen, toldOf}
+use Rattle.terms.specs.Judged.{inRanges, ranges, Spread, formed, risen, toldOf}
 use Rattle.terms.specs.Opening.{Opens}
-use Rattle.scores.specs.Terms.{Term, termOf, KeptGroup, Serves}
+use Rattle.scores.specs.Terms.{Term, termOf, KeptGroup, Serves, toldTerm, Fitting}
 use Rattle.scores.proofs.Counts.{headed, put-behind, put-behind-long}
 use Rattle.terms.proofs.Fronts.{ready-all}
-use Rattle.terms.proofs.Steps.{total-none}
+use Rattle.terms.proofs.Steps.{total-none, above-most}
 use Rattle.terms.proofs.Stored.{rule, formed-same, total-same, size-same, lists-fall, run-fall, none-at-zero, risen-same, risen-few}
 
 -- ---- one list more
@@ -50,14 +52,38 @@ over-at (suc m) j S h e =
 
 told-none : (shows : ℕ → Bool) (gs : List Group) → toldOf shows gs ≡ Malformed → formed gs ≡ false
 unfolding toldOf
-told-none shows gs e = by-test (formed gs) (λ y. let q : Windows (risen shows gs) ≡ Malformed = rw y at e in let z : _≡_ {A = ℕ} 0 1 = cc in absurd (omega arith)) (λ n. n)
+told-none shows gs e = by-test (formed gs) (λ y. let q : Windows (risen shows gs .windows) (risen shows gs .total) ≡ Malformed = rw y at e in let z : _≡_ {A = ℕ} 0 1 = cc in absurd (omega arith)) (λ n. n)
 
-told-windows : (shows : ℕ → Bool) (gs : List Group) (n : ℕ) → toldOf shows gs ≡ Windows n → (formed gs ≡ true) × (n ≡ risen shows gs)
+told-windows : (shows : ℕ → Bool) (gs : List Group) (n t : ℕ) → toldOf shows gs ≡ Windows n t → (formed gs ≡ true) × (n ≡ risen shows gs .windows)
 unfolding toldOf
-told-windows shows gs n e =
+told-windows shows gs n t e =
     by-test (formed gs)
-    (λ y. let q : Windows (risen shows gs) ≡ Windows n = rw y at e in (y, cc))
-    (λ f. let q : Malformed ≡ Windows n = rw f at e in let z : _≡_ {A = ℕ} 0 1 = cc in absurd (omega arith))
+    (λ y. let q : Windows (risen shows gs .windows) (risen shows gs .total) ≡ Windows n t = rw y at e in (y, cc))
+    (λ f. let q : Malformed ≡ Windows n t = rw f at e in let z : _≡_ {A = ℕ} 0 1 = cc in absurd (omega arith))
+
+-- of the identifier
+module _ (W : List ℕ) (s : State) (i : ℕ) where
+  pub told-malformed : toldTerm W s i ≡ Malformed → identifierFormed W s i ≡ false
+  unfolding toldTerm
+  told-malformed e = by-test (identifierFormed W s i) (λ y. let q : Windows _ _ ≡ Malformed = rw y at e in let z : _≡_ {A = ℕ} 0 1 = cc in absurd (omega arith)) (λ n. n)
+
+  pub told-formed : (n t : ℕ) → toldTerm W s i ≡ Windows n t
+      → (identifierFormed W s i ≡ true) × (n ≡ frequency (shown (s .windows)) (stored W s) i) × (t ≡ amount (shown (s .windows)) (stored W s) i)
+  unfolding toldTerm
+  told-formed n t e =
+      by-test (identifierFormed W s i)
+      (λ y. let q : Windows (frequency (shown (s .windows)) (stored W s) i) (amount (shown (s .windows)) (stored W s) i) ≡ Windows n t = rw y at e in (y, cc, cc))
+      (λ f. let q : Malformed ≡ Windows n t = rw f at e in let z : _≡_ {A = ℕ} 0 1 = cc in absurd (omega arith))
+
+-- every count is at most 32,767
+amount-most : (l : List Posting) (i : ℕ) → ((w : ℕ) → inRange (sum l i w) ≡ true) → (windows : List ℕ) → amount windows l i ≤ 32767 * frequency windows l i
+unfolding amount frequency
+amount-most l i h [] = omega arith
+amount-most l i h (w ∷ windows) =
+    let m = amount-most l i h windows in
+    by-test (ltb 0 (above (sum l i w)))
+    (λ y. rw y (omega (arith, above-most (sum l i w) (h w))))
+    (λ y. rw y (omega (arith, ltb-false 0 (above (sum l i w)) y)))
 
 module _ (W R : List ℕ) (s : State) (i : ℕ) (H : List ℕ) (opens : Opens W R s i H) (small : Below 4294967296 W) (few : Below 4294967296 R)
     (order : ordered (buffered (s .buffer)) ≡ true) (rules : every rule (buffered (s .buffer)) ≡ true) where
@@ -86,19 +112,12 @@ module _ (W R : List ℕ) (s : State) (i : ℕ) (H : List ℕ) (opens : Opens W 
   judged-bad e = formed-same W R s i H opens small few order rules ∙ told-none closed gs e
 
   -- well formed
-  pub judged-good : (n : ℕ) → toldOf closed gs ≡ Windows n → identifierFormed W s i ≡ true
-  judged-good n e = formed-same W R s i H opens small few order rules ∙ told-windows closed gs n e .0
+  pub judged-good : (n t : ℕ) → toldOf closed gs ≡ Windows n t → identifierFormed W s i ≡ true
+  judged-good n t e = formed-same W R s i H opens small few order rules ∙ told-windows closed gs n t e .0
 
-  module _ (n : ℕ) (told : toldOf closed gs ≡ Windows n) where
-    ok : formed gs ≡ true
-    ok = told-windows closed gs n told .0
-
-    -- F fits
-    pub windows-few : n ≤ 65535
-    windows-few = omega (arith, told-windows closed gs n told .1, risen-few closed gs (none-at-zero W R s i H opens small few order rules ok))
-
-    pub all-fall : allFall 65536 all ≡ true
-    all-fall = rw all-parts (falls-more 65536 cards run (lists-fall W R s i H opens small few order rules ok) (run-fall W R s i H opens small few order rules ok))
+  module _ (ok : formed gs ≡ true) where
+    fall : allFall 65536 all ≡ true
+    fall = rw all-parts (falls-more 65536 cards run (lists-fall W R s i H opens small few order rules ok) (run-fall W R s i H opens small few order rules ok))
 
     totals : (w : ℕ) → sums w all ≡ sum (stored W s) i w
     totals w =
@@ -112,22 +131,47 @@ module _ (W R : List ℕ) (s : State) (i : ℕ) (H : List ℕ) (opens : Opens W 
         by-test (ltb w 65536)
         (λ y. let h = over-at 65536 w (λ j. map (sums j) gs) (ltb-true w 65536 y) (and-right (allFallAll 65536 gs) _ ok) in
         ap inRange (total-same W R s i H opens small few order rules w) ∙ and-right (inRange (sums w cards)) _ h)
-        (λ y. ap inRange (sym (totals w) ∙ sums-high 65536 w (ltb-false w 65536 y) all all-fall))
+        (λ y. ap inRange (sym (totals w) ∙ sums-high 65536 w (ltb-false w 65536 y) all fall))
+
+    -- F fits
+    windows-fit : risen closed gs .windows ≤ 65535
+    windows-fit = risen-few closed gs (none-at-zero W R s i H opens small few order rules ok)
+
+  -- what the judging tells is what is told of the identifier
+  pub judged-same : (r : Told) → r ≡ toldOf closed gs → (r ≡ toldTerm W s i) × Fitting r
+  unfolding toldOf toldTerm
+  judged-same r e =
+      by-test (formed gs)
+      (λ y. let same = risen-same W R s i H opens small few order rules y in
+      let told : r ≡ Windows (frequency (shown (s .windows)) (stored W s) i) (amount (shown (s .windows)) (stored W s) i) = e ∙ rw (y, same) in
+      (told ∙ rw (formed-same W R s i H opens small few order rules, y), rw told (rw same at (windows-fit y), amount-most (stored W s) i (in-range y) (shown (s .windows)))))
+      (λ n. let told : r ≡ Malformed = e ∙ rw n in (told ∙ rw (formed-same W R s i H opens small few order rules, n), rw told tt))
+
+  module _ (n t : ℕ) (told : toldOf closed gs ≡ Windows n t) where
+    ok : formed gs ≡ true
+    ok = told-windows closed gs n t told .0
+
+    -- F fits
+    pub windows-few : n ≤ 65535
+    windows-few = omega (arith, told-windows closed gs n t told .1, windows-fit ok)
+
+    pub all-fall : allFall 65536 all ≡ true
+    all-fall = fall ok
 
     -- how many postings are stored
     pub all-size : totalBy length all ≡ length (under i (stored W s))
     all-size = ap (totalBy length) all-parts ∙ total-more length cards run ∙ sym (size-same W R s i H opens small few order rules)
 
     -- the term stands for the identifier
-    pub all-serves : (t : Term) → t ≡ record { lists = all; weight = idfWeight (s .windows .live) n } → Serves W s i t
-    all-serves t e =
+    pub all-serves : (x : Term) → x ≡ record { lists = all; weight = idfWeight (s .windows .live) n } → Serves W s i x
+    all-serves x e =
         subst (Serves W s i) (sym e)
         (record {
           falls = all-fall;
-          totals = totals;
-          ranges = in-range;
+          totals = totals ok;
+          ranges = in-range ok;
           none = total-same W R s i H opens small few order rules 0 ∙ total-none (map (sums 0) gs) (none-at-zero W R s i H opens small few order rules ok);
-          weight = ap (idfWeight (s .windows .live)) (told-windows closed gs n told .1 ∙ sym (risen-same W R s i H opens small few order rules ok));
+          weight = ap (idfWeight (s .windows .live)) (told-windows closed gs n t told .1 ∙ ap (λ (x : Spread). x .windows) (risen-same W R s i H opens small few order rules ok));
         })
 
 -- ---- reach, weight and lead put in front of a group's heads

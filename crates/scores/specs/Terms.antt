@@ -1,6 +1,6 @@
 -- The terms of a query: an identifier's lists as one group, with the weight of its N and F. A group of m heads is 4 m + 4 numbers: its reach, its weight,
 -- the place of the list that leads and the reach of the others, and the heads.
-use mathlib.Core.Bool.{true}
+use mathlib.Core.Bool.{true, cond}
 use mathlib.Core.List.{List, map}
 use mathlib.Core.Path.{_≡_}
 use Prim.Native.Nat.{ℕ, _+_, _*_, _≤_}
@@ -10,7 +10,7 @@ use Rattle.lists.specs.All.{AllOf}
 use Rattle.keyed.specs.Keys.{topFrom, sums, allFall}
 use Rattle.keyed.specs.Groups.{Group}
 use Rattle.weights.specs.Weights.{idfWeight}
-use Rattle.postings.specs.Sums.{sum, under, frequency}
+use Rattle.postings.specs.Sums.{sum, under, frequency, amount}
 use Rattle.state.specs.declared.State.{State}
 use Rattle.state.specs.Shown.{shown}
 use Rattle.partitions.specs.Reading.{stored}
@@ -18,6 +18,8 @@ use Rattle.partitions.specs.Formed.{inRange, identifierFormed}
 use Rattle.kway.specs.Parts.{parts}
 use Rattle.heads.specs.Heads.{Kept, views}
 use Rattle.heads.specs.Leads.{Leads}
+use Rattle.terms.specs.declared.judging.Told.{Told}
+use Rattle.terms.specs.declared.judging.Told.the-variants.{Malformed, Windows}
 use Rattle.scores.specs.declared.counting.Counted.{Counted}
 
 -- an identifier's lists, and what a count of it weighs
@@ -48,6 +50,18 @@ pub record Serves (W : List ℕ) (s : State) (i : ℕ) (t : Term) : Type 0 where
   pub ranges : (w : ℕ) → inRange (sum (stored W s) i w) ≡ true
   pub none : sum (stored W s) i 0 ≡ pos 0
   pub weight : t .weight ≡ idfWeight (s .windows .live) (frequency (shown (s .windows)) (stored W s) i)
+
+-- what is told of the identifier i: F, and the sum of its counts in the windows that show, where what is read of it is well formed
+unfoldable pub toldTerm : List ℕ → State → ℕ → Told
+toldTerm W s i =
+    cond (identifierFormed W s i)
+    (Windows (frequency (shown (s .windows)) (stored W s) i) (amount (shown (s .windows)) (stored W s) i))
+    Malformed
+
+-- a window counts at most 32,767, and there are at most 65,535
+abbrev pub Fitting : Told → Type 0
+Fitting Malformed = Unit {0}
+Fitting (Windows n t) = (n ≤ 65535) × (t ≤ 32767 * n)
 
 -- r tells of the identifier i whether what is read of it is well formed; if so the group P is its term, and r tells how many postings of it are stored
 pub record CountedFor (W R : List ℕ) (s : State) (i m : ℕ) (P : List ℕ) (r : Counted) : Type 0 where

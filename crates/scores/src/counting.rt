@@ -16,7 +16,7 @@ ghost use Rattle.partitions.specs.Formed.{partitionsFormed, identifierFormed};
 ghost use Rattle.kway.specs.Parts.{parts};
 ghost use Rattle.heads.specs.Heads.{Kept, views};
 ghost use Rattle.terms.specs.Opening.{Packed};
-ghost use Rattle.scores.specs.Terms.{termOf, KeptGroup, CountedFor};
+ghost use Rattle.scores.specs.Terms.{termOf, KeptGroup, toldTerm, Fitting, CountedFor};
 
 // Whether what is read of an identifier is well formed, and how many postings of it are stored.
 pub struct Counted {
@@ -66,20 +66,30 @@ fn weigh(card: &[u8], run: &[u32], group: &mut [u32], m: usize, n: u16, f: u16)
     group[3] = l.others;
 }
 
-// Whether what is read of an identifier is well formed. The heads are opened, and spent by the judging.
+// What is told of an identifier, if what is read of it is well formed. The heads are opened, and spent by the judging.
+pub fn count_term(card: &[u8], run: &[u32], heads: &mut [u32], s: State, id: u16) -> Told
+    requires { ⌜ (stateRule s ≡ true) × (length (wordsOf (now card)) ≡ 1024 * blocks s)
+        × (partitionsFormed (wordsOf (now card)) (blocks s) (finished (s .partitions)) ≡ true)
+        × Packed (s .buffer) (now run) × (length (now heads) ≡ 4 * s .partitions .used + 4) ⌝ }
+    ensures { λ r. ⌜ (r ≡ toldTerm (wordsOf (now (card .entry))) s id) × Fitting r ⌝ }
+{
+    let n = s.partitions.used as usize;
+    terms::opening::open_heads(card, run, heads, s, id);
+    let current = s.windows.current as u32;
+    terms::judging::judge(card, run, heads, n, current)
+}
+
+// Whether what is read of an identifier is well formed. The heads are spent.
 pub fn judge_term(card: &[u8], run: &[u32], heads: &mut [u32], s: State, id: u16) -> bool
     requires { ⌜ (stateRule s ≡ true) × (length (wordsOf (now card)) ≡ 1024 * blocks s)
         × (partitionsFormed (wordsOf (now card)) (blocks s) (finished (s .partitions)) ≡ true)
         × Packed (s .buffer) (now run) × (length (now heads) ≡ 4 * s .partitions .used + 4) ⌝ }
     ensures { λ r. ⌜ r ≡ identifierFormed (wordsOf (now (card .entry))) s id ⌝ }
 {
-    let n = s.partitions.used as usize;
-    terms::opening::open_heads(card, run, heads, s, id);
-    let current = s.windows.current as u32;
-    let told = terms::judging::judge(card, run, heads, n, current);
+    let told = count_term(card, run, heads, s, id);
     match told {
         Told::Malformed => false,
-        Told::Windows(windows) => true,
+        Told::Windows(windows, total) => true,
     }
 }
 
@@ -107,7 +117,7 @@ pub fn keep_term(
             fine: false,
             taken: 0,
         },
-        Told::Windows(windows) => {
+        Told::Windows(windows, total) => {
             weigh(card, run, group, n + 1, s.windows.live, windows as u16);
             let taken = total_left(card, run, &group[4..], n + 1);
             Counted {

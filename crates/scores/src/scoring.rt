@@ -9,7 +9,7 @@ ghost use Rattle.lists.specs.Lists.{any, every};
 ghost use Rattle.keyed.specs.Keys.{topFrom, headVals};
 ghost use Rattle.keyed.specs.Groups.{topAll};
 ghost use Rattle.words.specs.Words.{words as wordsOf};
-ghost use Rattle.postings.specs.Sums.{above as aboveOf, isAbove};
+ghost use Rattle.postings.specs.Sums.{isAbove};
 ghost use Rattle.partitions.specs.Formed.{inRange};
 ghost use Rattle.kway.specs.Parts.{parts};
 ghost use Rattle.heads.specs.Heads.{views};
@@ -21,14 +21,6 @@ pub struct Scored {
     pub score: u32,
     pub counts: bool,
     pub next: u32,
-}
-
-// What a sum counts: nothing where it is not above 0.
-fn count_of(sum: i32) -> u16
-    requires { ⌜ inRange sum ≡ true ⌝ }
-    ensures { λ r. ⌜ (r ≡ aboveOf sum) × (r ≤ 32767) ⌝ }
-{
-    if sum < 0 { 0 } else { sum as u16 }
 }
 
 // Whether one holds.
@@ -66,7 +58,7 @@ fn take_term(card: &[u8], run: &[u32], group: &mut [u32], m: usize, key: u32) ->
     group[0] = next;
     group[2] = t.at;
     group[3] = t.others;
-    let count = count_of(t.sum);
+    let count = kway::above(t.sum) as u16;
     let score = weights::tf_weight(count) * weight;
     Scored {
         score: score,

@@ -1,16 +1,17 @@
 -- Sums of one identifier's postings: the test of the pairs that occur is a test of every window, and so is F.
-use Rattle.lists.proofs.Prelude.{Bool, true, false, _&&_, List, [], _∷_, ⊎-elim, _≡_, refl, sym, ap, _∙_, ℕ, zero, suc, _<_, _≤_, arith, ltb, eqb, ℤ, pos, _+ℤ_, +ℤ-idl, +ℤ-idr, length, ltb-true, lt-ltb, eqb-true, eq-eqb, ne-eqb, keep, every, down, by-test, and-left, and-right, and-both, and-swap, every-from}
+use Rattle.lists.proofs.Prelude.{totalBy, Bool, true, _&&_, List, [], _∷_, ⊎-elim, _≡_, refl, sym, ap, ap₂, _∙_, ℕ, zero, suc, _<_, _≤_, arith, ltb, eqb, ℤ, pos, _+ℤ_, +ℤ-idl, +ℤ-idr, length, ltb-true, lt-ltb, eqb-true, eq-eqb, ne-eqb, keep, every, down, by-test, and-left, and-right, and-both, and-swap, every-from}
 use Rattle.keyed.specs.Keys.{overKeys}
 use Rattle.keyed.proofs.Walk.{over-same, over-none, over-step}
 use Rattle.postings.specs.declared.Posting.{Posting}
 use Rattle.postings.specs.Order.{precedes, ordered}
 use Rattle.postings.specs.Merge.{pairs}
-use Rattle.postings.specs.Sums.{sum, isAbove}
+use Rattle.postings.specs.Sums.{sum, above}
 use Rattle.postings.proofs.Order.{precedes-cases}
 use Rattle.postings.proofs.Sums.{sum-pairs}
 use Rattle.postings.proofs.Merge.{every-puts, pairs-ordered}
 use Rattle.partitions.specs.Formed.{inRange, sumsInRange}
-use Rattle.terms.specs.Judged.{totalZ, ranges, countAbove}
+use Rattle.terms.specs.Judged.{totalZ, ranges, Spread, unspread, spreadAt}
+use Rattle.terms.proofs.Steps.{spread-none}
 
 -- the test of one sum at every window
 abbrev pub range : ℕ → ℤ → Bool → Bool
@@ -85,10 +86,13 @@ over-two A B zero = refl
 over-two A B (suc m) =
     rw (over-two A B m) (and-swap (inRange (A m)) (inRange (A m +ℤ (B m +ℤ pos 0))) (overKeys range true m A) (overKeys range true m (λ w. A w +ℤ (B w +ℤ pos 0))))
 
--- how many windows from n down pass a test, where window 0 does not
-pub over-down : (shows t : ℕ → Bool) (S : ℕ → List ℤ) → ((w : ℕ) → t w ≡ (isAbove (totalZ (S w)) && shows w)) → t 0 ≡ false → (n : ℕ) → length (keep t (down n)) ≡ overKeys (countAbove shows) 0 (suc n) S
+-- of the windows from n down that show, in how many something counts and how much, where nothing counts in window 0
+pub over-down : (shows : ℕ → Bool) (c : ℕ → ℕ) (S : ℕ → List ℤ) → ((w : ℕ) → c w ≡ above (totalZ (S w))) → c 0 ≡ 0 → (n : ℕ)
+    → overKeys (spreadAt shows) unspread (suc n) S ≡ record { windows = length (keep (λ w. ltb 0 (c w)) (keep shows (down n))); total = totalBy c (keep shows (down n)) }
 unfolding down overKeys
-over-down shows t S e z zero = rw (← e 0, z)
-over-down shows t S e z (suc n) =
-    let r = over-down shows t S e z n in
-    by-test (t (suc n)) (λ y. rw (y, ← e (suc n), y) (omega arith)) (λ y. rw (y, ← e (suc n), y) (omega arith))
+over-down shows c S e z zero = by-test (shows 0) (λ y. rw (y, ← e 0, z)) (λ y. rw y)
+over-down shows c S e z (suc n) =
+    ap (spreadAt shows (suc n) (S (suc n))) (over-down shows c S e z n)
+    ∙ by-test (shows (suc n))
+    (λ y. by-test (ltb 0 (c (suc n))) (λ t. rw (y, ← e (suc n), t) (ap₂ {C = Spread} (λ (a b : ℕ). record { windows = a; total = b }) (omega arith) refl)) (λ t. rw (y, ← e (suc n), t) (ap₂ {C = Spread} (λ (a b : ℕ). record { windows = a; total = b }) (omega arith) refl)))
+    (λ y. rw y (spread-none _))

@@ -1,5 +1,5 @@
 -- From the words that an identifier's heads have to come to what is stored under it.
-use Rattle.lists.proofs.Prelude.{Bool, true, _&&_, and-true, List, [], _∷_, _++_, map, _≡_, refl, sym, ap, ap₂, _∙_, ℕ, zero, suc, _+_, _-_, _/_, _%_, _≤_, arith, ltb, eqb, ℤ, pos, _+ℤ_, +ℤ-idr, length, take, drop, length-append, length-map, lt-ltb, le-ltb, eq-eqb, ne-eqb, every, joined, totalBy, AllOf, by-test, and-left, and-right, and-both, keep-append, every-keep, every-append, every-map, keep-joined, keep-both, down, and-past-two}
+use Rattle.lists.proofs.Prelude.{Bool, true, cond, _&&_, and-true, List, [], _∷_, _++_, map, _≡_, refl, sym, ap, ap₂, _∙_, ℕ, zero, suc, _+_, _-_, _/_, _%_, _≤_, arith, ltb, eqb, ℤ, pos, _+ℤ_, +ℤ-idr, length, take, drop, length-append, length-map, lt-ltb, le-ltb, eq-eqb, ne-eqb, every, joined, totalBy, AllOf, by-test, and-left, and-right, and-both, keep-append, every-keep, every-append, every-map, keep-joined, and-past-two}
 use Rattle.keyed.specs.Keys.{falls, allFall, sumOf, sums, overKeys}
 use Rattle.keyed.specs.Groups.{Group, allFallAll}
 use Rattle.keyed.proofs.Walk.{over-same}
@@ -8,7 +8,7 @@ use Rattle.words.specs.Words.{Below}
 use Rattle.postings.specs.declared.Posting.{Posting}
 use Rattle.postings.specs.Order.{ordered}
 use Rattle.postings.specs.Pack.{wordWindow, isPosting, posted}
-use Rattle.postings.specs.Sums.{sum, under, isAbove, frequency}
+use Rattle.postings.specs.Sums.{sum, under, above, frequency, amount}
 use Rattle.postings.proofs.Order.{ordered-next, keep-ordered}
 use Rattle.postings.proofs.Sums.{sum-append, sum-under}
 use Rattle.postings.proofs.Trips.{posting-window}
@@ -21,7 +21,7 @@ use Rattle.kway.specs.Parts.{part, parts}
 pub use Rattle.kway.proofs.Stored.{Small, rule, fine-rule, small-at}
 use Rattle.heads.specs.Heads.{itemOf, comes, coming, view}
 use Rattle.terms.specs.Both.{both}
-use Rattle.terms.specs.Judged.{totalZ, ranges, countAbove, formed, risen}
+use Rattle.terms.specs.Judged.{totalZ, ranges, unspread, spreadAt, formed, risen}
 use Rattle.terms.specs.Opening.{listed, Opens}
 use Rattle.terms.proofs.Steps.{total-none}
 use Rattle.terms.proofs.Ranges.{range, own, sums-range, over-two, over-down}
@@ -220,24 +220,20 @@ module _ (W R : List ℕ) (s : State) (i : ℕ) (H : List ℕ) (opens : Opens W 
     unfolding AllOf view
     none-at-zero = (zero-lists W R 65536 hs lists-fall, (rw (zero-words 65536 (coming W R last) run-falls), tt))
 
-    pub risen-same : frequency (shown (s .windows)) (stored W s) i ≡ risen (shows o) gs
-    unfolding frequency shown risen
+    pub risen-same : risen (shows o) gs ≡ record { windows = frequency (shown (s .windows)) (stored W s) i; total = amount (shown (s .windows)) (stored W s) i }
+    unfolding frequency amount shown risen
     risen-same =
-        ap length (sym (keep-both (λ w. isAbove (sum (stored W s) i w)) (shows o) counts (λ w. refl) (down 65535)))
-        ∙ over-down (shows o) counts (λ w. map (sums w) gs) (λ w. ap (λ (z : ℤ). isAbove z && shows o w) (total-same w))
-        (ap (λ (z : ℤ). isAbove z && shows o 0) (total-same 0 ∙ total-none (map (sums 0) gs) none-at-zero)) 65535
-      where
-        counts : ℕ → Bool
-        counts w = isAbove (sum (stored W s) i w) && shows o w
+        over-down (shows o) (λ w. above (sum (stored W s) i w)) (λ w. map (sums w) gs) (λ w. ap above (total-same w))
+        (ap above (total-same 0 ∙ total-none (map (sums 0) gs) none-at-zero)) 65535
 
 -- ---- at most 65,535 windows count
 
-few-windows : (shows : ℕ → Bool) (S : ℕ → List ℤ) → AllOf Zero (S 0) → (n : ℕ) → overKeys (countAbove shows) 0 (suc n) S ≤ n
+few-windows : (shows : ℕ → Bool) (S : ℕ → List ℤ) → AllOf Zero (S 0) → (n : ℕ) → overKeys (spreadAt shows) unspread (suc n) S .windows ≤ n
 unfolding overKeys
-few-windows shows S z zero = rw (total-none (S 0) z) (omega arith)
-few-windows shows S z (suc n) = let h = few-windows shows S z n in by-test (isAbove (totalZ (S (suc n))) && shows (suc n)) (λ y. rw y (omega arith)) (λ y. rw y (omega arith))
+few-windows shows S z zero = by-test (shows 0) (λ y. rw (y, total-none (S 0) z) (omega arith)) (λ y. rw y (omega arith))
+few-windows shows S z (suc n) = let h = few-windows shows S z n in by-test (ltb 0 (cond (shows (suc n)) (above (totalZ (S (suc n)))) 0)) (λ y. rw y (omega arith)) (λ y. rw y (omega arith))
 
 -- so F fits
-pub risen-few : (shows : ℕ → Bool) (gs : List Group) → AllOf Zero (map (sums 0) gs) → risen shows gs ≤ 65535
+pub risen-few : (shows : ℕ → Bool) (gs : List Group) → AllOf Zero (map (sums 0) gs) → risen shows gs .windows ≤ 65535
 unfolding risen
 risen-few shows gs z = few-windows shows (λ w. map (sums w) gs) z 65535

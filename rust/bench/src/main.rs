@@ -115,6 +115,36 @@ fn query(blocks: usize, probe: &Probe, names: &[Vec<u8>]) {
     );
 }
 
+fn means() {
+    title("a mean", "blocks, postings");
+    for blocks in BLOCKS {
+        let probe = half_full(blocks, ENTRIES);
+        for name in [name(2 * ENTRIES), name(3)] {
+            mean(blocks, &probe, &name);
+        }
+    }
+}
+
+/// Times a mean beside what a query of its identifier takes up. One of an identifier that the register has not is refused after all is
+/// read that every mean reads.
+fn mean(blocks: usize, probe: &Probe, name: &[u8]) {
+    let (image, card, register) = (&probe.image, &probe.card, &probe.register);
+    let found = proved::query(image, card, register, &[name], &mut [0; proved::HIT]);
+    let taken = found.expect("a fitting query").taken;
+    let is_counted = taken > 0;
+    compare(
+        &format!("{blocks}, {taken}"),
+        || {
+            let told = proved::mean(image, card, register, name);
+            assert_eq!(told.is_ok(), is_counted);
+        },
+        || {
+            let told = engine::mean(&probe.state, card, register, name);
+            assert_eq!(told.is_ok(), is_counted);
+        },
+    );
+}
+
 /// Steps to the end, or so many; gives how many were taken.
 fn steps(most: usize, mut step: impl FnMut() -> bool) -> usize {
     (0..most).take_while(|_| step()).count()
@@ -214,6 +244,10 @@ fn stacks() {
         let (image, card, register) = (&probe.image, &probe.card, &probe.register);
         assert!(proved::query(image, card, register, &ids, &mut hits).is_ok());
     });
+    stack("mean", &probes, |probe| {
+        let (image, card, register) = (&probe.image, &probe.card, &probe.register);
+        assert!(proved::mean(image, card, register, ids[0]).is_ok());
+    });
 }
 
 /// All tables; or, with `peers FOLDER`, the queries that other engines are held against.
@@ -227,6 +261,7 @@ fn main() {
     registers();
     events();
     queries();
+    means();
     merges();
     stacks();
 }

@@ -76,6 +76,16 @@ mod exported {
             hits: *mut u8,
             hits_length: usize,
         ) -> u64;
+        pub fn gemsilver_mean(
+            image: *const u8,
+            image_length: usize,
+            card: *const u8,
+            card_length: usize,
+            register: *const u8,
+            register_length: usize,
+            identifier: *const u8,
+            identifier_length: usize,
+        ) -> u64;
     }
 }
 
@@ -86,6 +96,17 @@ pub struct Found {
     pub hits: u32,
     /// How many stored postings were taken up.
     pub taken: u64,
+}
+
+/// The mean count of an identifier: quotient times windows and the remainder are the sum of its counts.
+#[derive(Clone, Copy, PartialEq, Eq, Debug)]
+pub struct Mean {
+    /// The sum divided by the number of windows, without its fraction.
+    pub quotient: u32,
+    /// What the division leaves over, below the number of windows.
+    pub remainder: u32,
+    /// In how many closed windows the identifier has a count above 0.
+    pub windows: u32,
 }
 
 /// Whether a register has 1 to 1,024 whole entries and is well formed.
@@ -229,6 +250,33 @@ pub fn query(
         0 => Ok(Found {
             hits: (number / 256 % 256) as u32,
             taken: number / 65_536,
+        }),
+        refusal => Err(refusal),
+    }
+}
+
+/// Divides the sum of an identifier's counts above 0 in closed windows by the number of these windows.
+pub fn mean(image: &[u8], card: &[u8], register: &[u8], identifier: &[u8]) -> Result<Mean, u32> {
+    // Sound: each pointer and length are those of one slice, and all are only read.
+    let number = unsafe {
+        exported::gemsilver_mean(
+            image.as_ptr(),
+            image.len(),
+            card.as_ptr(),
+            card.len(),
+            register.as_ptr(),
+            register.len(),
+            identifier.as_ptr(),
+            identifier.len(),
+        )
+    };
+    // Four numbers of 16 bits.
+    let part = |place: u32| (number >> (16 * place) & 0xffff) as u32;
+    match part(0) {
+        0 => Ok(Mean {
+            windows: part(1),
+            remainder: part(2),
+            quotient: part(3),
         }),
         refusal => Err(refusal),
     }

@@ -32,6 +32,8 @@ pub enum Refusal {
     NothingDue = 13,
     /// A query has too few, too many or equal identifiers, or a list of a wrong length.
     BadQuery = 14,
+    /// The identifier counts in no closed window.
+    Uncounted = 15,
 }
 
 impl Refusal {

@@ -1,12 +1,13 @@
 -- `numbers::settle_open` meets its contract.
 use Rattle.lists.proofs.Prelude.{refl, arith, needs}
 use Rattle.numbers.specs.Images.{imaged}
-use Rattle.numbers.proofs.Told.{number-small, opened-number, opened-refused}
+use Rattle.answers.proofs.Refusals.{number-within}
+use Rattle.numbers.proofs.Told.{opened-number, opened-refused}
 use Rattle.numbers.proofs.settle_open.Statement.{statement}
 use Rattle.numbers.proofs.settle_open.Tie as tie
 
 add-result : tie.Need-add-result
-add-result c = omega (arith, c .number-of .ensures, number-small (c .before .before .answer .given .0 .0))
+add-result c = omega (arith, c .number-of .ensures, number-within (c .before .before .answer .given .0 .0) .1)
 
 returns : tie.Need-returns
 returns c = rw (c .before .before .answer .given .1, c .number-of .ensures) (opened-refused _, refl)

@@ -1,6 +1,6 @@
-//! One query while a window is open and after its close, counted by hand.
+//! One query and one mean while a window is open and after its close, counted by hand.
 
-use crate::engines::{Call, proved};
+use crate::engines::{Call, Told, proved};
 use crate::pair::Pair;
 use crate::tally::Tally;
 use crate::words::word;
@@ -26,9 +26,15 @@ fn ask(pair: &mut Pair) -> (Vec<(u32, u32)>, u64) {
     make(pair, call.clone());
     let mut hits = call.list();
     let answer = proved(&mut pair.probe().clone(), &call, &mut hits);
-    let (listed, taken) = answer.expect("it was answered before");
+    let [listed, taken, _] = answer.expect("it was answered before");
     let hit = |place: usize| (word(&hits, 2 * place), word(&hits, 2 * place + 1));
     ((0..listed as usize).map(hit).collect(), taken)
+}
+
+/// The mean of LUCKY: quotient, remainder and windows.
+fn mean(pair: &mut Pair) -> Told {
+    let call = Call::Mean(LUCKY.to_vec());
+    pair.make(&call, &mut Tally::default()).expect("a mean")
 }
 
 /// Window 1 has LUCKY 3, window 2 DOOR 1; both are closed. Window 3 counts LUCKY eight times, with a flush after each.
@@ -48,14 +54,20 @@ fn a_window_shows_from_its_close() {
         // One window of two weighs 4; the open one's postings are taken up all the same.
         let taken = u64::from(flush) + 2;
         assert_eq!(ask(&mut pair), (vec![(1, 8 * 4)], taken));
+        assert_eq!(mean(&mut pair), [3, 0, 1]);
         make(&mut pair, Call::Flush);
         assert_eq!(ask(&mut pair), (vec![(1, 8 * 4)], taken));
+        assert_eq!(mean(&mut pair), [3, 0, 1]);
     }
     make(&mut pair, Call::Step);
     assert_eq!(ask(&mut pair), (vec![(1, 8 * 4)], 9));
+    assert_eq!(mean(&mut pair), [3, 0, 1]);
     make(&mut pair, Call::Step);
     assert_eq!(ask(&mut pair), (vec![(1, 8 * 4)], 2));
+    assert_eq!(mean(&mut pair), [3, 0, 1]);
     make(&mut pair, Call::Close);
     // Count 8 weighs 12, two windows of three 2.
     assert_eq!(ask(&mut pair), (vec![(3, 12 * 2), (1, 8 * 2)], 2));
+    // 11 in two windows.
+    assert_eq!(mean(&mut pair), [5, 1, 2]);
 }

@@ -172,4 +172,5 @@ fn expect_all(tally: &Tally, times: usize) {
     tally.expect("remove", &[0, 1, 2, 3, 5, 7], times);
     tally.expect("step", &[0, 1, 2, 3, 12, 13], times);
     tally.expect("query", &[0, 1, 2, 3, 4, 14], times);
+    tally.expect("mean", &[0, 1, 2, 3, 4, 15], times);
 }

@@ -25,6 +25,7 @@ pub enum Call {
     Step,
     /// The identifiers, and what the list of hits holds before.
     Query(Vec<Vec<u8>>, Vec<u8>),
+    Mean(Vec<u8>),
 }
 
 impl Call {
@@ -38,6 +39,7 @@ impl Call {
             Call::Remove(_) => "remove",
             Call::Step => "step",
             Call::Query(..) => "query",
+            Call::Mean(_) => "mean",
         }
     }
 
@@ -50,10 +52,22 @@ impl Call {
     }
 }
 
-/// What a call answers: an open its window, a query its hits and postings taken, others zeros; or a refusal's number.
-pub type Answer = Result<(u32, u64), u32>;
+/// What a call is answered with where it is done.
+pub type Told = [u64; 3];
 
-const NOTHING: (u32, u64) = (0, 0);
+/// What a call answers: an open its window, a query its hits and postings taken, a mean its quotient, remainder and windows, and zeros
+/// for the rest; or a refusal's number.
+pub type Answer = Result<Told, u32>;
+
+const NOTHING: Told = [0; 3];
+
+fn window(number: impl Into<u64>) -> Told {
+    [number.into(), 0, 0]
+}
+
+fn found(hits: impl Into<u64>, taken: impl Into<u64>) -> Told {
+    [hits.into(), taken.into(), 0]
+}
 
 fn slices(names: &[Vec<u8>]) -> Vec<&[u8]> {
     names.iter().map(|name| &name[..]).collect()
@@ -68,14 +82,16 @@ pub fn proved(probe: &mut Probe, call: &Call, hits: &mut [u8]) -> Answer {
     } = probe;
     match call {
         Call::Start => proved::start(image, card, register).map(|()| NOTHING),
-        Call::Open => proved::open(image).map(|window| (window, 0)),
+        Call::Open => proved::open(image).map(window),
         Call::Close => proved::close(image).map(|()| NOTHING),
         Call::Event(name) => proved::event(image, card, register, name).map(|()| NOTHING),
         Call::Flush => proved::flush(image, card).map(|()| NOTHING),
         Call::Remove(window) => proved::remove(image, card, *window).map(|()| NOTHING),
         Call::Step => proved::step(image, card).map(|()| NOTHING),
         Call::Query(names, _) => proved::query(image, card, register, &slices(names), hits)
-            .map(|found| (found.hits, found.taken)),
+            .map(|answer| found(answer.hits, answer.taken)),
+        Call::Mean(name) => proved::mean(image, card, register, name)
+            .map(|mean| [mean.quotient, mean.remainder, mean.windows].map(u64::from)),
     }
 }
 
@@ -96,7 +112,7 @@ pub fn second(probe: &mut Probe, call: &Call, hits: &mut [u8]) -> Answer {
     numbered(answer)
 }
 
-fn numbered(answer: Result<(u32, u64), Refusal>) -> Answer {
+fn numbered(answer: Result<Told, Refusal>) -> Answer {
     answer.map_err(|refusal| refusal.number().into())
 }
 
@@ -105,11 +121,11 @@ fn on_state(
     probe: &mut Probe,
     call: &Call,
     hits: &mut [u8],
-) -> Result<(u32, u64), Refusal> {
+) -> Result<Told, Refusal> {
     let Probe { card, register, .. } = probe;
     match call {
         Call::Start => unreachable!("a start reads no state"),
-        Call::Open => engine::open(state).map(|window| (window.into(), 0)),
+        Call::Open => engine::open(state).map(window),
         Call::Close => engine::close(state).map(|()| NOTHING),
         Call::Event(name) => engine::event(state, card, register, name).map(|()| NOTHING),
         Call::Flush => engine::flush(state, card).map(|()| NOTHING),
@@ -117,13 +133,15 @@ fn on_state(
         Call::Step => engine::step(state, card).map(|()| NOTHING),
         Call::Query(names, _) => {
             let mut list = vec![Hit::default(); hits.len() / 8];
-            let found = engine::query(state, card, register, &slices(names), &mut list)?;
-            let listed = usize::from(found.hits);
+            let answer = engine::query(state, card, register, &slices(names), &mut list)?;
+            let listed = usize::from(answer.hits);
             for (place, hit) in hits.chunks_exact_mut(8).zip(&list[..listed]) {
                 put(place, 0, hit.window.into());
                 put(place, 1, hit.score);
             }
-            Ok((found.hits.into(), found.taken.into()))
+            Ok(found(answer.hits, answer.taken))
         }
+        Call::Mean(name) => engine::mean(state, card, register, name)
+            .map(|mean| [mean.quotient, mean.remainder, mean.windows].map(u64::from)),
     }
 }

@@ -130,6 +130,8 @@ fn both_engines_go_through_histories_alike() {
     tally.expect("remove", &[10, 11], 20);
     tally.expect("step", &[0, 13], 1_000);
     tally.expect("query", &[0, 4, 14], 100);
+    tally.expect("mean", &[0, 15], 1_000);
+    tally.expect("mean", &[4], 100);
     tally.expect_left_out(100);
 }
 

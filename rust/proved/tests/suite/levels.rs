@@ -80,6 +80,7 @@ fn both_engines_merge_alike_up_to_the_highest_level() {
     }
     tally.print("levels");
     tally.expect("step", &[0], 200);
+    tally.expect("mean", &[0], 20);
 }
 
 /// Partitions grow flush by flush, one event each, until three of level 5 are merged into one.
@@ -91,8 +92,8 @@ fn both_engines_agree_on_a_long_history() {
     for flush in 0..3 * 8usize.pow(5) {
         if flush % 100 == 0 {
             let _ = pair.make(&Call::Close, &mut tally);
-            let window = pair.make(&Call::Open, &mut tally).expect("a number").0;
-            if window > oldest + 10 {
+            let [window, ..] = pair.make(&Call::Open, &mut tally).expect("a number");
+            if window > u64::from(oldest) + 10 {
                 pair.make(&Call::Remove(oldest), &mut tally)
                     .expect("it is live");
                 oldest += 1;
@@ -103,6 +104,12 @@ fn both_engines_agree_on_a_long_history() {
         pair.make(&Call::Flush, &mut tally).expect("there is room");
         if flush % 8 == 7 {
             while pair.make(&Call::Step, &mut tally).is_ok() {}
+        }
+        if flush % 1_000 == 999 {
+            // A closed window has 100 events, of five names in turn.
+            let mean = Call::Mean(name(flush % 5));
+            let [quotient, remainder, _] = pair.make(&mean, &mut tally).expect("a mean");
+            assert_eq!((quotient, remainder), (20, 0));
         }
     }
     tally.print("long history");

@@ -7,6 +7,7 @@ mod engines;
 mod histories;
 mod history;
 mod levels;
+mod means;
 mod pair;
 mod parts;
 mod registers;

@@ -7,6 +7,9 @@ use second::state::State;
 
 const BLOCK: usize = 4_096;
 
+/// The refusal of a mean for an identifier that no closed window has.
+pub const UNCOUNTED: u32 = 15;
+
 pub struct Pair {
     proved: Probe,
     second: Probe,
@@ -40,8 +43,18 @@ impl Pair {
         &self.before
     }
 
-    /// Makes a call of both engines and compares.
+    /// Makes a call of both engines and compares. After a query come the means of its identifiers.
     pub fn make(&mut self, call: &Call, tally: &mut Tally) -> Answer {
+        let answer = self.make_one(call, tally);
+        if let Call::Query(identifiers, _) = call {
+            for identifier in identifiers {
+                let _ = self.make_one(&Call::Mean(identifier.clone()), tally);
+            }
+        }
+        answer
+    }
+
+    fn make_one(&mut self, call: &Call, tally: &mut Tally) -> Answer {
         let (mut found, mut expected) = (call.list(), call.list());
         let answer = proved(&mut self.proved, call, &mut found);
         let second = second(&mut self.second, call, &mut expected);
@@ -49,8 +62,8 @@ impl Pair {
         assert!(found == expected, "hits: {call:?}");
         same(&self.proved, &self.second, call);
         tally.record(call.name(), answer.err());
-        if matches!(call, Call::Query(..)) && answer.is_ok() && leaves_out(&self.before, call) {
-            tally.leave_out();
+        if is_answered(call, &answer) && leaves_out(&self.before, call) {
+            tally.leave_out(call.name());
         }
         // A start refused for a length leaves a state of zeros.
         if answer.is_ok() || matches!(call, Call::Start) {
@@ -75,9 +88,19 @@ impl Pair {
     }
 }
 
-/// Whether a query leaves out counts of the open window that lie in partitions: with no window open, the same card gives other hits.
+/// Whether a query or a mean was answered from counts; of a mean, that no closed window has the identifier is such an answer.
+fn is_answered(call: &Call, answer: &Answer) -> bool {
+    match call {
+        Call::Query(..) => answer.is_ok(),
+        Call::Mean(_) => answer.is_ok() || *answer == Err(UNCOUNTED),
+        _ => false,
+    }
+}
+
+/// Whether a query or a mean leaves out counts of the open window that lie in partitions: with no window open, the same card gives
+/// another answer.
 fn leaves_out(probe: &Probe, call: &Call) -> bool {
-    let mut state = image::read(&probe.image).expect("the query was answered");
+    let mut state = image::read(&probe.image).expect("the call was answered");
     if state.windows.open == 0 {
         return false;
     }

@@ -11,7 +11,7 @@ pub const BLOCK: usize = 4_096;
 pub const CONTENT: usize = 4_092;
 
 /// The content of a partition of these identifiers' lists, which may be empty where it is to be malformed.
-fn encode(level: u16, lists: &[Listed]) -> Vec<u8> {
+pub fn encode(level: u16, lists: &[Listed]) -> Vec<u8> {
     let postings: Vec<&Posting> = lists.iter().flat_map(|(_, list)| list).collect();
     let start = 32 + 12 * lists.len();
     let total = start + 4 * postings.len();
@@ -33,7 +33,7 @@ fn encode(level: u16, lists: &[Listed]) -> Vec<u8> {
 }
 
 /// Writes content and links into these blocks.
-fn lay(card: &mut [u8], blocks: &[usize], content: &[u8]) {
+pub fn lay(card: &mut [u8], blocks: &[usize], content: &[u8]) {
     for (place, &number) in blocks.iter().enumerate() {
         let block = &mut card[number * BLOCK..][..BLOCK];
         let piece = &content[place * CONTENT..content.len().min((place + 1) * CONTENT)];
@@ -78,7 +78,7 @@ fn list(mix: &Mix, id: u16, rng: &mut Rng) -> Vec<Posting> {
 }
 
 /// An identifier and its list.
-type Listed = (u16, Vec<Posting>);
+pub type Listed = (u16, Vec<Posting>);
 
 /// The lists with every count negated.
 fn negated(mut lists: Vec<Listed>) -> Vec<Listed> {
@@ -163,7 +163,7 @@ pub fn mix(rng: &mut Rng) -> Mix {
 }
 
 /// A register of the first so many names.
-fn register(entries: usize, used: usize) -> Vec<u8> {
+pub fn register(entries: usize, used: usize) -> Vec<u8> {
     let mut register = vec![0; entries * 65];
     for (number, entry) in register.chunks_exact_mut(65).take(used).enumerate() {
         let name = name(number);

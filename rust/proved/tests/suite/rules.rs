@@ -11,13 +11,14 @@ use second::image;
 use second::state::{Partition, Posting, State, Windows};
 use std::collections::BTreeMap;
 
-/// Judges a state by calls that read nothing else.
+/// Judges a state by calls that read nothing else, and by a mean that comes no further than the lengths.
 fn judge(image: &[u8], tally: &mut Tally) {
     let mut pair = Pair::of(Probe {
         image: image.to_vec(),
         card: Vec::new(),
         register: Vec::new(),
     });
+    let _ = pair.make(&Call::Mean(b"A".to_vec()), tally);
     let _ = pair.make(&Call::Open, tally);
     let _ = pair.make(&Call::Close, tally);
 }
@@ -79,6 +80,7 @@ fn both_engines_judge_every_number_alike() {
     tally.print("every number");
     tally.expect("open", &[0, 1, 5], 1_000);
     tally.expect("close", &[0, 1], 1_000);
+    tally.expect("mean", &[1, 2], 1_000);
 }
 
 /// The last number given, N, the open window and its events, with postings of that window.

@@ -6,8 +6,8 @@ use std::collections::BTreeMap;
 pub struct Tally {
     /// By call and refusal; 0 for a call that was done.
     counts: BTreeMap<(&'static str, u32), usize>,
-    /// Queries that left out counts of the open window in partitions.
-    left_out: usize,
+    /// Calls by name that left out counts of the open window in partitions.
+    left_out: BTreeMap<&'static str, usize>,
 }
 
 impl Tally {
@@ -15,9 +15,9 @@ impl Tally {
         *self.counts.entry((call, refusal.unwrap_or(0))).or_default() += 1;
     }
 
-    /// Notes a query that left out counts of the open window in partitions.
-    pub fn leave_out(&mut self) {
-        self.left_out += 1;
+    /// Notes a call that left out counts of the open window in partitions.
+    pub fn leave_out(&mut self, call: &'static str) {
+        *self.left_out.entry(call).or_default() += 1;
     }
 
     /// Prints what was compared, a line a call and one for all.
@@ -36,11 +36,8 @@ impl Tally {
         for (call, (count, line)) in calls {
             println!("  {call:6} {count:7}:{line}");
         }
-        if self.left_out > 0 {
-            println!(
-                "  queries past an open window on the card: {}",
-                self.left_out
-            );
+        for (call, count) in &self.left_out {
+            println!("  {call:6} {count:7}: past an open window on the card");
         }
     }
 
@@ -52,9 +49,11 @@ impl Tally {
         }
     }
 
-    /// So many queries must have left out counts of the open window in partitions.
+    /// So many queries and so many means must have left out counts of the open window in partitions.
     pub fn expect_left_out(&self, times: usize) {
-        let met = self.left_out;
-        assert!(met >= times, "queries past an open window: met {met} times");
+        for call in ["query", "mean"] {
+            let met = self.left_out.get(call).copied().unwrap_or(0);
+            assert!(met >= times, "{call} past an open window: met {met} times");
+        }
     }
 }

@@ -6,6 +6,7 @@
 mod close;
 mod event;
 mod flush;
+mod mean;
 mod open;
 mod query;
 mod remove;
@@ -15,6 +16,7 @@ mod step;
 pub use close::close;
 pub use event::event;
 pub use flush::flush;
+pub use mean::{Mean, mean};
 pub use open::open;
 pub use query::{Found, query};
 pub use remove::remove;

@@ -29,6 +29,35 @@ pub fn query(
     ids: &[&[u8]],
     hits: &mut [Hit],
 ) -> Result<Found, Refusal> {
+    let counted = counted(state, card, register, ids)?;
+    if !is_query(ids, hits) {
+        return Err(Refusal::BadQuery);
+    }
+    let ranked = ranked(&scores(&state.windows, counted.sums));
+    let listed = ranked.len().min(hits.len());
+    hits[..listed].copy_from_slice(&ranked[..listed]);
+    Ok(Found {
+        hits: listed as u16,
+        taken: counted.taken,
+    })
+}
+
+/// What card and buffer hold of some identifiers.
+pub(super) struct Counted {
+    /// The count of each pair.
+    pub sums: Sums,
+    /// How many stored postings they were summed from.
+    pub taken: u32,
+}
+
+/// Reads and judges what card, register and buffer hold of the identifiers, and
+/// then judges these: refusals 1 to 4 of every call that reads counts by identifier.
+pub(super) fn counted(
+    state: &State,
+    card: &[u8],
+    register: &[u8],
+    ids: &[&[u8]],
+) -> Result<Counted, Refusal> {
     check_state(state)?;
     check_card(state, card)?;
     check_register(state, register)?;
@@ -41,14 +70,8 @@ pub fn query(
     if !ids.iter().all(|id| is_identifier(id)) {
         return Err(Refusal::BadIdentifier);
     }
-    if !is_query(ids, hits) {
-        return Err(Refusal::BadQuery);
-    }
-    let ranked = ranked(&scores(&state.windows, sums));
-    let listed = ranked.len().min(hits.len());
-    hits[..listed].copy_from_slice(&ranked[..listed]);
-    Ok(Found {
-        hits: listed as u16,
+    Ok(Counted {
+        sums,
         taken: (on_card.len() + buffered.len()) as u32,
     })
 }
@@ -87,10 +110,16 @@ fn sums_of(on_card: &[Posting], buffered: &[Posting]) -> Option<Sums> {
     are_counts(&sums).then_some(sums)
 }
 
-/// The score of each closed window with a count above 0. Every window but the
-/// open one is closed, even above the last number given.
-fn scores(windows: &Windows, mut sums: Sums) -> BTreeMap<u16, u32> {
+/// The counts above 0 of closed windows. Every window but the open one is
+/// closed, even above the last number given.
+pub(super) fn of_closed(windows: &Windows, mut sums: Sums) -> Sums {
     sums.retain(|&(_, Reverse(window)), &mut sum| window != windows.open && sum > 0);
+    sums
+}
+
+/// The score of each closed window with a count above 0.
+fn scores(windows: &Windows, sums: Sums) -> BTreeMap<u16, u32> {
+    let sums = of_closed(windows, sums);
     // A window counts one time for an identifier, however many partitions hold it.
     let mut windows_with: BTreeMap<u16, u16> = BTreeMap::new();
     for &(id, _) in sums.keys() {

@@ -1,7 +1,7 @@
 //! What the calls must answer, kept without bytes.
 //!
-//! The ledger has the counts of every live window, and answers queries from
-//! those of the closed ones alone: the open one shows from its close.
+//! The ledger has the counts of every live window, and answers queries and
+//! means from those of the closed ones alone: the open one shows from its close.
 //! Beside it runs an account of the card: how many postings lie where, which
 //! decides when there is no room and what a query takes up. Neither uses any
 //! code or type of the engine, so that an error is not made twice.
@@ -21,6 +21,17 @@ pub struct Reply {
     pub hits: Vec<(u32, u32)>,
     /// Stored postings taken up.
     pub taken: usize,
+}
+
+/// What a mean answers.
+#[derive(Clone, PartialEq, Eq, Debug)]
+pub struct Mean {
+    /// The sum of the counts divided by how many they are, without its fraction.
+    pub quotient: u32,
+    /// What the division leaves over.
+    pub remainder: u32,
+    /// How many closed windows have the identifier.
+    pub windows: u32,
 }
 
 /// The live windows and what the calls have done to them.
@@ -165,6 +176,23 @@ impl Ledger {
         })
     }
 
+    /// The mean of the identifier's counts over the closed windows that have it.
+    pub fn mean(&self, identifier: &[u8]) -> Answer<Mean> {
+        if !is_identifier(identifier) {
+            return Err(4);
+        }
+        let windows = self.counts_of(identifier).count() as u32;
+        if windows == 0 {
+            return Err(15);
+        }
+        let sum: u32 = self.counts_of(identifier).sum();
+        Ok(Mean {
+            quotient: sum / windows,
+            remainder: sum % windows,
+            windows,
+        })
+    }
+
     /// The open window's events.
     pub fn events(&self) -> u32 {
         let counts = self.open.and_then(|window| self.live.get(&window));
@@ -203,8 +231,13 @@ impl Ledger {
     }
 
     fn windows_with(&self, id: &[u8]) -> u128 {
-        let with = self.closed().filter(|(_, counts)| counts.contains_key(id));
-        with.count() as u128
+        self.counts_of(id).count() as u128
+    }
+
+    /// The identifier's count in each closed window that has it.
+    fn counts_of(&self, id: &[u8]) -> impl Iterator<Item = u32> {
+        self.closed()
+            .filter_map(move |(_, counts)| counts.get(id).copied())
     }
 }
 

@@ -2,7 +2,7 @@
 
 use crate::twin::check_byte_rule;
 use second::commands::Probe;
-use second::engine;
+use second::engine::{self, Mean};
 use second::refusal::Refusal;
 use second::state::Hit;
 
@@ -15,6 +15,7 @@ pub enum Call {
     Flush,
     Step,
     Query(Vec<Vec<u8>>, usize),
+    Mean(Vec<u8>),
 }
 
 /// Makes a call and gives the refusal, if any. A refusal must change nothing,
@@ -54,7 +55,27 @@ fn call_engine(probe: &mut Probe, call: &Call) -> Result<(), Refusal> {
             assert!(hits[listed..].iter().all(|hit| *hit == untouched));
             found.map(drop)
         }
+        Call::Mean(name) => mean_of(probe, name).map(drop),
     }
+}
+
+/// The mean of an identifier. A query of it alone is refused for the same
+/// reason, or lists the windows of the mean as far as it has places.
+pub fn mean_of(probe: &Probe, name: &[u8]) -> Result<Mean, Refusal> {
+    let (state, card, register) = (&probe.state, &probe.card, &probe.register);
+    let mut hits = [Hit::default(); 32];
+    let found = engine::query(state, card, register, &[name], &mut hits);
+    let answer = engine::mean(state, card, register, name);
+    let windows = match answer {
+        Err(Refusal::Uncounted) => Ok(0),
+        other => other.map(|mean| usize::from(mean.windows)),
+    };
+    let listed = found.map(|found| usize::from(found.hits));
+    assert_eq!(windows.map(|windows| windows.min(hits.len())), listed);
+    if let Ok(mean) = answer {
+        assert!(mean.remainder < mean.windows, "{mean:?}");
+    }
+    answer
 }
 
 /// The refusal of a call on a copy; 0 if it is done.
@@ -68,4 +89,8 @@ pub fn event(name: &[u8]) -> Call {
 
 pub fn query(names: &[&[u8]]) -> Call {
     Call::Query(names.iter().map(|name| name.to_vec()).collect(), 4)
+}
+
+pub fn mean(name: &[u8]) -> Call {
+    Call::Mean(name.to_vec())
 }

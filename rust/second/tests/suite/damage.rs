@@ -39,13 +39,14 @@ fn number(rng: &mut Rng) -> u32 {
 }
 
 fn random_call(rng: &mut Rng, last: u16) -> Call {
-    match rng.below(9) {
+    match rng.below(10) {
         0 => Call::Open,
         1 | 2 => Call::Event(any_name(rng)),
         3 => Call::Close,
         4 => Call::Remove(rng.below(usize::from(last) + 2) as u32),
         5 => Call::Flush,
         6 | 7 => Call::Step,
+        8 => Call::Mean(any_name(rng)),
         _ => {
             let names = (0..rng.pick(&[0, 1, 1, 2, 2, 3, 5, 6, 9])).map(|_| any_name(rng));
             Call::Query(names.collect(), rng.pick(&[0, 1, 2, 5, 8, 16, 32, 33, 500]))
@@ -172,6 +173,7 @@ fn kind(call: &Call) -> &'static str {
         Call::Flush => "flush",
         Call::Step => "step",
         Call::Query(..) => "query",
+        Call::Mean(_) => "mean",
     }
 }
 
@@ -205,6 +207,8 @@ fn damage_is_refused_or_borne() {
     for number in [1, 2, 3, 12] {
         assert!(tally.refusals.contains_key(&number), "never met: {number}");
     }
+    tally.expect_done("mean", 300);
+    tally.expect_refused(15, 50);
 }
 
 /// States of random numbers altogether, on cards of any length.

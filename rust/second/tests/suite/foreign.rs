@@ -1,6 +1,6 @@
 //! What the calls do with states and cards that no history of theirs made.
 
-use crate::calls::{Call, event, make, outcome, query};
+use crate::calls::{Call, event, make, mean, outcome, query};
 use crate::image::BLOCK;
 use crate::malformed::{card_of, part};
 use second::commands::Probe;
@@ -132,6 +132,10 @@ fn sums_of_the_open_window_are_counts_too() {
         let probe = card_of(parts(counts));
         assert_eq!(outcome(&probe, &query(&[b"A"])), expected, "{counts:?}");
         assert_eq!(outcome(&probe, &query(&[b"B"])), 0);
+        // No closed window has either.
+        let refused = if expected == 3 { 3 } else { 15 };
+        assert_eq!(outcome(&probe, &mean(b"A")), refused, "{counts:?}");
+        assert_eq!(outcome(&probe, &mean(b"B")), 15);
     }
 }
 
@@ -290,6 +294,10 @@ fn reasons_come_in_their_order() {
     assert_eq!(outcome(&probe, &Call::Query(vec![vec![0; 65]], 0)), 4);
     assert_eq!(outcome(&probe, &query(&[b"A", b"A", b""])), 4);
     assert_eq!(outcome(&probe, &query(&[b"A", b"A"])), 14);
+    // 4 before 15.
+    assert_eq!(outcome(&probe, &mean(b"")), 4);
+    assert_eq!(outcome(&probe, &mean(&[0; 65])), 4);
+    assert_eq!(outcome(&probe, &mean(&[0; 64])), 15);
     // 5 before 6.
     let mut probe = small_parts(0);
     probe.state.buffer = Default::default();

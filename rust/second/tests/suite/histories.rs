@@ -128,7 +128,13 @@ fn sweep(seed: u64) -> Twin {
         twin.close().expect("it is open");
         twin.flush().expect("there is room");
         twin.query(&[&name(0), &name(1)], 5).expect("a query");
+        let counted = twin.mean(&name(0)).is_ok();
         twin.remove(window).expect("it is live");
+        // No other window is live.
+        assert_eq!(twin.mean(&name(0)), Err(15));
+        if counted {
+            twin.tally.see("removals that take the last mean");
+        }
         twin.flush().expect("there is room");
         while rng.one_in(2) || twin.ledger.account.parts.len() > 10 {
             let is_due = twin.ledger.account.due_inputs().is_some();
@@ -140,14 +146,24 @@ fn sweep(seed: u64) -> Twin {
 }
 
 /// What must have been seen, or a test would be empty.
-const SIGHTS: [&str; 20] = [
+const SIGHTS: [&str; 31] = [
     "blocks taken round the end",
+    "closes that bring the first mean",
     "closes that change an answer",
     "empty results after several steps",
     "flushes during a merge",
     "flushes inside events",
     "flushes inside removals",
     "flushes of an empty buffer",
+    "means during a merge",
+    "means of a window split over three partitions",
+    "means of a window that skips a partition",
+    "means of an open window in a merged partition",
+    "means of an open window in a partition",
+    "means of an unknown identifier",
+    "means of removed counts alone",
+    "means of the open window's counts alone",
+    "means with a remainder",
     "merges that drop a sum of 0",
     "merges that keep a negative posting",
     "merges to level 1",
@@ -161,6 +177,7 @@ const SIGHTS: [&str; 20] = [
     "queries of a window that skips a partition",
     "queries of an open window in a merged partition",
     "queries of an open window in a partition",
+    "removals that take the last mean",
 ];
 
 #[test]
@@ -176,9 +193,11 @@ fn engine_and_ledger_agree_at_every_call() {
     for sight in SIGHTS {
         assert!(tally.sights.contains_key(sight), "never seen: {sight}");
     }
-    for number in [4, 5, 7, 8, 9, 10, 11, 13, 14] {
+    for number in [4, 5, 7, 8, 9, 10, 11, 13, 14, 15] {
         assert!(tally.refusals.contains_key(&number), "never met: {number}");
     }
+    tally.expect_done("mean", 10_000);
+    tally.expect_refused(15, 1_000);
     // The room that refusal 11 keeps is enough for every merge: an output is no
     // longer than its inputs.
     assert!(!tally.refusals.contains_key(&12));

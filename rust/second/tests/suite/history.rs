@@ -77,7 +77,7 @@ pub fn act(twin: &mut Twin, rng: &mut Rng, plan: &Plan) -> bool {
     unreachable!("the weights have been added up")
 }
 
-/// Opens a window, or closes the open one between two queries of what it holds.
+/// Opens a window, or closes the open one between queries and means of what it holds.
 fn turn(twin: &mut Twin, _: &mut Rng, _: &Plan) -> bool {
     if twin.ledger.open.is_none() {
         return twin.open().is_ok();
@@ -88,11 +88,18 @@ fn turn(twin: &mut Twin, _: &mut Rng, _: &Plan) -> bool {
         return twin.close().is_ok();
     }
     let before = twin.query(&ids, 32).expect("a query");
+    let mean_before = twin.mean(ids[0]);
     let is_closed = twin.close().is_ok();
     let after = twin.query(&ids, 32).expect("a query");
     assert_eq!(before.1, after.1, "a close moves no posting");
     if before.0 != after.0 {
         twin.tally.see("closes that change an answer");
+    }
+    let windows = mean_before.map_or(0, |(_, _, windows)| windows);
+    let mean_after = twin.mean(ids[0]).expect("the window counts it");
+    assert_eq!(mean_after.2, windows + 1, "a close brings a window");
+    if mean_before.is_err() {
+        twin.tally.see("closes that bring the first mean");
     }
     is_closed
 }
@@ -120,17 +127,22 @@ fn step(twin: &mut Twin, rng: &mut Rng, _: &Plan) -> bool {
     (is_due || rng.one_in(20)) && twin.step().is_ok()
 }
 
+/// A query, and the mean of each of its identifiers.
 fn query(twin: &mut Twin, rng: &mut Rng, plan: &Plan) -> bool {
     let names: Vec<Vec<u8>> = (0..1 + rng.below(5))
         .map(|_| name(rng.below(plan.names + 2)))
         .collect();
+    for name in &names {
+        // An identifier that no closed window has is met often.
+        let _ = twin.mean(name);
+    }
     let ids: Vec<&[u8]> = names.iter().map(|name| &name[..]).collect();
     twin.query(&ids, 1 + rng.below(32)).is_ok()
 }
 
 /// A call beyond a limit.
 fn odd(twin: &mut Twin, rng: &mut Rng, plan: &Plan) -> bool {
-    match rng.below(10) {
+    match rng.below(11) {
         0 => twin.open().is_ok(),
         1 => twin.close().is_ok(),
         2 => twin.event(&vec![b'X'; rng.pick(&[0, 65, 66, 300])]).is_ok(),
@@ -146,6 +158,7 @@ fn odd(twin: &mut Twin, rng: &mut Rng, plan: &Plan) -> bool {
             .query(&[&name(0)], rng.pick(&[0, 1, 32, 33, 100]))
             .is_ok(),
         8 => twin.query(&[b"X", &[b'Y'; 65]], rng.below(34)).is_ok(),
+        9 => twin.mean(&vec![b'X'; rng.pick(&[0, 64, 65, 300])]).is_ok(),
         _ => twin.query(&[&name(1), b""], rng.below(34)).is_ok(),
     }
 }

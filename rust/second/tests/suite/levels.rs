@@ -95,6 +95,8 @@ fn one_flush_sets_all_levels_in_motion() {
         if rng.one_in(10) {
             let ids = [rng.below(NAMES), NAMES + 1].map(name);
             twin.query(&[&ids[0], &ids[1]], 32).unwrap();
+            twin.mean(&ids[0]).unwrap();
+            assert_eq!(twin.mean(&ids[1]), Err(15));
         }
     }
     assert_eq!(twin.state.partitions.used, 1);
@@ -160,6 +162,7 @@ fn a_long_history_reaches_the_highest_level() {
             let register = probe.register.clone();
             let mut twin = Twin::of(state.clone(), card.clone(), register, ledger.clone());
             twin.query(&[&id], 32).unwrap();
+            twin.mean(&id).unwrap();
         }
     }
     assert!(last_merges > 0);

@@ -18,11 +18,13 @@ fn a_window_has_at_most_32767_events() {
     twin.close().unwrap();
     // The largest count weighs 60, one window of two 4.
     assert_eq!(twin.query(&[b"A"], 1), Ok((vec![(1, 240)], 1)));
+    assert_eq!(twin.mean(b"A"), Ok((32_767, 0, 1)));
     twin.flush().unwrap();
     assert_eq!(twin.query(&[b"A"], 1), Ok((vec![(1, 240)], 1)));
     twin.remove(1).unwrap();
     twin.flush().unwrap();
     assert_eq!(twin.query(&[b"A"], 1), Ok((vec![], 2)));
+    assert_eq!(twin.mean(b"A"), Err(15));
     twin.tally.print("The most events of a window:");
 }
 
@@ -72,6 +74,9 @@ fn all_window_numbers_can_be_used() {
     assert_eq!(twin.open(), Err(6));
     assert_eq!(twin.ledger.live.len(), 65);
     twin.query(&[&name(0), &name(1), &name(2)], 32).unwrap();
+    // Every thousandth window is live, with one count.
+    assert_eq!(twin.mean(&name(0)), Ok((1, 0, 21)));
+    assert_eq!(twin.mean(&name(1)), Ok((1, 0, 22)));
     twin.tally.print("All window numbers:");
 }
 

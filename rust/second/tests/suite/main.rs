@@ -14,6 +14,7 @@ mod layout;
 mod levels;
 mod limits;
 mod malformed;
+mod means;
 mod program;
 mod reading;
 mod rng;

@@ -1,7 +1,7 @@
 //! Each way in which what a call must read can be malformed.
 
 use crate::build::build;
-use crate::calls::{Call, event, make, outcome, query};
+use crate::calls::{Call, event, make, mean, mean_of, outcome, query};
 use crate::image::{BLOCK, CONTENT, encode, place, word};
 use second::commands::Probe;
 use second::ledger::Ledger;
@@ -55,6 +55,10 @@ fn changed(block: usize, offset: usize, value: u32) -> Probe {
 
 /// What query of A, query of C, removal of 9, step, event and flush come to.
 fn outcomes(probe: &Probe) -> [u8; 6] {
+    for name in [b"A", b"B", b"C", b"X"] {
+        // It is held against the query of that identifier.
+        let _ = mean_of(probe, name);
+    }
     [
         query(&[b"A"]),
         query(&[b"C"]),
@@ -336,6 +340,7 @@ fn the_register_is_read_whole() {
         assert_eq!(outcomes(&probe), [3, 3, 0, 13, 3, 0]);
         // Before any other reason.
         assert_eq!(outcome(&probe, &event(b"")), 3);
+        assert_eq!(outcome(&probe, &mean(b"")), 3);
         assert_eq!(outcome(&probe, &Call::Query(Vec::new(), 0)), 3);
     }
 }

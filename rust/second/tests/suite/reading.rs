@@ -1,6 +1,7 @@
-//! Queries and removals on damaged cards that are still well-formed, held
-//! against a plain reading of the bytes.
+//! Queries, means and removals on damaged cards that are still well-formed,
+//! held against a plain reading of the bytes.
 
+use crate::calls::mean_of;
 use crate::damage::{PLAN, any_name, damage};
 use crate::history::act;
 use crate::image::{decode, walk};
@@ -10,6 +11,7 @@ use second::commands::Probe;
 use second::engine;
 use second::ledger::account::Entry;
 use second::ledger::{count_weight, rarity_weight};
+use second::refusal::Refusal;
 use second::state::{Hit, State};
 use std::cmp::Reverse;
 use std::collections::{BTreeMap, BTreeSet};
@@ -67,14 +69,33 @@ fn open_on_card(probe: &Probe, ids: &BTreeSet<Vec<u8>>) -> bool {
     entries.any(|entry| of_open(&entry) && numbers.contains(&entry.0))
 }
 
-/// The ranked closed windows and the postings taken up.
-fn plain_query(probe: &Probe, ids: &BTreeSet<Vec<u8>>) -> (Vec<(u32, u32)>, usize) {
+/// All postings of the identifiers.
+fn entries_of(probe: &Probe, ids: &BTreeSet<Vec<u8>>) -> Vec<Entry> {
     let numbers = numbers(probe, ids);
     let mut entries = all_entries(probe);
     entries.retain(|entry| numbers.contains(&entry.0));
+    entries
+}
+
+/// The sums above 0 of closed windows.
+fn closed_sums(probe: &Probe, entries: &[Entry]) -> Sums {
     let open = u32::from(probe.state.windows.open);
-    let mut sums = sums(&entries);
+    let mut sums = sums(entries);
     sums.retain(|pair, sum| pair.1.0 != open && *sum > 0);
+    sums
+}
+
+/// The sum of an identifier's counts above 0 in closed windows, and how many these are.
+fn plain_mean(probe: &Probe, id: &[u8]) -> (i64, usize) {
+    let entries = entries_of(probe, &BTreeSet::from([id.to_vec()]));
+    let sums = closed_sums(probe, &entries);
+    (sums.values().sum(), sums.len())
+}
+
+/// The ranked closed windows and the postings taken up.
+fn plain_query(probe: &Probe, ids: &BTreeSet<Vec<u8>>) -> (Vec<(u32, u32)>, usize) {
+    let entries = entries_of(probe, ids);
+    let sums = closed_sums(probe, &entries);
     let live = probe.state.windows.live.into();
     let mut scores: BTreeMap<u32, u32> = BTreeMap::new();
     for (&(id, Reverse(window)), &count) in &sums {
@@ -108,10 +129,29 @@ struct Done {
     queries: usize,
     /// Queries while partitions held postings of the open window.
     of_open: usize,
+    means: usize,
+    /// Means that were refused because no closed window has the identifier.
+    uncounted: usize,
     removals: usize,
 }
 
-/// Makes both calls and counts those that were done.
+fn compare_mean(probe: &Probe, id: &[u8], done: &mut Done) {
+    match mean_of(probe, id) {
+        Ok(mean) => {
+            let windows = i64::from(mean.windows);
+            let sum = i64::from(mean.quotient) * windows + i64::from(mean.remainder);
+            assert_eq!((sum, windows as usize), plain_mean(probe, id));
+            done.means += 1;
+        }
+        Err(Refusal::Uncounted) => {
+            assert_eq!(plain_mean(probe, id).1, 0);
+            done.uncounted += 1;
+        }
+        Err(_) => {}
+    }
+}
+
+/// Makes the calls and counts those that were done.
 fn compare(probe: &Probe, rng: &mut Rng, done: &mut Done) {
     let names: BTreeSet<Vec<u8>> = (0..1 + rng.below(4)).map(|_| any_name(rng)).collect();
     let ids: Vec<&[u8]> = names.iter().map(|name| &name[..]).collect();
@@ -126,6 +166,9 @@ fn compare(probe: &Probe, rng: &mut Rng, done: &mut Done) {
         assert!(list.take(listed).eq(ranked.into_iter().take(listed)));
         done.queries += 1;
         done.of_open += usize::from(open_on_card(probe, &names));
+    }
+    for id in ids {
+        compare_mean(probe, id, done);
     }
     let mut after = probe.clone();
     let window = rng.below(usize::from(probe.state.windows.last) + 1) as u32;
@@ -159,10 +202,13 @@ fn well_formed_damage_is_read_as_it_stands() {
     let Done {
         queries,
         of_open,
+        means,
+        uncounted,
         removals,
     } = done;
     println!(
-        "Well-formed damage: {queries} queries, {of_open} of an open window on the card, {removals} removals"
+        "Well-formed damage: {queries} queries, {of_open} of an open window on the card, {means} means, {uncounted} of none, {removals} removals"
     );
     assert!(queries > 1000 && of_open > 200 && removals > 200);
+    assert!(means > 1000 && uncounted > 200);
 }

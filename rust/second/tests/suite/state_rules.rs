@@ -1,6 +1,6 @@
 //! Each rule of the state, broken and kept to its limit.
 
-use crate::calls::{Call, event, outcome, query};
+use crate::calls::{Call, event, mean, outcome, query};
 use crate::twin::Twin;
 use second::commands::Probe;
 use second::state::{MergeJob, Partition, Posting, State};
@@ -34,7 +34,7 @@ fn probe() -> Probe {
     }
 }
 
-fn all_calls() -> [Call; 7] {
+fn all_calls() -> [Call; 8] {
     [
         Call::Open,
         event(b"A"),
@@ -43,6 +43,7 @@ fn all_calls() -> [Call; 7] {
         Call::Flush,
         Call::Step,
         query(&[b"A"]),
+        mean(b"A"),
     ]
 }
 
@@ -303,7 +304,7 @@ fn buffers_must_have_the_lengths_of_the_start() {
             let refused = match call {
                 Call::Open | Call::Close => false,
                 Call::Remove(_) | Call::Flush | Call::Step => card_is_wrong,
-                Call::Event(_) | Call::Query(..) => true,
+                Call::Event(_) | Call::Query(..) | Call::Mean(_) => true,
             };
             assert_eq!(outcome(&probe, &call) == 2, refused, "{call:?}");
         }

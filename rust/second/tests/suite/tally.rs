@@ -28,6 +28,18 @@ impl Tally {
         *self.sights.entry(sight.to_string()).or_default() += 1;
     }
 
+    /// So many calls of a kind must have been done.
+    pub fn expect_done(&self, call: &str, times: usize) {
+        let done = self.calls.get(call).map_or(0, |calls| calls.0);
+        assert!(done >= times, "{call}: done {done} times");
+    }
+
+    /// A refusal must have been met so many times.
+    pub fn expect_refused(&self, number: u8, times: usize) {
+        let met = self.refusals.get(&number).copied().unwrap_or(0);
+        assert!(met >= times, "refusal {number}: met {met} times");
+    }
+
     pub fn absorb(&mut self, other: &Tally) {
         for (call, counts) in &other.calls {
             let calls = self.calls.entry(call).or_default();

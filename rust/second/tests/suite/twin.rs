@@ -134,9 +134,22 @@ impl Twin {
         let ledger = self.ledger.query(ids, places);
         let ledger = ledger.map(|reply| (reply.hits, reply.taken));
         if ledger.is_ok() {
-            self.see_query(ids);
+            self.see_reading("queries", ids);
         }
         self.compare("query", engine, ledger)
+    }
+
+    /// Answers quotient, remainder and windows.
+    pub fn mean(&mut self, identifier: &[u8]) -> Result<(u32, u32, u32), u8> {
+        let engine = engine::mean(&self.state, &self.card, &self.register, identifier);
+        let engine = engine.map(|mean| {
+            let numbers = [mean.quotient, mean.remainder, mean.windows];
+            numbers.map(u32::from).into()
+        });
+        let ledger = self.ledger.mean(identifier);
+        let ledger = ledger.map(|mean| (mean.quotient, mean.remainder, mean.windows));
+        self.see_mean(identifier, ledger);
+        self.compare("mean", engine, ledger)
     }
 
     /// Compares the answers, then everything else.
@@ -149,7 +162,7 @@ impl Twin {
         let engine = engine.map_err(Refusal::number);
         assert_eq!(engine, ledger, "{call}");
         self.tally.record(call, ledger.as_ref().err().copied());
-        if ledger.is_err() || call == "query" {
+        if ledger.is_err() || matches!(call, "query" | "mean") {
             assert!(self.state == self.before.state, "{call} changed the state");
             assert!(self.card == self.before.card, "{call} changed the card");
             let same = self.register == self.before.register;
@@ -282,10 +295,30 @@ impl Twin {
         self.tally.see(&format!("merges to level {level}"));
     }
 
-    fn see_query(&mut self, ids: &[&[u8]]) {
+    fn see_mean(&mut self, identifier: &[u8], answer: Result<(u32, u32, u32), u8>) {
+        let number = self.ledger.number(identifier);
+        match answer {
+            Ok((_, remainder, _)) => {
+                self.see_reading("means", &[identifier]);
+                if remainder > 0 {
+                    self.tally.see("means with a remainder");
+                }
+            }
+            Err(15) if number.is_none() => self.tally.see("means of an unknown identifier"),
+            Err(15) if self.ledger.listed.iter().any(|listed| listed == identifier) => {
+                self.tally.see("means of the open window's counts alone");
+            }
+            Err(15) => self.tally.see("means of removed counts alone"),
+            Err(_) => {}
+        }
+    }
+
+    /// Notes where the counts lie that calls of a kind answer from.
+    fn see_reading(&mut self, calls: &str, ids: &[&[u8]]) {
         let account = &self.ledger.account;
+        let mut sights = Vec::new();
         if account.steps > 0 {
-            self.tally.see("queries during a merge");
+            sights.push("during a merge");
         }
         let numbers: Vec<usize> = ids.iter().filter_map(|id| self.ledger.number(id)).collect();
         let mut holders: BTreeMap<(usize, u32), Vec<usize>> = BTreeMap::new();
@@ -295,12 +328,11 @@ impl Twin {
             }
         }
         if holders.values().any(|places| places.len() >= 3) {
-            self.tally
-                .see("queries of a window split over three partitions");
+            sights.push("of a window split over three partitions");
         }
         let skips = |places: &Vec<usize>| places.windows(2).any(|pair| pair[1] > pair[0] + 1);
         if holders.values().any(skips) {
-            self.tally.see("queries of a window that skips a partition");
+            sights.push("of a window that skips a partition");
         }
         let of_open = |entry: &Entry| self.ledger.open == Some(entry.1);
         let holds_open = |part: &&Part| {
@@ -309,11 +341,13 @@ impl Twin {
         };
         let holding: Vec<&Part> = account.parts.iter().filter(holds_open).collect();
         if !holding.is_empty() {
-            self.tally.see("queries of an open window in a partition");
+            sights.push("of an open window in a partition");
         }
         if holding.iter().any(|part| part.level > 0) {
-            self.tally
-                .see("queries of an open window in a merged partition");
+            sights.push("of an open window in a merged partition");
+        }
+        for sight in sights {
+            self.tally.see(&format!("{calls} {sight}"));
         }
     }
 }

@@ -1,55 +1,20 @@
--- `scores::counting::judge_term` meets its contract: what is told of the opened heads is what is read of the identifier.
-use Rattle.lists.proofs.Prelude.{sym, _∙_, arith, needs}
-use Rattle.words.specs.Words.{words, Below}
-use Rattle.words.proofs.Views.{words-below}
-use Rattle.state.specs.Views.{blocks, buffered, finished}
-use Rattle.state.proofs.Kept.{state-kept}
-use Rattle.scores.proofs.Opened.{all-readable, rule-sizes, rule-each}
-use Rattle.scores.proofs.Serving.{judged-bad, judged-good}
+-- `scores::counting::judge_term` meets its contract: what is told says whether all is well formed.
+use Rattle.lists.proofs.Prelude.{sym, _∙_, needs}
+use Rattle.scores.proofs.Serving.{told-formed, told-malformed}
 use Rattle.scores.proofs.counting.judge_term.Statement.{statement}
 use Rattle.scores.proofs.counting.judge_term.Tie as tie
 
-open-heads-requires : tie.Need-open-heads-requires
-open-heads-requires c κs =
-    let s = c .before .before .before .before .before in
-    let k = state-kept (s .args .s) (s .pre .0) in
-    (k .partitions .used, s .pre .4, all-readable (words (s .args .card .now)) (blocks (s .args .s)) (finished (s .args .s .partitions)) (s .pre .1) (k .lengths .mostBlocks) (s .pre .2), k .buffer .used, k .buffer .order, rule-sizes (s .args .s .windows) (buffered (s .args .s .buffer)) (k .buffer .rules), s .pre .3)
-
-judge-requires : tie.Need-judge-requires
-judge-requires c κs =
-    let s = c .before .before .before .before .before .before .before .before .before .before in
-    let o = c .before .before .before .before .open-heads .ensures in
-    let k = state-kept (s .args .s) (s .pre .0) in
-    (o .long, k .partitions .used, o .ready)
-
 returns : tie.Need-returns
-returns c =
-    let s = c .before .before .before .before .before .before .before .before .before .before .before .before .before .before .before in
-    let k = state-kept (s .args .s) (s .pre .0) in
-    let small = words-below (s .args .card .now) (λ j. omega (arith, c .before .before .before .before .before .before .before .before .before .before .before .before .before .before .shared-slice-known .given j)) in
-    let few : Below 4294967296 (s .args .run .now) = λ j. omega (arith, c .before .before .before .before .before .before .before .before .before .before .before .before .before .shared-slice-known2 .given j) in
-    let rules = rule-each (s .args .s .windows) (buffered (s .args .s .buffer)) (k .buffer .rules) in
-    let o = c .before .before .before .before .before .before .before .before .before .open-heads in
-    sym (judged-bad (words (s .args .card .now)) (s .args .run .now) (s .args .s) (s .args .id) (o .last .1 .1 .0) (o .ensures) small few (k .buffer .order) rules (sym (c .before .before .before .before .judge .ensures) ∙ c .enum-told .given .1))
+returns c = sym (told-malformed _ _ _ (sym (c .before .before .before .before .count-term .ensures .0) ∙ c .enum-told .given .1))
 
 returns-2 : tie.Need-returns-2
-returns-2 c =
-    let s = c .before .before .before .before .before .before .before .before .before .before .before .before .before .before .before .before in
-    let k = state-kept (s .args .s) (s .pre .0) in
-    let small = words-below (s .args .card .now) (λ j. omega (arith, c .before .before .before .before .before .before .before .before .before .before .before .before .before .before .before .shared-slice-known .given j)) in
-    let few : Below 4294967296 (s .args .run .now) = λ j. omega (arith, c .before .before .before .before .before .before .before .before .before .before .before .before .before .before .shared-slice-known2 .given j) in
-    let rules = rule-each (s .args .s .windows) (buffered (s .args .s .buffer)) (k .buffer .rules) in
-    let o = c .before .before .before .before .before .before .before .before .before .before .open-heads in
-    sym (judged-good (words (s .args .card .now)) (s .args .run .now) (s .args .s) (s .args .id) (o .last .1 .1 .0) (o .ensures) small few (k .buffer .order) rules _ (sym (c .before .before .before .before .before .judge .ensures) ∙ c .before .told .given .1))
+returns-2 c = sym (told-formed _ _ _ _ _ (sym (c .before .before .before .before .before .count-term .ensures .0) ∙ c .before .told .given .1) .0)
 
 pub judge-term-spec : {M : Type 1} → statement M
 judge-term-spec =
     tie.close
     (tie.spec
-    (λ c. search needs)
-    open-heads-requires
-    (λ c. search needs)
-    judge-requires
+    (λ c κs. search needs)
     (λ c. search needs)
     (λ c. search needs)
     (λ c. search needs)

@@ -38,7 +38,7 @@ cast-weigh c =
     let o = c .before .before .before .before .before .before .before .before .before .before .before .before .before .before .before .before .open-heads in
     let H = o .last .1 .1 .0 in
     let told = sym (c .before .before .before .before .before .before .judge .ensures) ∙ c .before .before .told .given .1 in
-    record { fits = omega (arith, windows-few (words (s .args .card .now)) (s .args .run .now) (s .args .s) (s .args .id) H (o .ensures) small few (k .buffer .order) rules _ told) }
+    record { fits = omega (arith, windows-few (words (s .args .card .now)) (s .args .run .now) (s .args .s) (s .args .id) H (o .ensures) small few (k .buffer .order) rules _ _ told) }
 
 weigh-requires : tie.Need-weigh-requires
 weigh-requires c κs =
@@ -75,7 +75,7 @@ total-left-requires c κs =
     let d = copied W R n H G P (s .pre .5) (o .ensures .long) (c .before .before .before .before .before .before .before .before .before .before .before .before .before .before .before .before .copy .ensures) (o .ensures .ready) in
     let w = c .before .before .before .before .weigh in
     let l = kept-lists W R (n + 1) H (putMid 4 (length G - 4) G P) (w .last .1 .1 .0) _ (d .2) (w .ensures .1) in
-    let f = all-fall (words (s .args .card .now)) (s .args .run .now) (s .args .s) (s .args .id) H (o .ensures) small few (k .buffer .order) rules _ told in
+    let f = all-fall (words (s .args .card .now)) (s .args .run .now) (s .args .s) (s .args .id) H (o .ensures) small few (k .buffer .order) rules _ _ told in
     rw (take-rest 4 (w .last .1 .1 .0)) (omega (arith, length-drop 4 (w .last .1 .1 .0), w .ensures .0 .long), omega (arith, k .partitions .used), w .ensures .0 .heads, ap (λ (g : Group). allFall 65536 g) (l .1) ∙ f)
 
 returns : tie.Need-returns
@@ -109,10 +109,10 @@ returns-2 c =
     let l = kept-lists W R (n + 1) H (putMid 4 (length G - 4) G P) (w .last .1 .1 .0) _ (d .2) (w .ensures .1) in
     let z = rw (take-rest 4 (w .last .1 .1 .0)) at (c .total-left .ensures) in
     record {
-      fine = sym (judged-good (words (s .args .card .now)) (s .args .run .now) (s .args .s) (s .args .id) H (o .ensures) small few (k .buffer .order) rules _ told);
+      fine = sym (judged-good (words (s .args .card .now)) (s .args .run .now) (s .args .s) (s .args .id) H (o .ensures) small few (k .buffer .order) rules _ _ told);
       kept = λ y. w .ensures .0;
-      term = λ y. all-serves (words (s .args .card .now)) (s .args .run .now) (s .args .s) (s .args .id) H (o .ensures) small few (k .buffer .order) rules _ told _ (l .0);
-      taken = λ y. z .0 ∙ ap (λ (g : Group). totalBy length g) (l .1) ∙ all-size (words (s .args .card .now)) (s .args .run .now) (s .args .s) (s .args .id) H (o .ensures) small few (k .buffer .order) rules _ told;
+      term = λ y. all-serves (words (s .args .card .now)) (s .args .run .now) (s .args .s) (s .args .id) H (o .ensures) small few (k .buffer .order) rules _ _ told _ (l .0);
+      taken = λ y. z .0 ∙ ap (λ (g : Group). totalBy length g) (l .1) ∙ all-size (words (s .args .card .now)) (s .args .run .now) (s .args .s) (s .args .id) H (o .ensures) small few (k .buffer .order) rules _ _ told;
       few = z .1;
     }
 
@@ -142,5 +142,5 @@ keep-term-spec =
     (λ c. search needs)
     returns
     (λ c. search needs)
-    (λ c. search needs)
+    (λ c. search (c .before .before .before .before .before .before .before .before .before .before .before .before .before .before .before .before .before .before .before .before .before .heads .given, needs))
     returns-2)

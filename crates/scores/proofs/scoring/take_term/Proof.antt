@@ -4,10 +4,13 @@ use mir.Facts.{toZ-ofZ}
 use mir.Syntax.{w32}
 use mir.Val.{SFits}
 use borrow.Rule.Slice.PartMut.{putMid}
+use Rattle.keyed.specs.Keys.{headVals}
+use Rattle.keyed.specs.Groups.{Group}
 use Rattle.words.specs.Words.{words}
 use Rattle.weights.specs.Weights.{tfWeight}
 use Rattle.postings.specs.Sums.{above}
-use Rattle.partitions.specs.Formed.{inRange}
+use Rattle.heads.specs.Heads.{views}
+use Rattle.terms.proofs.Steps.{above-most}
 use Rattle.scores.proofs.Counts.{put-behind-long}
 use Rattle.scores.proofs.Joined.{passed-over, after-kept, after-term, after-top, score-most}
 use Rattle.scores.proofs.scoring.take_term.Statement.{statement}
@@ -48,19 +51,29 @@ slice-write-group-3 c =
     let F = putMid 4 (length G - 4) G (t .last .1 .1 .0) in
     lt-length-set (set F 0 (t .result .next)) 2 (t .result .at) (lt-length-set F 0 (t .result .next) (omega (arith, r)))
 
-count-of-requires : tie.Need-count-of-requires
-count-of-requires c κs =
-    let s = c .before .before .before .before .before .before .before .before .before .before .before .before .before in
-    let G = s .args .group .now in
-    let t = c .before .before .before .take-led in
-    let u = rw (take-rest 4 G) at (t .ensures) in
+abbrev begun : tie.After-above → tie.Start
+begun c = c .before .before .before .before .before .before .before .before .before .before .before .before .before .before
+
+abbrev lists : tie.After-above → Group
+lists c = let s = begun c in views (words (s .args .card .now)) (s .args .run .now) (s .args .m) (drop 4 (s .args .group .now))
+
+-- what is counted, and that it has 15 bits
+counted : (c : tie.After-above) → (c .above .result ≡ above (headVals (begun c .args .key) (lists c))) × (c .above .result ≤ 32767)
+counted c =
+    let s = begun c in
+    let t = c .before .before .before .before .take-led in
+    let u = rw (take-rest 4 (s .args .group .now)) at (t .ensures) in
     let f : SFits w32 (t .result .sum) = search needs in
-    rw (toZ-ofZ f) (ap inRange (u .1 .0 .0) ∙ s .pre .4)
+    let n = c .above .ensures ∙ ap above (toZ-ofZ f ∙ u .1 .0 .0) in
+    (n, rw n (above-most (headVals (s .args .key) (lists c)) (s .pre .4)))
+
+cast-count : tie.Need-cast-count
+cast-count c = omega (arith, counted c .1)
 
 mul-score : tie.Need-mul-score
 mul-score c =
-    let s = c .before .before .before .before .before .before .before .before .before .before .before .before .before .before .before in
-    let z = score-most (c .before .count-of .result) (getD (s .args .group .now) 1 0) (c .before .count-of .ensures .1) (s .pre .0 .light) in
+    let a = c .before in
+    let z = score-most (a .above .result) (getD (begun a .args .group .now) 1 0) (counted a .1) (begun a .pre .0 .light) in
     rw (c .tf-weight .ensures .0) (omega (arith, z))
 
 returns-2 : tie.Need-returns-2
@@ -71,9 +84,8 @@ returns-2 c =
     let G = s .args .group .now in
     let t = c .before .before .before .before .before .take-led in
     let u = rw (take-rest 4 G) at (t .ensures) in
-    let f : SFits w32 (t .result .sum) = search needs in
-    let n = c .before .count-of .ensures .0 ∙ ap above (toZ-ofZ f ∙ u .1 .0 .0) in
-    let z = score-most (c .before .count-of .result) (getD G 1 0) (c .before .count-of .ensures .1) (s .pre .0 .light) in
+    let n = counted (c .before) .0 in
+    let z = score-most (c .before .above .result) (getD G 1 0) (counted (c .before) .1) (s .pre .0 .light) in
     let X = t .last .1 .1 .0 in
     let r = t .result in
     let w = c .tf-weight .ensures .0 in (
@@ -106,8 +118,9 @@ take-term-spec =
     (λ c. search needs)
     slice-write-group-2
     slice-write-group-3
-    count-of-requires
     (λ c κs. search needs)
+    cast-count
+    (λ c κs. counted c .1)
     mul-score
     (λ c. search needs)
     returns-2)

@@ -4,7 +4,7 @@ use mir.Facts.{toZ-ofZ}
 use mir.Syntax.{w16, w32}
 use mir.Val.{SFits}
 use Rattle.words.specs.Words.{words}
-use Rattle.postings.specs.Sums.{isAbove}
+use Rattle.postings.specs.Sums.{above}
 use Rattle.partitions.specs.Formed.{inRange}
 use Rattle.kway.specs.Parts.{part}
 use Rattle.heads.specs.Heads.{view, views}
@@ -75,7 +75,7 @@ returns c =
         (
           ap₂ _&&_ (ap₂ _&&_ (tt .1 .0 .1) (qq .3)) (ap₂ _&&_ (c .before .before .before .before .before .in-range .ensures ∙ ap inRange (toZ-ofZ fs)) (c .before .before .before .before .in-range2 .ensures ∙ ap inRange zt))
               ∙ fine-step g v k (t .result .sum) (a .result) (tt .1 .0 .0) total,
-          c .before .above .ensures ∙ ap isAbove zt ∙ counts-step g v k (t .result .sum) (a .result) (tt .1 .0 .0) total,
+          c .before .above .ensures ∙ ap above zt ∙ counts-step g v k (t .result .sum) (a .result) (tt .1 .0 .0) total,
           rw (after-parts n H X Y (s .pre .0) front four, after-part n H X Y (s .pre .0) front four) (sym (top-step (views W R n X) (view W R Y) (t .result .next) (q .result .reach) _ (tt .1 .0 .2) (qq .4) (c .larger .ensures))),
         ),
         rw (after-parts n H X Y (s .pre .0) front four) (tt .1 .1),
