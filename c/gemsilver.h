@@ -1,4 +1,5 @@
-/* Gemsilver for C and C++: counts events by identifier in windows of play, keeps them on a card, finds the closed windows that match best, and tells the mean count of an identifier.
+/* Gemsilver for C and C++: counts events by identifier in windows of play, keeps them on a card, finds the closed windows that match best,
+ * and tells the mean count of an identifier.
  *
  * The caller lends three buffers and hands them back to the next call as they were left: the state's image, the card and the register.
  * docs/FORMAT.md tells them byte by byte. They belong together: save all three or none, and at the same moment.

@@ -28,7 +28,7 @@ frequencyIn W s is = totalBy (frequency (countIn W s) (shown (s .windows))) is
 unfoldable pub totalIn : List ℕ → State → List ℕ → ℕ
 totalIn W s is = totalBy (total (countIn W s) (shown (s .windows))) is
 
--- the answer, where this is F and this the sum
+-- the refusals in order, and the answer where this is F and this the sum
 unfoldable pub meaning : Probe → Name → ℕ → ℕ → Outcome (Unit {0})
 meaning p n f t =
     admit order.mean
@@ -40,6 +40,7 @@ meaning p n f t =
     ∷ [])
     (leave (averaged f t) tt)
 
+-- the mean count of an identifier on a probe
 unfoldable pub meanOf : Probe → Name → Outcome (Unit {0})
 meanOf p n =
     meaning p n (frequencyIn (words (p .card)) (p .state) (numbers (p .register) (n ∷ []))) (totalIn (words (p .card)) (p .state) (numbers (p .register) (n ∷ [])))

@@ -3,10 +3,10 @@
 use mathlib.Core.Bool.{Bool, true, cond, _&&_}
 use mathlib.Core.List.{List, map}
 use Prim.Native.Nat.{ℕ, _+_}
+use lib.Dec.{ltb}
 use lib.IntN.{ℤ}
 use Rattle.keyed.specs.Keys.{sums, overKeys, headVals}
 use Rattle.keyed.specs.Groups.{Group, allFallAll, headsFineAll}
-use lib.Dec.{ltb}
 use Rattle.postings.specs.Sums.{above}
 pub use Rattle.kway.specs.Ranges.{totalZ, inRanges}
 use Rattle.terms.specs.declared.judging.Told.{Told}
@@ -25,6 +25,7 @@ pub record Spread : Type 0 where
   pub windows : ℕ
   pub total : ℕ
 
+-- over no window
 abbrev pub unspread : Spread
 unspread = record { windows = 0; total = 0 }
 
@@ -32,6 +33,7 @@ unspread = record { windows = 0; total = 0 }
 abbrev pub spread : ℕ → Spread → Spread
 spread n t = record { windows = cond (ltb 0 n) 1 0 + t .windows; total = n + t .total }
 
+-- with the window w more, whose sums are v
 abbrev pub spreadAt : (ℕ → Bool) → ℕ → List ℤ → Spread → Spread
 spreadAt shows w v t = spread (countAt shows w v) t
 
