@@ -1,5 +1,5 @@
 -- The engine on lists answers every call as ledger and account do, and leaves the lists that stand for what they leave.
-use Rattle.lists.proofs.Prelude.{Bool, true, false, _||_, _&&_, not, cond, true≢false, List, [], _∷_, map, _≡_, refl, sym, ap, ap₂, _∙_, fun-ext, subst, ℕ, suc, _+_, _-_, _*_, _<_, _≤_, arith, eqb, ltb, leb, pos, length, getD, length-map, eqb-true, eqb-false, ne-eqb, ltb-true, ltb-false, le-ltb, not-true, not-false, empty, totalBy, by-test, empty-is}
+use Rattle.lists.proofs.Prelude.{Bool, true, false, _||_, _&&_, not, cond, true≢false, List, [], _∷_, map, _≡_, refl, sym, ap, ap₂, _∙_, fun-ext, subst, ℕ, suc, _+_, _-_, _*_, _<_, _≤_, arith, eqb, ltb, leb, pos, length, getD, length-map, eqb-true, eqb-false, ne-eqb, ltb-true, ltb-false, le-ltb, not-true, not-false, empty, by-test, empty-is}
 use Rattle.postings.specs.declared.Posting.{Posting}
 use Rattle.postings.specs.Merge.{put, nonzero, negated}
 use Rattle.postings.specs.Sums.{above}
@@ -194,24 +194,18 @@ module _ (blocks entries : ℕ) (l : Ledger) (a : Account) (k : Kept blocks entr
   -- ---- a mean
 
   frequency-same : (n : Name) → frequencyOf (listsOf l a) n ≡ frequency (l .count) (shown l) n
-  unfolding frequencyOf frequency
+  unfolding frequencyOf frequency S.shown shown highest
   frequency-same n =
-      ap (λ (g : ℕ → ℕ). totalBy g (numbersOf (l .identifiers) (n ∷ [])))
-      (ap (λ (c : ℕ → ℕ → ℕ). frequency c (S.shown (windowsOf l))) counts-read ∙ fun-ext each)
-      ∙ one-query (frequency (l .count) (shown l)) (l .identifiers) n (λ m z. frequency-none (l .count) m (λ w. k .lawful .uncounted m w z) (shown l))
-    where
-      each : (i : ℕ) → frequency (byNumber l) (S.shown (windowsOf l)) i ≡ frequency (byNumber l) (shown l) i
-      each i = unfold S.shown shown highest in frequency-windows (byNumber l) (S.shows (windowsOf l .current)) highest 65535 fits low i (high i)
+      one-query _ (frequency (l .count) (shown l)) (l .identifiers) n
+      (λ i. ap (λ (c : ℕ → ℕ → ℕ). frequency c (S.shown (windowsOf l)) i) counts-read ∙ frequency-windows (byNumber l) (S.shows (windowsOf l .current)) highest 65535 fits low i (high i))
+      (λ m z. frequency-none (l .count) m (λ w. k .lawful .uncounted m w z) (shown l))
 
   total-same : (n : Name) → totalOf (listsOf l a) n ≡ total (l .count) (shown l) n
-  unfolding totalOf total
+  unfolding totalOf total S.shown shown highest
   total-same n =
-      ap (λ (g : ℕ → ℕ). totalBy g (numbersOf (l .identifiers) (n ∷ [])))
-      (ap (λ (c : ℕ → ℕ → ℕ). total c (S.shown (windowsOf l))) counts-read ∙ fun-ext each)
-      ∙ one-query (total (l .count) (shown l)) (l .identifiers) n (λ m z. total-none (l .count) m (λ w. k .lawful .uncounted m w z) (shown l))
-    where
-      each : (i : ℕ) → total (byNumber l) (S.shown (windowsOf l)) i ≡ total (byNumber l) (shown l) i
-      each i = unfold S.shown shown highest in total-windows (byNumber l) (S.shows (windowsOf l .current)) highest 65535 fits low i (high i)
+      one-query _ (total (l .count) (shown l)) (l .identifiers) n
+      (λ i. ap (λ (c : ℕ → ℕ → ℕ). total c (S.shown (windowsOf l)) i) counts-read ∙ total-windows (byNumber l) (S.shows (windowsOf l .current)) highest 65535 fits low i (high i))
+      (λ m z. total-none (l .count) m (λ w. k .lawful .uncounted m w z) (shown l))
 
 -- ---- outcomes that are alike
 

@@ -81,9 +81,9 @@ module _ {I : Type 0} (count : I → ℕ → ℕ) (i : I) (z : (w : ℕ) → cou
   total-none [] = refl
   total-none (w ∷ windows) = rw (z w, total-none windows)
 
--- of one identifier by its number, or of none
-pub one-query : (g : Name → ℕ) (ms : List Name) (n : Name) → ((m : Name) → among m ms ≡ false → g m ≡ 0) → totalBy (λ i. g (getD ms i [])) (numbersOf ms (n ∷ [])) ≡ g n
-one-query g ms n z = total-query g ms (n ∷ []) z ∙ omega arith
+-- what f tells of an identifier's number, and nothing without one, is what g tells of its name
+pub one-query : (f : ℕ → ℕ) (g : Name → ℕ) (ms : List Name) (n : Name) → ((i : ℕ) → f i ≡ g (getD ms i [])) → ((m : Name) → among m ms ≡ false → g m ≡ 0) → totalBy f (numbersOf ms (n ∷ [])) ≡ g n
+one-query f g ms n same z = ap (λ (h : ℕ → ℕ). totalBy h (numbersOf ms (n ∷ []))) (fun-ext same) ∙ total-query g ms (n ∷ []) z ∙ omega arith
 
 pub ranked-names : (N : ℕ) (count : Name → ℕ → ℕ) (ms ns : List Name) (windows : List ℕ) (k : ℕ) → ((n : Name) (w : ℕ) → among n ms ≡ false → count n w ≡ 0)
     → ranked N (λ i w. count (getD ms i []) w) windows k (numbersOf ms ns) ≡ ranked N count windows k ns

@@ -11,7 +11,7 @@ use Rattle.state.specs.Rules.{stateRule}
 use Rattle.state.proofs.Kept.{state-kept}
 use Rattle.identifiers.specs.Register.{registerRule}
 use Rattle.admission.specs.declared.Admission.{Admission}
-use Rattle.admission.specs.Admission.{firstOf, sameLengths, cardTests, probeTests}
+use Rattle.admission.specs.Admission.{firstOf, told, sameLengths, cardTests, probeTests}
 
 module _ {S : Type 0} (ms : List ℕ) (us : List Bool) (o : Outcome S) where
   barred-by : (ns : List ℕ) (ts : List Bool) (n : ℕ) → 1 ≤ n → n ≡ firstOf ns ts → admit (ns ++ ms) (ts ++ us) o ≡ refuse n
@@ -86,3 +86,11 @@ module _ (l : Lengths) (card register : List ℕ) (e : sameLengths l card regist
 -- a sound state's register is no longer than one can be
 pub register-most : (s : State) → stateRule s ≡ true → s .lengths .register ≤ 66560
 register-most s e = let k = state-kept s e in omega (arith, k .lengths .register, k .lengths .mostEntries)
+
+-- a call that is lent both buffers and goes on: the state keeps its rules, both lengths are the state's, and the register is well formed
+pub admitted : (tag : Admission → ℕ) → ((why : Refusal) → tag (Admission.Refused why) ≡ 1) → (s : State) (card register : List ℕ) (sound : Bool) → sound ≡ stateRule s → (a : Admission) → tag a ≡ 0
+    → told a ≡ firstOf (1 ∷ 2 ∷ 3 ∷ []) (probeTests sound (s .lengths) card register)
+    → (stateRule s ≡ true) × (length card ≡ s .lengths .card) × (length register ≡ s .lengths .register) × (registerRule register ≡ true)
+admitted tag one s card register sound e a go g =
+    let f = probe-sound (stateRule s) (s .lengths) card register (rw (goes-on tag one a go, e) at g) in
+    (f .rule, card-size (s .lengths) card register (f .lengths), register-size (s .lengths) card register (f .lengths), f .formed)

@@ -118,17 +118,20 @@ module _ {ls : Lengths} (p : Probe) (e : Lists) (k : Stored ls p e) (fine : Fine
 
   -- ---- mean
 
+  -- whatever is told of counts in the windows that show
+  told-same : (g : (ℕ → ℕ → ℕ) → List ℕ → ℕ → ℕ) (n : Name)
+      → totalBy (g (countIn W s) (shown (s .windows))) (numbers (p .register) (n ∷ [])) ≡ totalBy (g (countOf (e .account)) (shown (e .windows))) (numbersOf (e .names) (n ∷ []))
+  told-same g n =
+      ap (λ (w : Windows). totalBy (g (countIn W s) (shown w)) (numbers (p .register) (n ∷ []))) (h .windows)
+      ∙ ap₂ (λ (c : ℕ → ℕ → ℕ) (is : List ℕ). totalBy (g c (shown (e .windows))) is) counts-same (numbers-same (n ∷ []))
+
   frequency-same : (n : Name) → frequencyIn W s (numbers (p .register) (n ∷ [])) ≡ frequencyOf e n
   unfolding frequencyIn frequencyOf
-  frequency-same n =
-      ap (λ (w : Windows). totalBy (frequency (countIn W s) (shown w)) (numbers (p .register) (n ∷ []))) (h .windows)
-      ∙ ap₂ (λ (c : ℕ → ℕ → ℕ) (is : List ℕ). totalBy (frequency c (shown (e .windows))) is) counts-same (numbers-same (n ∷ []))
+  frequency-same = told-same frequency
 
   total-same : (n : Name) → totalIn W s (numbers (p .register) (n ∷ [])) ≡ totalOf e n
   unfolding totalIn totalOf
-  total-same n =
-      ap (λ (w : Windows). totalBy (total (countIn W s) (shown w)) (numbers (p .register) (n ∷ []))) (h .windows)
-      ∙ ap₂ (λ (c : ℕ → ℕ → ℕ) (is : List ℕ). totalBy (total c (shown (e .windows))) is) counts-same (numbers-same (n ∷ []))
+  total-same = told-same total
 
   pub mean-same : (n : Name) → callRule e (Mean n) ≡ true → Same (Stored ls) (probeCall p (Mean n)) (pursued (blocks s) (registerSize s) e (Mean n))
   unfolding probeCall meanOf meaning pursued

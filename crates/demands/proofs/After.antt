@@ -31,8 +31,7 @@ use Rattle.decoded.proofs.Holds.{Holds, taking-is}
 use Rattle.decoded.proofs.Unused.{going, output-going}
 use Rattle.decoded.proofs.Simulated.{runs-simulated, Left}
 use Rattle.histories.proofs.Theorem.{entries-most, history-left}
-use Rattle.demands.specs.Words as words-of
-use Rattle.demands.specs.Words.{Listing, probeAfter, booksAfter, unused}
+use Rattle.demands.specs.Words.{Listing, Divided, probeAfter, booksAfter, unused}
 use Rattle.demands.proofs.Granted.{Where, where-if, hits-granted, listOf, takenOf, ranked-listing, mean-granted, mean-last}
 use Rattle.demands.proofs.Rows.{same-if, query-called, mean-called}
 use Rattle.demands.proofs.Cards.{whole-after, ones-bytes}
@@ -53,7 +52,7 @@ books-where n m b k ns found taken =
 -- ---- and to a mean
 
 average-where : (n m : ℕ) (b : Books) (x : Name) (q r d : ℕ)
-    → Where b (mean q r d) (λ (c : Books). words-of.Mean (frequency (b .ledger .count) (shown (b .ledger)) x) (total (b .ledger .count) (shown (b .ledger)) x) q r d) (booksCall n m b (Mean x))
+    → Where b (mean q r d) (λ (c : Books). Divided (frequency (b .ledger .count) (shown (b .ledger)) x) (total (b .ledger .count) (shown (b .ledger)) x) q r d) (booksCall n m b (Mean x))
 unfolding books
 average-where n m b x q r d =
     where-if (mean-granted q r d) _ 4 _ λ _. where-if (mean-granted q r d) _ 15 _ λ some. record { holds = λ e. mean-last _ _ q r d some e }
@@ -114,7 +113,7 @@ module _ (c r : ℕ) (cardFits : cardLength c ≡ true) (registerFits : register
 
   -- and loses nothing of its sum
   pub mean-by-ledger : (n : Name) (q rest d : ℕ) → answerOf (meanOf p n) ≡ mean q rest d
-      → words-of.Mean (frequency (b .ledger .count) (shown (b .ledger)) n) (total (b .ledger .count) (shown (b .ledger)) n) q rest d
+      → Divided (frequency (b .ledger .count) (shown (b .ledger)) n) (total (b .ledger .count) (shown (b .ledger)) n) q rest d
   mean-by-ledger n q rest d e = average-where (c / 4096) (r / 65) b n q rest d .holds (sym (answered (Mean n)) ∙ sym (mean-called p n) ∙ e)
 
   -- one call more leaves the hits, unless it may make a window show or cease to

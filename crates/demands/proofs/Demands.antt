@@ -53,7 +53,7 @@ use Rattle.decoded.specs.Portions.{portionOn, outputOf, cleanPast}
 use Rattle.decoded.proofs.Simulated.{left-sums}
 use Rattle.histories.specs.Statement.{answers, SameAnswers}
 use Rattle.histories.proofs.Theorem.{entries-most, same-answers, none-malformed, history-left}
-use Rattle.demands.specs.Words.{Fit, Listing, Mean, probeAfter, booksAfter, unused}
+use Rattle.demands.specs.Words.{Fit, Listing, Divided, probeAfter, booksAfter, unused}
 use Rattle.demands.specs.Promises.{Starts, Opens, Counts, Closes, Removes, Flushes, Steps, Asks, AsksValue, Averages, Begun}
 use Rattle.demands.proofs.Granted.{event-bad, query-bad, mean-bad, event-noted, query-answered, answered-listing, open-unlisted, mean-answered}
 use Rattle.demands.proofs.Rows.{start-fresh, start-refuses, all-unstarted, begun-run}
@@ -193,7 +193,7 @@ places-kept p ns places found taken e = query-answered p ns places found taken e
 -- A mean loses nothing: quotient × F + remainder is the sum of the identifier's counts in the windows that show, the remainder is below F, and F is the number of those
 -- windows in which its count is above 0.
 pub mean-exact : (p : Probe) (n : Name) (quotient remainder divisor : ℕ) → answerOf (meanOf p n) ≡ mean quotient remainder divisor
-    → Mean (frequencyIn (words (p .card)) (p .state) (numbers (p .register) (n ∷ []))) (totalIn (words (p .card)) (p .state) (numbers (p .register) (n ∷ []))) quotient remainder divisor
+    → Divided (frequencyIn (words (p .card)) (p .state) (numbers (p .register) (n ∷ []))) (totalIn (words (p .card)) (p .state) (numbers (p .register) (n ∷ []))) quotient remainder divisor
 mean-exact = mean-answered
 
 -- After every history it is told, or refused with 4 or 15, as F and the sum of the ledger's closed windows say.
@@ -205,7 +205,7 @@ means-answered = mean-told
 -- So quotient × F + remainder is then the ledger's sum.
 pub mean-of-ledger : (c r : ℕ) → cardLength c ≡ true → registerLength r ≡ true → (cs : List Call) (n : Name) (quotient remainder divisor : ℕ)
     → answerOf (meanOf (probeAfter c r cs) n) ≡ mean quotient remainder divisor
-    → Mean (frequency (booksAfter c r cs .ledger .count) (ledger.shown (booksAfter c r cs .ledger)) n) (total (booksAfter c r cs .ledger .count) (ledger.shown (booksAfter c r cs .ledger)) n) quotient remainder divisor
+    → Divided (frequency (booksAfter c r cs .ledger .count) (ledger.shown (booksAfter c r cs .ledger)) n) (total (booksAfter c r cs .ledger .count) (ledger.shown (booksAfter c r cs .ledger)) n) quotient remainder divisor
 mean-of-ledger = mean-by-ledger
 
 -- Postings in order, written as a partition of any level to any blocks of the card, keep the layout and read back as they were.

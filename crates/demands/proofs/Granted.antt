@@ -20,7 +20,7 @@ use Rattle.averages.proofs.Division.{whole, left-below}
 use Rattle.means.specs.Mean.{frequencyIn, totalIn, meaning, meanOf}
 use Rattle.accounts.specs.Ledger.{including}
 use Rattle.accounts.proofs.Numbers.{new-is}
-use Rattle.demands.specs.Words.{Fit, scored, Listing, Mean}
+use Rattle.demands.specs.Words.{Fit, scored, Listing, Divided}
 use Rattle.demands.proofs.Listing.{listed-scores, listed-falls, left-out-only-when-full}
 
 -- where a is answered, what is left is as G says
@@ -199,7 +199,7 @@ pub mean-granted : (q r f m : ℕ) → refused m ≡ mean q r f → ⊥
 mean-granted q r f m e = let z : _≡_ {A = ℕ} 0 1 = cc in absurd (omega arith)
 
 -- what is answered where F is not 0
-pub mean-last : (f t q r d : ℕ) → eqb f 0 ≡ false → averaged f t ≡ mean q r d → Mean f t q r d
+pub mean-last : (f t q r d : ℕ) → eqb f 0 ≡ false → averaged f t ≡ mean q r d → Divided f t q r d
 mean-last f t q r d some e =
     let n = eqb-false f 0 some in
     let a : t / f ≡ q = cc in
@@ -207,7 +207,7 @@ mean-last f t q r d some e =
     let c : f ≡ d = cc in
     record { sum = rw (← a, ← b, ← c) (whole t f); below = rw (← b, ← c) (left-below t f (omega arith)); windows = sym c }
 
-mean-where : (p : Probe) (n : Name) (f t q r d : ℕ) → Where tt (mean q r d) (λ (u : Unit {0}). Mean f t q r d) (meaning p n f t)
+mean-where : (p : Probe) (n : Name) (f t q r d : ℕ) → Where tt (mean q r d) (λ (u : Unit {0}). Divided f t q r d) (meaning p n f t)
 unfolding meaning
 mean-where p n f t q r d =
     where-if (mean-granted q r d) _ 1 _ λ _. where-if (mean-granted q r d) _ 2 _ λ _. where-if (mean-granted q r d) _ 3 _ λ _.
@@ -215,7 +215,7 @@ mean-where p n f t q r d =
     record { holds = λ e. mean-last f t q r d some e }
 
 pub mean-answered : (p : Probe) (n : Name) (q r d : ℕ) → answerOf (meanOf p n) ≡ mean q r d
-    → Mean (frequencyIn (words (p .card)) (p .state) (numbers (p .register) (n ∷ []))) (totalIn (words (p .card)) (p .state) (numbers (p .register) (n ∷ []))) q r d
+    → Divided (frequencyIn (words (p .card)) (p .state) (numbers (p .register) (n ∷ []))) (totalIn (words (p .card)) (p .state) (numbers (p .register) (n ∷ []))) q r d
 unfolding meanOf
 mean-answered p n q r d e = mean-where p n _ _ q r d .holds e
 

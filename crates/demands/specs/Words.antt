@@ -46,7 +46,7 @@ pub record Listing {I : Type 0} (N : ℕ) (count : I → ℕ → ℕ) (windows :
       → (length found ≡ k) × (every (λ h. outranks h (scored N count windows is w)) found ≡ true)
 
 -- what a mean's quotient, remainder and divisor are, where an identifier counts t in all, in f windows
-pub record Mean (f t quotient remainder divisor : ℕ) : Type 0 where
+pub record Divided (f t quotient remainder divisor : ℕ) : Type 0 where
   -- nothing of the sum is lost
   pub sum : quotient * divisor + remainder ≡ t
   pub below : remainder < divisor

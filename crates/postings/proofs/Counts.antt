@@ -1,8 +1,9 @@
 -- A signed count of 16 bits: whether it is 0, its size, and what it counts.
 use Rattle.lists.proofs.Prelude.{true, false, _≡_, refl, sym, ℕ, zero, suc, _-_, _<_, arith, T, eqb, leb, ℤ, pos, negsuc, natAbs, ltb-true, ne-eqb, le-leb}
 use lib.Signed.{ltZ, nonNeg}
-use mir.Syntax.{w16}
+use mir.Syntax.{Width, w16}
 use mir.Val.{SFits, Fits, ofZ}
+use mir.ValLaws.{half-full}
 use Rattle.postings.specs.Merge.{isZero}
 use Rattle.postings.specs.Sums.{above}
 
@@ -27,7 +28,7 @@ pub above-pos : (z : ℤ) → ltZ z (pos 0) ≡ false → natAbs z ≡ above z
 above-pos (pos n) t = refl
 above-pos (negsuc n) t = let e : _≡_ {A = ℕ} 0 1 = cc in absurd (omega arith)
 
--- and then it has 16 bits without a sign
-pub cast-pos : (z : ℤ) → SFits w16 z → ltZ z (pos 0) ≡ false → T (nonNeg z) × Fits w16 (natAbs z)
-cast-pos (pos n) f t = let h : n < 32768 = f .sfits in (tt, record { fits = omega arith })
+-- and then it fits its width without a sign
+pub cast-pos : {w : Width} (z : ℤ) → SFits w z → ltZ z (pos 0) ≡ false → T (nonNeg z) × Fits w (natAbs z)
+cast-pos {w} (pos n) f t = (tt, record { fits = half-full w (f .sfits) })
 cast-pos (negsuc n) f t = let e : _≡_ {A = ℕ} 0 1 = cc in absurd (omega arith)

@@ -22,7 +22,7 @@ use Rattle.terms.specs.declared.judging.Told.the-variants.{Malformed, Windows}
 use Rattle.heads.specs.Heads.{view, Kept, views}
 use Rattle.terms.specs.Both.{Ready, both}
 use Rattle.heads.specs.Leads.{Leads}
-use Rattle.terms.specs.Judged.{inRanges, ranges, Spread, formed, risen, toldOf}
+use Rattle.terms.specs.Judged.{inRanges, ranges, formed, toldOf}
 use Rattle.terms.specs.Opening.{Opens}
 use Rattle.scores.specs.Terms.{Term, termOf, KeptGroup, Serves, toldTerm, Fitting}
 use Rattle.scores.proofs.Counts.{headed, put-behind, put-behind-long}
@@ -50,18 +50,6 @@ over-at (suc m) j S h e =
 
 -- ---- what is told
 
-told-none : (shows : ℕ → Bool) (gs : List Group) → toldOf shows gs ≡ Malformed → formed gs ≡ false
-unfolding toldOf
-told-none shows gs e = by-test (formed gs) (λ y. let q : Windows (risen shows gs .windows) (risen shows gs .total) ≡ Malformed = rw y at e in let z : _≡_ {A = ℕ} 0 1 = cc in absurd (omega arith)) (λ n. n)
-
-told-windows : (shows : ℕ → Bool) (gs : List Group) (n t : ℕ) → toldOf shows gs ≡ Windows n t → (formed gs ≡ true) × (n ≡ risen shows gs .windows)
-unfolding toldOf
-told-windows shows gs n t e =
-    by-test (formed gs)
-    (λ y. let q : Windows (risen shows gs .windows) (risen shows gs .total) ≡ Windows n t = rw y at e in (y, cc))
-    (λ f. let q : Malformed ≡ Windows n t = rw f at e in let z : _≡_ {A = ℕ} 0 1 = cc in absurd (omega arith))
-
--- of the identifier
 module _ (W : List ℕ) (s : State) (i : ℕ) where
   pub told-malformed : toldTerm W s i ≡ Malformed → identifierFormed W s i ≡ false
   unfolding toldTerm
@@ -107,14 +95,6 @@ module _ (W R : List ℕ) (s : State) (i : ℕ) (H : List ℕ) (opens : Opens W 
   all-parts : all ≡ cards ++ (run ∷ [])
   all-parts = views-more (view W R) 4 (s .partitions .used) H
 
-  -- not well formed
-  pub judged-bad : toldOf closed gs ≡ Malformed → identifierFormed W s i ≡ false
-  judged-bad e = formed-same W R s i H opens small few order rules ∙ told-none closed gs e
-
-  -- well formed
-  pub judged-good : (n t : ℕ) → toldOf closed gs ≡ Windows n t → identifierFormed W s i ≡ true
-  judged-good n t e = formed-same W R s i H opens small few order rules ∙ told-windows closed gs n t e .0
-
   module _ (ok : formed gs ≡ true) where
     fall : allFall 65536 all ≡ true
     fall = rw all-parts (falls-more 65536 cards run (lists-fall W R s i H opens small few order rules ok) (run-fall W R s i H opens small few order rules ok))
@@ -133,10 +113,6 @@ module _ (W R : List ℕ) (s : State) (i : ℕ) (H : List ℕ) (opens : Opens W 
         ap inRange (total-same W R s i H opens small few order rules w) ∙ and-right (inRange (sums w cards)) _ h)
         (λ y. ap inRange (sym (totals w) ∙ sums-high 65536 w (ltb-false w 65536 y) all fall))
 
-    -- F fits
-    windows-fit : risen closed gs .windows ≤ 65535
-    windows-fit = risen-few closed gs (none-at-zero W R s i H opens small few order rules ok)
-
   -- what the judging tells is what is told of the identifier
   pub judged-same : (r : Told) → r ≡ toldOf closed gs → (r ≡ toldTerm W s i) × Fitting r
   unfolding toldOf toldTerm
@@ -144,16 +120,27 @@ module _ (W R : List ℕ) (s : State) (i : ℕ) (H : List ℕ) (opens : Opens W 
       by-test (formed gs)
       (λ y. let same = risen-same W R s i H opens small few order rules y in
       let told : r ≡ Windows (frequency (shown (s .windows)) (stored W s) i) (amount (shown (s .windows)) (stored W s) i) = e ∙ rw (y, same) in
-      (told ∙ rw (formed-same W R s i H opens small few order rules, y), rw told (rw same at (windows-fit y), amount-most (stored W s) i (in-range y) (shown (s .windows)))))
+      (told ∙ rw (formed-same W R s i H opens small few order rules, y), rw told (rw same at (risen-few closed gs (none-at-zero W R s i H opens small few order rules y)), amount-most (stored W s) i (in-range y) (shown (s .windows)))))
       (λ n. let told : r ≡ Malformed = e ∙ rw n in (told ∙ rw (formed-same W R s i H opens small few order rules, n), rw told tt))
 
+  -- not well formed
+  pub judged-bad : toldOf closed gs ≡ Malformed → identifierFormed W s i ≡ false
+  judged-bad e = told-malformed W s i (sym (judged-same Malformed (sym e) .0))
+
+  -- well formed
   module _ (n t : ℕ) (told : toldOf closed gs ≡ Windows n t) where
+    counted : (identifierFormed W s i ≡ true) × (n ≡ frequency (shown (s .windows)) (stored W s) i) × (t ≡ amount (shown (s .windows)) (stored W s) i)
+    counted = told-formed W s i n t (sym (judged-same (Windows n t) (sym told) .0))
+
+    pub judged-good : identifierFormed W s i ≡ true
+    judged-good = counted .0
+
     ok : formed gs ≡ true
-    ok = told-windows closed gs n t told .0
+    ok = sym (formed-same W R s i H opens small few order rules) ∙ judged-good
 
     -- F fits
     pub windows-few : n ≤ 65535
-    windows-few = omega (arith, told-windows closed gs n t told .1, windows-fit ok)
+    windows-few = judged-same (Windows n t) (sym told) .1 .0
 
     pub all-fall : allFall 65536 all ≡ true
     all-fall = fall ok
@@ -171,7 +158,7 @@ module _ (W R : List ℕ) (s : State) (i : ℕ) (H : List ℕ) (opens : Opens W 
           totals = totals ok;
           ranges = in-range ok;
           none = total-same W R s i H opens small few order rules 0 ∙ total-none (map (sums 0) gs) (none-at-zero W R s i H opens small few order rules ok);
-          weight = ap (idfWeight (s .windows .live)) (told-windows closed gs n t told .1 ∙ ap (λ (x : Spread). x .windows) (risen-same W R s i H opens small few order rules ok));
+          weight = ap (idfWeight (s .windows .live)) (counted .1);
         })
 
 -- ---- reach, weight and lead put in front of a group's heads

@@ -2,10 +2,9 @@
 use Rattle.lists.proofs.Prelude.{refl, sym, ap, _∙_, needs}
 use denote.Enum.Declared.{tagOf}
 use Rattle.answers.specs.Answers.{answerOf}
-use Rattle.state.specs.Rules.{stateRule}
 use Rattle.state.specs.Probe.{probeOf}
 use Rattle.admission.proofs.Admission.{the-type}
-use Rattle.admission.proofs.Laws.{goes-on, probe-sound, card-size, register-size, register-most}
+use Rattle.admission.proofs.Laws.{register-most, admitted}
 use Rattle.means.proofs.Outcomes.{mean-barred}
 use Rattle.means.proofs.mean.Statement.{statement}
 use Rattle.means.proofs.mean.Tie as tie
@@ -24,9 +23,7 @@ mean-admitted-requires : tie.Need-mean-admitted-requires
 mean-admitted-requires c κs =
     let j = c .before .before in
     let a = j .before .before .before .before .before .args in
-    let go = goes-on (tagOf the-type) (λ why. refl) (j .judge-probe .result) (c .before .match .keys2) in
-    let f = probe-sound (stateRule (a .s)) (a .s .lengths) (a .card .now) (a .register .now) (rw (go, j .before .state-ok .ensures) at (j .judge-probe .ensures)) in
-    (f .rule, card-size (a .s .lengths) (a .card .now) (a .register .now) (f .lengths), register-size (a .s .lengths) (a .card .now) (a .register .now) (f .lengths), f .formed)
+    admitted (tagOf the-type) (λ why. refl) (a .s) (a .card .now) (a .register .now) _ (j .before .state-ok .ensures) (j .judge-probe .result) (c .before .match .keys2) (j .judge-probe .ensures)
 
 pub mean-spec : {M : Type 1} → statement M
 mean-spec =

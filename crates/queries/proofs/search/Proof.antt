@@ -2,9 +2,8 @@
 use Rattle.lists.proofs.Prelude.{map, refl, sym, _∙_, needs}
 use denote.Enum.Declared.{tagOf}
 use denote.Ref.{now}
-use Rattle.state.specs.Rules.{stateRule}
 use Rattle.admission.proofs.Admission.{the-type}
-use Rattle.admission.proofs.Laws.{goes-on, probe-sound, card-size, register-size, register-most}
+use Rattle.admission.proofs.Laws.{register-most, admitted}
 use Rattle.queries.specs.Finds.{probeOf}
 use Rattle.queries.proofs.Outcomes.{refused-as, finds-barred}
 use Rattle.queries.proofs.search.Statement.{statement}
@@ -27,9 +26,7 @@ search-admitted-requires : tie.Need-search-admitted-requires
 search-admitted-requires c κs =
     let j = c .before .before in
     let a = j .before .before .before .before .args in
-    let go = goes-on (tagOf the-type) (λ why. refl) (j .judge-probe .result) (c .before .match .keys2) in
-    let f = probe-sound (stateRule (a .s)) (a .s .lengths) (a .card .now) (a .register .now) (rw (go, j .before .state-ok .ensures) at (j .judge-probe .ensures)) in
-    (f .rule, card-size (a .s .lengths) (a .card .now) (a .register .now) (f .lengths), register-size (a .s .lengths) (a .card .now) (a .register .now) (f .lengths), f .formed)
+    admitted (tagOf the-type) (λ why. refl) (a .s) (a .card .now) (a .register .now) _ (j .before .state-ok .ensures) (j .judge-probe .result) (c .before .match .keys2) (j .judge-probe .ensures)
 
 pub search-spec : {M : Type 1} → statement M
 search-spec =
