@@ -1,8 +1,10 @@
 pub mod Tally
 pub mod Buffers
+pub mod Slots
 pub mod Keeps
 pub mod Resumes
 pub mod Windowed
 pub mod Tallies
-pub mod ReadBack
 pub mod Walking
+pub mod ReadBack
+pub mod Alone

@@ -1,9 +1,10 @@
 -- What the walk over partitions and buffer tells is what a removal reads.
-use Rattle.lists.proofs.Prelude.{Bool, true, false, cond, _&&_, not, List, [], _∷_, _++_, map, _≡_, refl, sym, ap, _∙_, ℕ, _≤_, arith, leb, length, le-leb, every, joined, AllOf, by-test, and-both, every-from, every-map}
+use Rattle.lists.proofs.Prelude.{Bool, true, false, cond, _&&_, _||_, not, List, [], _∷_, _++_, map, _≡_, refl, sym, ap, _∙_, ℕ, _*_, _<_, _≤_, arith, eqb, leb, ltb, length, getD, le-leb, lt-leb, leb-true, ltb-true, ne-eqb, every, elem, joined, AllOf, by-test, and-left, and-right, and-both, every-from, every-map, every-elem, elem-every, none-from, keep-none, never, and-false}
 use Rattle.keyed.specs.Groups.{Group}
 use Rattle.words.specs.Words.{Below}
 use Rattle.postings.specs.declared.Posting.{Posting}
 use Rattle.postings.specs.Order.{ordered}
+use Rattle.postings.specs.Merge.{pairs, nonzero}
 use Rattle.state.specs.declared.Buffer.{Buffer}
 use Rattle.state.specs.declared.State.{State}
 use Rattle.state.specs.Views.{buffered, finished}
@@ -11,62 +12,43 @@ use Rattle.state.specs.Rules.{postingRule, stateRule}
 use Rattle.state.proofs.Kept.{state-kept, posting-kept}
 use Rattle.partitions.specs.Reading.{postingsOf, inPartitions, stored}
 use Rattle.partitions.specs.Formed.{listRule, sumsInRange}
-use Rattle.kway.specs.Parts.{parts}
+use Rattle.kway.specs.Parts.{part, parts}
 use Rattle.scans.specs.Keys.{itemOf, isKeyed}
 use Rattle.scans.specs.Items.{items}
 use Rattle.scans.specs.Heads.{readerAt, ahead, view, Kept}
 use Rattle.scans.proofs.Moves.{reader-keyed}
-use Rattle.sums.specs.declared.Judged.{Judged}
-use Rattle.sums.specs.Views.{countsIn, Neat}
-use Rattle.sums.specs.Tally.{ofWindow, countsOf, listsFormed, ReadOf}
+use Rattle.sums.specs.Views.{Tidy, heldFor}
+use Rattle.sums.specs.Tally.{ofWindow, countsOf, listsRuled, windowFormed, ReadAll}
 use Rattle.sums.specs.Steps.{Begun}
-use Rattle.sums.proofs.Tally.{Tally, faulty, tallied, tallyIf, tallyOf, told, isFine, bufferItems, Walkable, groups}
-use Rattle.sums.proofs.Tallies.{tally-lists}
+use Rattle.sums.proofs.Tally.{Tally, faulty, tallied, tallyIf, tallyOf, isFine, bufferItems, Walkable, groups}
+use Rattle.sums.proofs.Tallies.{joined-keyed, all-keyed, tally-lists}
+use Rattle.sums.proofs.Keeps.{Watched}
+use Rattle.sums.proofs.Walking.{Fault}
 
--- ---- a result against its tests
+-- ---- what is told against its tests
 
 wrong : {A : Type 0} (l : List Posting) → tallied l ≡ faulty → A
 wrong l e = let z : _≡_ {A = ℕ} 0 1 = cc in absurd (omega arith)
 
-both-none : (x y : Bool) → (x && y) ≡ false → (z : Bool) → (x && (y && z)) ≡ false
-both-none true y e z = rw e
-both-none false y e z = refl
-
-both-some : (x y : Bool) → (x && y) ≡ true → (z : Bool) → (x && (y && z)) ≡ z
-both-some true y e z = rw e
-both-some false y e z = let o : _≡_ {A = ℕ} 0 1 = cc in absurd (omega arith)
-
--- the result is fine where the counts are told
-fine-told : (r : Judged) (l : List Posting) → told r ≡ tallied l → (r .fine ≡ true) × (countsIn (r .counts) ≡ l)
-unfolding told
-fine-told r l e =
-    by-test (r .fine)
-    (λ y. let q : tallied (countsIn (r .counts)) ≡ tallied l = rw y at e in (y, cc))
-    (λ n. let q : faulty ≡ tallied l = rw n at e in wrong l (sym q))
-
--- and not where a fault is
-faulty-told : (r : Judged) → told r ≡ faulty → r .fine ≡ false
-unfolding told
-faulty-told r e = by-test (r .fine) (λ y. let q : tallied (countsIn (r .counts)) ≡ faulty = rw y at e in wrong (countsIn (r .counts)) q) (λ n. n)
-
-module _ (r : Judged) (l : List Posting) where
-  abbrev Settled : Bool → Type 0
-  Settled b = (r .fine ≡ b) × (r .fine ≡ true → countsIn (r .counts) ≡ l)
-
-  settled-faulty : (b : Bool) → b ≡ false → told r ≡ faulty → Settled b
-  settled-faulty b e f =
-      let n = faulty-told r f in
-      (n ∙ sym e, λ y. let z : true ≡ false = sym y ∙ n in let o : _≡_ {A = ℕ} 0 1 = cc in absurd (omega arith))
-
-  settled : (a x y : Bool) → told r ≡ cond a (tallyIf (x && y) l) faulty → Settled (a && (x && (y && leb (length l) 64)))
+module _ (l : List Posting) where
+  -- counts are told where every test is passed
+  settled : (a x y : Bool) (cs : List Posting) → cond a (tallyIf (x && y) l) faulty ≡ tallied cs → (a ≡ true) × ((x && (y && leb (length l) 64)) ≡ true) × (cs ≡ l)
   unfolding tallyIf
-  settled false x y f = settled-faulty false refl f
-  settled true x y f =
-      by-test (x && y)
-      (λ t. by-test (leb (length l) 64)
-      (λ s. let k = fine-told r l (f ∙ rw (t, s)) in (k .0 ∙ sym (both-some x y t (leb (length l) 64) ∙ s), λ z. k .1))
-      (λ n. settled-faulty _ (both-some x y t (leb (length l) 64) ∙ n) (f ∙ rw (t, n))))
-      (λ n. settled-faulty _ (both-none x y n (leb (length l) 64)) (f ∙ rw n))
+  settled false x y cs e = wrong cs (sym e)
+  settled true false y cs e = wrong cs (sym e)
+  settled true true false cs e = wrong cs (sym e)
+  settled true true true cs e =
+      by-test (leb (length l) 64)
+      (λ t. let q : tallied l ≡ tallied cs = rw t at e in (refl, t, cc))
+      (λ n. let q : faulty ≡ tallied cs = rw n at e in wrong cs (sym q))
+
+  -- and a fault where one is not
+  faulted : (a x y : Bool) → cond a (tallyIf (x && y) l) faulty ≡ faulty → (a && (x && (y && leb (length l) 64))) ≡ false
+  unfolding tallyIf
+  faulted false x y e = refl
+  faulted true false y e = refl
+  faulted true true false e = refl
+  faulted true true true e = by-test (leb (length l) 64) (λ t. let q : tallied l ≡ faulty = rw t at e in wrong l q) (λ n. n)
 
 -- ---- the buffer
 
@@ -105,7 +87,13 @@ module _ (W : List ℕ) where
 
 -- ---- the walk's answer
 
-module _ (W : List ℕ) (s : State) (b : Buffer) (w : ℕ) (H : List ℕ) (start : ℕ) (g : Begun W s b H start) (small : Below 4294967296 W) (ok : Walkable (s .buffer)) where
+-- no posting with a key is of a window above 65,535
+none-above : (w : ℕ) → 65535 < w → (l : List Posting) → every isKeyed l ≡ true → ofWindow w l ≡ []
+none-above w h l k =
+    keep-none (λ p. eqb (p .window) w) l
+    (none-from isKeyed (λ p. eqb (p .window) w) (λ p e. ne-eqb (p .window) w (λ q. absurd (omega (arith, leb-true (p .window) 65535 (and-right (leb (p .id) 1023) _ e))))) l k)
+
+module _ (W : List ℕ) (s : State) (b : Buffer) (ws H : List ℕ) (start : ℕ) (g : Begun W s b H start) (small : Below 4294967296 W) (ok : Walkable (s .buffer)) where
   buffer-rule : listRule (buffered (s .buffer)) ≡ true
   unfolding listRule
   buffer-rule = and-both (ordered (buffered (s .buffer))) _ (state-kept s (g .rule) .buffer .order) (ok .fine)
@@ -113,8 +101,11 @@ module _ (W : List ℕ) (s : State) (b : Buffer) (w : ℕ) (H : List ℕ) (start
   abbrev lists : List (List Posting)
   lists = map (postingsOf W) (finished (s .partitions))
 
-  abbrev pub whole : Tally
-  whole = tallyOf w (groups W (s .partitions .used) H b 0)
+  lists-keyed : every (every isKeyed) lists ≡ true
+  lists-keyed = rw (g .lists) at (heads-keyed W small (parts 10 (s .partitions .used) H) (g .kept))
+
+  abbrev pub whole : ℕ → Tally
+  whole w = tallyOf w (groups W (s .partitions .used) H b 0)
 
   groups-same : groups W (s .partitions .used) H b 0 ≡ map (map itemOf) lists ∷ (map itemOf (buffered (s .buffer)) ∷ []) ∷ []
   unfolding bufferItems
@@ -123,19 +114,50 @@ module _ (W : List ℕ) (s : State) (b : Buffer) (w : ℕ) (H : List ℕ) (start
       (ap (λ (x : Group). x ∷ (map itemOf (buffered (s .buffer)) ∷ []) ∷ []) (views-lists W (parts 10 (s .partitions .used) H) ∙ ap (map (map itemOf)) (g .lists)))
 
   -- what is told, by the definitions of a removal
-  tally-stored : whole
-      ≡ cond (every (λ p. listRule (postingsOf W p)) (finished (s .partitions)))
-      (tallyIf (sumsInRange (ofWindow w (inPartitions W (finished (s .partitions)))) && sumsInRange (ofWindow w (stored W s))) (countsOf w (stored W s))) faulty
+  tally-stored : (w : ℕ) → whole w
+      ≡ cond (listsRuled W s) (tallyIf (sumsInRange (ofWindow w (inPartitions W (finished (s .partitions)))) && sumsInRange (ofWindow w (stored W s))) (countsOf w (stored W s))) faulty
   unfolding inPartitions stored
-  tally-stored =
+  tally-stored w =
       ap (tallyOf w) groups-same
-      ∙ tally-lists w lists (buffered (s .buffer)) (rw (g .lists) at (heads-keyed W small (parts 10 (s .partitions .used) H) (g .kept))) (ok .keyed) buffer-rule
+      ∙ tally-lists w lists (buffered (s .buffer)) lists-keyed (ok .keyed) buffer-rule
       ∙ ap (λ (t : Bool). cond t (tallyIf (sumsInRange (ofWindow w (joined lists)) && sumsInRange (ofWindow w (joined lists ++ buffered (s .buffer)))) (countsOf w (joined lists ++ buffered (s .buffer)))) faulty)
       (every-map listRule (postingsOf W) (finished (s .partitions)))
 
-  -- so the result says what a removal reads
-  pub read-back : (r : Judged) → told r ≡ whole → Neat (r .counts) → ReadOf W s w r
-  unfolding listsFormed
-  read-back r e neat =
-      let t = settled r (countsOf w (stored W s)) (every (λ p. listRule (postingsOf W p)) (finished (s .partitions))) (sumsInRange (ofWindow w (inPartitions W (finished (s .partitions))))) (sumsInRange (ofWindow w (stored W s))) (e ∙ tally-stored) in
-      record { fine = t .0; counts = t .1; neat = neat }
+  -- a number that no window has is well formed
+  formed-above : (w : ℕ) → 65535 < w → windowFormed W s w ≡ true
+  unfolding inPartitions stored sumsInRange countsOf pairs nonzero
+  formed-above w h =
+      rw (none-above w h (joined lists) (joined-keyed w lists (buffered (s .buffer)) lists-keyed (ok .keyed) lists lists-keyed), none-above w h (joined lists ++ buffered (s .buffer)) (all-keyed w lists (buffered (s .buffer)) lists-keyed (ok .keyed)))
+
+  module _ (T : List ℕ) (slots : length T ≡ 65 * length ws) (tidy : (j : ℕ) → j < length ws → Tidy (getD ws j 0) (part 65 j T)) where
+    -- where the counts of all are told, all are well formed
+    pub read-back : Watched ws 65536 → ((v : ℕ) → Watched ws v → whole v ≡ tallied (heldFor ws T v)) → ReadAll W s ws true T
+    read-back m h = record {
+      fine = sym (and-both (listsRuled W s) _ (at 65536 m .0) (elem-every (windowFormed W s) ws (λ v e. at v (rw e) .1)));
+      counts = λ y v e. at v (rw e) .2;
+      long = slots;
+      tidy = tidy;
+    }
+      where
+        at : (v : ℕ) → Watched ws v → (listsRuled W s ≡ true) × (windowFormed W s v ≡ true) × (heldFor ws T v ≡ countsOf v (stored W s))
+        at v m = settled (countsOf v (stored W s)) (listsRuled W s) (sumsInRange (ofWindow v (inPartitions W (finished (s .partitions))))) (sumsInRange (ofWindow v (stored W s))) (heldFor ws T v) (sym (tally-stored v) ∙ h v m)
+
+    -- and where a fault is told, not all are
+    pub read-fault : Fault ws whole → ReadAll W s ws false T
+    read-fault f = record {
+      fine = sym (by-test (listsRuled W s) (λ y. rw y (unformed (rw y at bad))) (λ n. rw n));
+      counts = λ y. never y;
+      long = slots;
+      tidy = tidy;
+    }
+      where
+        bad : (listsRuled W s && windowFormed W s (f .window)) ≡ false
+        bad = faulted (countsOf (f .window) (stored W s)) (listsRuled W s) (sumsInRange (ofWindow (f .window) (inPartitions W (finished (s .partitions))))) (sumsInRange (ofWindow (f .window) (stored W s))) (sym (tally-stored (f .window)) ∙ f .told)
+
+        unformed : windowFormed W s (f .window) ≡ false → every (windowFormed W s) ws ≡ false
+        unformed n =
+            by-test (every (windowFormed W s) ws)
+            (λ y. by-test (elem (f .window) ws)
+            (λ m. never (sym n ∙ every-elem (windowFormed W s) ws (f .window) y m))
+            (λ o. never (sym n ∙ formed-above (f .window) (ltb-true 65535 (f .window) (rw o at (f .watched))))))
+            (λ z. z)

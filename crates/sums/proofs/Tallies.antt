@@ -200,11 +200,11 @@ module _ (w : ℕ) (ls : List (List Posting)) (m : List Posting) (lk : every (ev
   abbrev at : ℕ → List ℤ
   at k = map (sums k) gs
 
-  joined-keyed : (xs : List (List Posting)) → every (every isKeyed) xs ≡ true → every isKeyed (joined xs) ≡ true
+  pub joined-keyed : (xs : List (List Posting)) → every (every isKeyed) xs ≡ true → every isKeyed (joined xs) ≡ true
   joined-keyed [] e = refl
   joined-keyed (x ∷ xs) e = every-append isKeyed x (joined xs) ∙ and-both (every isKeyed x) _ (and-left (every isKeyed x) _ e) (joined-keyed xs (and-right (every isKeyed x) _ e))
 
-  all-keyed : every isKeyed all ≡ true
+  pub all-keyed : every isKeyed all ≡ true
   all-keyed = every-append isKeyed (joined ls) m ∙ and-both (every isKeyed (joined ls)) _ (joined-keyed ls lk) mk
 
   -- the sums under a key are those of its pair

@@ -10,8 +10,6 @@ use Rattle.partitions.specs.Formed.{inRange}
 use Rattle.kway.specs.Ranges.{totalZ, inRanges}
 use Rattle.scans.specs.Keys.{keyWindow, itemOf, isKeyed, postingOf}
 use Rattle.scans.specs.Heads.{views}
-use Rattle.sums.specs.declared.Judged.{Judged}
-use Rattle.sums.specs.Views.{countsIn}
 
 -- malformed, or a window's counts
 pub data Tally : Type 0 where
@@ -51,10 +49,6 @@ unfoldable pub keptOf : ℕ → ℕ → ℤ → ℤ → List Posting → Tally
 keptOf w k sum total cs =
     tallyIf (not (eqb (keyWindow k) w) || (inRange sum && inRange total))
     (cs ++ cond (eqb (keyWindow k) w && not (isZero total)) (totalAt k total ∷ []) [])
-
--- what a result tells
-unfoldable pub told : Judged → Tally
-told r = cond (r .fine) (tallied (countsIn (r .counts))) faulty
 
 -- has a posting neither window 0 nor count 0
 abbrev pub isFine : Posting → Bool

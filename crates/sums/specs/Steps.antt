@@ -1,5 +1,5 @@
 -- The pass over heads and buffer: where it begins, and what is kept of one key.
-use mathlib.Core.Bool.{true, cond, _&&_}
+use mathlib.Core.Bool.{Bool, true, cond, _&&_}
 use mathlib.Core.List.{List, [], _∷_, _++_, map}
 use mathlib.Core.Path.{_≡_}
 use Prim.Native.Nat.{ℕ, _*_, _≤_}
@@ -17,21 +17,20 @@ use Rattle.state.specs.Rules.{stateRule}
 use Rattle.partitions.specs.Reading.{postingsOf}
 use Rattle.partitions.specs.Formed.{inRange}
 use Rattle.kway.specs.Parts.{parts}
-use Rattle.scans.specs.Keys.{postingOf}
+use Rattle.scans.specs.Keys.{keyWindow, postingOf}
 use Rattle.scans.specs.Heads.{ahead, views, Kept}
-use Rattle.sums.specs.declared.Counts.{Counts}
-use Rattle.sums.specs.declared.Judged.{Judged}
-use Rattle.sums.specs.Views.{countsIn, Neat}
+use Rattle.sums.specs.Views.{heldIn, Tidy}
 
 -- the count of a key, none where its total is 0
 abbrev pub countAt : ℕ → ℤ → List Posting
 countAt k z = cond (isZero z) [] (postingOf (record { key = k; sum = z }) ∷ [])
 
--- one key of the window more: its sum over the partitions and its total with the buffer fit, and there are not more than 64 counts with its own
-pub record Counted (c : Counts) (k : ℕ) (sum total : ℤ) (r : Judged) : Type 0 where
-  pub fine : r .fine ≡ ((inRange sum && inRange total) && leb (length (countsIn c ++ countAt k total)) 64)
-  pub counts : r .fine ≡ true → countsIn (r .counts) ≡ countsIn c ++ countAt k total
-  pub neat : Neat (r .counts)
+-- one key of a window more, in the window's slot: its sum over the partitions and its total with the buffer fit, and there are not more than 64 counts with
+-- its own
+pub record Counted (l : List ℕ) (k : ℕ) (sum total : ℤ) (r : Bool) (l′ : List ℕ) : Type 0 where
+  pub fine : r ≡ ((inRange sum && inRange total) && leb (length (heldIn (keyWindow k) l ++ countAt k total)) 64)
+  pub counts : r ≡ true → heldIn (keyWindow k) l′ ≡ heldIn (keyWindow k) l ++ countAt k total
+  pub tidy : Tidy (keyWindow k) l′
 
 -- every finished partition has its head at its first posting, and the greatest key of all is known; b is the buffer
 pub record Begun (W : List ℕ) (s : State) (b : Buffer) (H : List ℕ) (start : ℕ) : Type 0 where

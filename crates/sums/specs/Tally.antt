@@ -1,11 +1,11 @@
--- What one pass over the finished partitions and the buffer tells of a window: whether its lists and sums are well formed, and its counts.
+-- What one pass over the finished partitions and the buffer tells of windows: whether lists and sums are well formed, and the counts.
 use mathlib.Core.Bool.{Bool, true, _&&_}
 use mathlib.Core.List.{List}
 use mathlib.Core.Path.{_≡_}
-use Prim.Native.Nat.{ℕ}
+use Prim.Native.Nat.{ℕ, _*_, _<_}
 use lib.Dec.{eqb, leb}
-use lib.ListN.{length}
-use Rattle.lists.specs.Lists.{keep, every}
+use lib.ListN.{length, getD}
+use Rattle.lists.specs.Lists.{keep, every, elem}
 use Rattle.postings.specs.declared.Posting.{Posting}
 use Rattle.postings.specs.Merge.{nonzero, pairs}
 use Rattle.state.specs.declared.State.{State}
@@ -13,7 +13,8 @@ use Rattle.state.specs.Views.{finished}
 use Rattle.partitions.specs.Reading.{postingsOf, inPartitions, stored}
 use Rattle.partitions.specs.Formed.{listRule, sumsInRange}
 use Rattle.sums.specs.declared.Judged.{Judged}
-use Rattle.sums.specs.Views.{countsIn, Neat}
+use Rattle.kway.specs.Parts.{part}
+use Rattle.sums.specs.Views.{countsIn, Neat, heldFor, Tidy}
 
 -- the postings of window w
 abbrev pub ofWindow : ℕ → List Posting → List Posting
@@ -23,16 +24,29 @@ ofWindow w l = keep (λ p. eqb (p .window) w) l
 unfoldable pub countsOf : ℕ → List Posting → List Posting
 countsOf w l = nonzero (pairs (ofWindow w l))
 
--- refusal 3 past chains, headers and entries: all lists of the finished partitions, the window's sums over the partitions and with the buffer, and more
--- than 64 of them
+-- all lists of the finished partitions keep the rule
+abbrev pub listsRuled : List ℕ → State → Bool
+listsRuled W s = every (λ p. listRule (postingsOf W p)) (finished (s .partitions))
+
+-- a window's sums over the partitions and with the buffer are in range, and not more than 64 of them are not 0
+abbrev pub windowFormed : List ℕ → State → ℕ → Bool
+windowFormed W s w =
+    sumsInRange (ofWindow w (inPartitions W (finished (s .partitions))))
+    && (sumsInRange (ofWindow w (stored W s)) && leb (length (countsOf w (stored W s))) 64)
+
+-- refusal 3 past chains, headers and entries, where one window is named
 unfoldable pub listsFormed : List ℕ → State → ℕ → Bool
-listsFormed W s w =
-    every (λ p. listRule (postingsOf W p)) (finished (s .partitions))
-    && (sumsInRange (ofWindow w (inPartitions W (finished (s .partitions))))
-    && (sumsInRange (ofWindow w (stored W s)) && leb (length (countsOf w (stored W s))) 64))
+listsFormed W s w = listsRuled W s && windowFormed W s w
 
 -- whether that is so is told, and the counts where it is
 pub record ReadOf (W : List ℕ) (s : State) (w : ℕ) (r : Judged) : Type 0 where
   pub fine : r .fine ≡ listsFormed W s w
   pub counts : r .fine ≡ true → countsIn (r .counts) ≡ countsOf w (stored W s)
   pub neat : Neat (r .counts)
+
+-- the same of several windows: each one's counts are in its slot
+pub record ReadAll (W : List ℕ) (s : State) (ws : List ℕ) (r : Bool) (T : List ℕ) : Type 0 where
+  pub fine : r ≡ (listsRuled W s && every (windowFormed W s) ws)
+  pub counts : r ≡ true → (w : ℕ) → elem w ws ≡ true → heldFor ws T w ≡ countsOf w (stored W s)
+  pub long : length T ≡ 65 * length ws
+  pub tidy : (j : ℕ) → j < length ws → Tidy (getD ws j 0) (part 65 j T)

@@ -1,29 +1,26 @@
-use Rattle.lists.proofs.Prelude.{refl, arith, needs}
+use Rattle.lists.proofs.Prelude.{refl, arith, not-true, not-false, needs}
 use Rattle.words.specs.Words.{words}
-use Rattle.state.specs.Views.{blocks, finished}
-use Rattle.state.proofs.Kept.{state-kept}
-use Rattle.kway.proofs.Readable.{all-readable}
+use Rattle.sums.proofs.Alone.{alone-tidy, alone-read, alone-bad}
 use Rattle.sums.proofs.read.Statement.{statement}
 use Rattle.sums.proofs.read.Tie as tie
 
-open-heads-requires : tie.Need-open-heads-requires
-open-heads-requires c κs =
-    let s = c .before .before .before in
-    let q = s .args .s in
-    let k = state-kept q (s .pre .0) in
-    (k .partitions .used, omega (arith, k .partitions .used), omega arith, all-readable (words (s .args .card .now)) (blocks q) (finished (q .partitions)) (s .pre .1) (k .lengths .mostBlocks) (s .pre .2))
-
-walk-requires : tie.Need-walk-requires
-walk-requires c κs =
-    let s = c .before .before .before .before .before .before in
-    let k = state-kept (s .args .s) (s .pre .0) in
-    let o = c .before .before .open-heads .ensures in
-    record { rule = s .pre .0; buffer = refl; room = omega (arith, k .partitions .used, o .0); kept = o .1; lists = o .2; top = o .3 }
-
 returns : tie.Need-returns
-returns c = c .before .walk .ensures
+returns c =
+    let s = c .before .before .before .before .before .before .before in
+    let r = c .before .before .before .read-all in
+    alone-bad (words (s .args .card .now)) (s .args .s) (s .args .window) (r .result) _ (r .ensures) (not-true _ (c .before .if1 .taken)) (c .none .result) (c .none .ensures .1)
+
+counts-of-requires : tie.Need-counts-of-requires
+counts-of-requires c κs =
+    let s = c .before .before .before .before .before .before .before in
+    let r = c .before .before .before .read-all in
+    alone-tidy (words (s .args .card .now)) (s .args .s) (s .args .window) (r .result) _ (r .ensures)
+
+returns-2 : tie.Need-returns-2
+returns-2 c =
+    let s = c .before .before .before .before .before .before .before .before in
+    let r = c .before .before .before .before .read-all in
+    alone-read (words (s .args .card .now)) (s .args .s) (s .args .window) (r .result) _ (r .ensures) (not-false _ (c .before .before .if1 .left)) (c .counts-of .result) (c .counts-of .ensures .0) (c .counts-of .ensures .1)
 
 pub read-spec : {M : Type 1} → statement M
-read-spec =
-    tie.close
-    (tie.spec (λ c. search needs) open-heads-requires (λ c. search needs) walk-requires returns)
+read-spec = tie.close (tie.spec (λ c. search needs) (λ c. search needs) (λ c κs. search needs) (λ c κs. search needs) returns (λ c. search needs) counts-of-requires returns-2)
