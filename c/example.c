@@ -1,5 +1,5 @@
 /* Counts events in nine windows, with a flush after each, merges the partitions a step at a time, and queries before, between and after. Tells the
- * mean count of an identifier before a removal and after. */
+ * mean count of an identifier before a removal and after, and removes windows together. */
 #include "gemsilver.h"
 
 #include <stdio.h>
@@ -47,6 +47,11 @@ static void mean(const char *identifier) {
            (unsigned)gemsilver_mean_quotient(found), (unsigned)gemsilver_mean_remainder(found));
 }
 
+static void remove_all(const uint32_t *windows, size_t count) {
+    told("remove_all", gemsilver_remove_all(image, sizeof image, card, sizeof card, windows, count));
+    query();
+}
+
 int main(void) {
     told("start", gemsilver_start(image, sizeof image, card, sizeof card, reg, sizeof reg));
     for (int window = 1; window <= 9; window++) {
@@ -78,6 +83,10 @@ int main(void) {
         query();
     }
     printf("%u steps\n", (unsigned)steps);
+    const uint32_t windows[] = {4, 6, 9};
+    remove_all(windows, 3); /* 9 is removed already, so that 4 and 6 stay */
+    remove_all(windows, 2);
+    remove_all(NULL, 0);
     printf("register %s\n", gemsilver_register_ok(reg, sizeof reg) ? "well formed" : "malformed");
     event(""); /* no window is open, but an empty identifier comes first */
     return 0;

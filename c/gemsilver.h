@@ -1,5 +1,5 @@
 /* Gemsilver for C and C++: counts events by identifier in windows of play, keeps them on a card, finds the closed windows that match best,
- * and tells the mean count of an identifier.
+ * tells the mean count of an identifier, and removes windows, one or several together.
  *
  * The caller lends three buffers and hands them back to the next call as they were left: the state's image, the card and the register.
  * docs/FORMAT.md tells them byte by byte. They belong together: save all three or none, and at the same moment.
@@ -8,16 +8,16 @@
  * - It ends, stays inside the buffers lent, and where it refuses it changes none of them. The one exception is said at gemsilver_start.
  * - Nothing is kept between calls but these buffers: any thread may call, and any number of probes may be used at a time, each with
  *   buffers of its own. Two calls on one probe at the same time are the caller's mistake.
- * - A buffer may stand at any address, with any alignment. Buffers that a call writes (those without const) may overlap no other buffer of the
- *   call; those that it only reads may overlap each other.
+ * - A buffer may stand at any address, with any alignment; a list of identifiers or of windows is aligned as its type is. Buffers that a call
+ *   writes (those without const) may overlap no other buffer of the call; those that it only reads may overlap each other.
  * - NULL with a length of 0 is an empty buffer. It is judged like any other of that length: an empty image is refused with 1, an empty card or
- *   register with 2, an empty identifier with 4, no identifiers and an empty list of hits with 14.
+ *   register with 2, an empty identifier with 4, no identifiers and an empty list of hits with 14, an empty list of windows with 16.
  *
  * The archive: `rt staticlib capi` writes target/staticlib/libcapi.a, for x86-64 Linux. It uses no heap and keeps nothing of its own; of the C
  * library it needs memcpy and memset alone.
  *
  * Stack, in bytes as measured on x86-64 (docs/PERFORMANCE.md); leave some more: start 1,720, open 4,904, close 4,632, event 11,208, flush 10,312, remove 12,104,
- * step 12,136, query 12,232, mean 9,000. */
+ * remove_all 0, step 12,136, query 12,232, mean 9,000. */
 #ifndef GEMSILVER_H
 #define GEMSILVER_H
 
@@ -39,8 +39,9 @@ extern "C" {
 #define GEMSILVER_HIT 8                 /* a place in a list of hits */
 #define GEMSILVER_MOST_HITS 32          /* a list has 1 to 32 places */
 #define GEMSILVER_MOST_IDENTIFIERS 5    /* a query names 1 to 5 identifiers */
+#define GEMSILVER_MOST_WINDOWS 32       /* 1 to 32 windows are removed together */
 
-/* Why a call is refused, in the order in which it is tested. */
+/* Why a call is refused, in the order in which it is tested; but a list of windows, 16, is tested after 3. */
 enum gemsilver_refusal {
     GEMSILVER_BROKEN_STATE = 1,
     GEMSILVER_WRONG_LENGTH = 2,
@@ -56,7 +57,8 @@ enum gemsilver_refusal {
     GEMSILVER_TOO_FEW_FREE = 12,
     GEMSILVER_NOTHING_DUE = 13,
     GEMSILVER_BAD_QUERY = 14,
-    GEMSILVER_UNCOUNTED = 15
+    GEMSILVER_UNCOUNTED = 15,
+    GEMSILVER_BAD_LIST = 16
 };
 
 /* A refusal's number in words; of any other number that it is none. */
@@ -92,6 +94,8 @@ static inline const char *gemsilver_refusal_text(uint32_t refusal) {
         return "no identifiers, more than 5 or one twice, or a list of no places or more than 32";
     case GEMSILVER_UNCOUNTED:
         return "the identifier counts in no closed window";
+    case GEMSILVER_BAD_LIST:
+        return "a list of windows is empty, has more than 32, or names one twice";
     default:
         return "no refusal";
     }
@@ -124,6 +128,12 @@ uint32_t gemsilver_close(uint8_t *image, size_t image_length);
 
 /* Takes out a closed window. 0, or a refusal. */
 uint32_t gemsilver_remove(uint8_t *image, size_t image_length, uint8_t *card, size_t card_length, uint32_t window);
+
+/* Takes out all windows of a list, or none of them. 0, or a refusal. First come 1 to 3, for the card and for every window named, however many these
+ * are; then 16, where the list is empty, has more than 32 or names one twice. Then it leaves what gemsilver_remove leaves, called for each window in
+ * the order given; where one of these calls would be refused, the list is refused with the first such number and nothing has moved. */
+uint32_t gemsilver_remove_all(uint8_t *image, size_t image_length, uint8_t *card, size_t card_length, const uint32_t *windows,
+                              size_t window_count);
 
 /* Writes what is buffered as a partition. 0, or a refusal. */
 uint32_t gemsilver_flush(uint8_t *image, size_t image_length, uint8_t *card, size_t card_length);

@@ -3,7 +3,7 @@ use Rattle.lists.proofs.Prelude.{Bool, true, false, _||_, _&&_, not, cond, true
 use Rattle.postings.specs.declared.Posting.{Posting}
 use Rattle.postings.specs.Merge.{put, nonzero, negated}
 use Rattle.postings.specs.Sums.{above}
-use Rattle.answers.specs.Answers.{Answer, done, hits, Outcome, refuse, leave, refuseIf, choose}
+use Rattle.answers.specs.Answers.{Answer, done, hits, Outcome, refuse, leave, refuseIf, choose, next, inTurn}
 use Rattle.state.specs.declared.Windows.{Windows}
 use Rattle.state.specs.Views.{bufferOf}
 use Rattle.state.specs.Levels.{ofLevel}
@@ -14,11 +14,11 @@ use Rattle.events.proofs.Pairs.{pair-kept}
 use Rattle.ranking.specs.Hits.{frequency, ranked}
 use Rattle.averages.specs.Average.{total, averaged}
 use Rattle.removals.specs.Removal.{countsOf, isLive}
-use Rattle.engine.specs.Calls.{Call, Open, Event, Close, Remove, Flush, Step, Query, Mean}
+use Rattle.engine.specs.Calls.{Call, Open, Event, Close, Remove, RemoveAll, Flush, Step, Query, Mean}
 use Rattle.accounts.specs.Account.{Account, storedIn, takenFrom, blocksIn, blocksAhead, steppedAccount, flushedAccount, overflows, exceeds, addedTo, stepping, flushing, flushingIf}
 use Rattle.accounts.specs.Ledger.{Ledger, live, shown, existing, opens, closes, including, counts, removes, byNumber}
-use Rattle.accounts.specs.Books.{once, takenBack, Books, books}
-use Rattle.accounts.specs.Lists.{Lists, isOpen, openedLists, closedLists, onceOf, countedLists, removedLists, countOf, frequencyOf, totalOf, removingLists, pursued, listsCall}
+use Rattle.accounts.specs.Books.{once, takenBack, Books, removalIn, books}
+use Rattle.accounts.specs.Lists.{Lists, isOpen, openedLists, closedLists, onceOf, countedLists, removedLists, countOf, frequencyOf, totalOf, removingLists, removalOf, pursued, listsCall}
 use Rattle.accounts.proofs.Stored.{levelOf}
 use Rattle.accounts.proofs.Shaped.{Roomed, asBefore, emptied, event-room, removal-room}
 use Rattle.accounts.proofs.Numbers.{new-is, noted-is, elem-numbers, numbers-including}
@@ -266,8 +266,8 @@ module _ (blocks entries : ℕ) where
         (λ b q r. bothLeave (event-same blocks entries l b q n o a)
         (kept-counts blocks entries l b q small n (ap not four) o six eight nine (event-room (once l n) a b (q .shaped) r))))
 
-    remove-alike : (w : ℕ) → Alike blocks entries (removingLists blocks entries (listsOf l a) w (countsOf w (storedIn a))) (books blocks entries l a (Remove w))
-    unfolding removingLists books
+    remove-alike : (w : ℕ) → Alike blocks entries (removalOf blocks entries (listsOf l a) w) (removalIn blocks entries (record { ledger = l; account = a }) w)
+    unfolding removingLists
     remove-alike w =
         refusing _ _ 5 _ _ (named (l .isOpen) refl) λ other.
         refusing _ _ 7 _ _ (seven-is blocks entries l a k w other (countsOf w (storedIn a)) (counts-live entries l (k .lawful) a (k .sums) w)) λ seven.
@@ -287,22 +287,37 @@ module _ (blocks entries : ℕ) where
         few : length (takenBack l w) ≤ 64
         few = omega (arith, length-back entries l (k .lawful) a (k .sums) w, counts-length entries l (k .lawful) a (k .sums) w, k .lawful .held w)
 
+  -- several removals, one after another
+  next-alike : {o : Outcome Lists} {q : Outcome Books} → Alike blocks entries o q → (f : Lists → Outcome Lists) (g : Books → Outcome Books)
+      → ((l : Ledger) (a : Account) → Kept blocks entries l a → Alike blocks entries (f (listsOf l a)) (g (record { ledger = l; account = a }))) → Alike blocks entries (next o f) (next q g)
+  unfolding next
+  next-alike bothRefuse f g h = bothRefuse
+  next-alike (bothLeave {l = l} {a = a} p k) f g h = subst (λ e. Alike blocks entries (f e) (g (record { ledger = l; account = a }))) (sym p) (h l a k)
+
+  turn-alike : entries ≤ 1024 → (ws : List ℕ) (l : Ledger) (a : Account) → Kept blocks entries l a
+      → Alike blocks entries (inTurn (removalOf blocks entries) (listsOf l a) ws) (inTurn (removalIn blocks entries) (record { ledger = l; account = a }) ws)
+  unfolding inTurn
+  turn-alike small [] l a k = bothLeave refl k
+  turn-alike small (w ∷ ws) l a k = next-alike (remove-alike small l a k w) _ _ (turn-alike small ws)
+
+  module _ (small : entries ≤ 1024) (l : Ledger) (a : Account) (k : Kept blocks entries l a) where
     pursued-alike : (c : Call) → Alike blocks entries (pursued blocks entries (listsOf l a) c) (books blocks entries l a c)
     unfolding pursued books
     pursued-alike Open =
-        refusing _ _ 5 _ _ opened-is λ n. refusing _ _ 6 _ _ refl λ room.
+        refusing _ _ 5 _ _ (opened-is small l a k) λ n. refusing _ _ 6 _ _ refl λ room.
         bothLeave (open-same entries l (k .lawful) a n) (kept-opens blocks entries l a k room)
     pursued-alike (Event n) =
         refusing _ _ 4 _ _ refl λ four.
-        refusing _ _ 5 _ _ (ap not opened-is) λ five.
+        refusing _ _ 5 _ _ (ap not (opened-is small l a k)) λ five.
         refusing _ _ 6 _ _ refl λ six.
         refusing _ _ 8 _ _ (ap (λ t. t && leb entries (length (l .identifiers))) (new-is (l .identifiers) n)) λ eight.
         refusing _ _ 9 _ _ (ap₂ (λ t m. not t && leb 64 m) (elem-numbers (l .identifiers) (l .listed) n (k .lawful .listedIn)) (length-map (l .listed) (numberOf (l .identifiers)))) λ nine.
-        event-alike n four (not-false _ five) six eight nine
+        event-alike small l a k n four (not-false _ five) six eight nine
     pursued-alike Close =
-        refusing _ _ 5 _ _ (ap not opened-is) λ five.
+        refusing _ _ 5 _ _ (ap not (opened-is small l a k)) λ five.
         bothLeave (close-same entries l (k .lawful) a (not-false _ five)) (kept-closes blocks entries l a k (not-false _ five))
-    pursued-alike (Remove w) = remove-alike w
+    pursued-alike (Remove w) = remove-alike small l a k w
+    pursued-alike (RemoveAll ws) = refusing _ _ 16 _ _ refl λ _. turn-alike small ws l a k
     pursued-alike Flush = flush-alike l a k _ _ λ b q e. bothLeave refl q
     pursued-alike Step = step-alike l a k _ _ λ b q. bothLeave refl q
     pursued-alike (Query m ns) =

@@ -5,7 +5,7 @@ use Rattle.answers.specs.declared.Hit.{Hit}
 use Rattle.answers.proofs.Kept.{after-if, after-choose}
 use Rattle.identifiers.specs.Names.{Name, among}
 use Rattle.ranking.specs.Hits.{ranked}
-use Rattle.engine.specs.Calls.{Call, Open, Event, Close, Remove, Flush, Step, Query, Mean}
+use Rattle.engine.specs.Calls.{Call, Open, Event, Close, Remove, RemoveAll, Flush, Step, Query, Mean}
 use Rattle.accounts.specs.Account.{Account, stepping, flushing, flushingIf}
 use Rattle.accounts.specs.Ledger.{Ledger, shown, existing, opens, counts}
 use Rattle.accounts.specs.Books.{Books, showing, books, booksCall}
@@ -75,6 +75,7 @@ module _ (blocks entries : ℕ) (b : Books) (s : Lawful entries (b .ledger)) (k 
       stays-flushIf b Same refl blocks (b .account) _ (λ a. let y = not-false _ o in hits-counts k ns (b .ledger) n y (s .given y) (λ v z. s .uncounted n v z)) _
   hits-stay Close e = absurd (let z : _≡_ {A = ℕ} 0 1 = cc in omega arith)
   hits-stay (Remove w) e = absurd (let z : _≡_ {A = ℕ} 0 1 = cc in omega arith)
+  hits-stay (RemoveAll ws) e = absurd (let z : _≡_ {A = ℕ} 0 1 = cc in omega arith)
   hits-stay Flush e = stays-flush b Same refl blocks (b .account) _ (λ a. refl)
   hits-stay Step e = stays-step b Same refl blocks (b .account) _ (λ a. refl)
   hits-stay (Query j ms) e = after-if Same b refl _ 4 _ λ _. after-if Same b refl _ 14 _ λ _. refl

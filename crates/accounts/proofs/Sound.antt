@@ -1,6 +1,6 @@
 -- Lists that stand for a ledger and its account keep every rule of the state, and what a call uses of them is well formed: refusals 1 and 3 have no
 -- cause.
-use Rattle.lists.proofs.Prelude.{Bool, true, false, _||_, _&&_, not, cond, List, [], _∷_, map, List·Memᴰ, _⊎_, inl, inr, _≡_, refl, sym, ap, ap₂, _∙_, ℕ, zero, suc, _+_, _-_, _*_, _<_, _≤_, arith, eqb, leb, pos, natAbs, _+ℤ_, length, getD, length-map, eqb-false, le-leb, lt-leb, leb-true, not-true, keep, every, empty, totalBy, down, by-test, and-left, and-right, and-both, every-from, every-keep, every-mem, length-keep, every-map, every-member, empty-is}
+use Rattle.lists.proofs.Prelude.{Bool, true, false, _||_, _&&_, not, cond, List, [], _∷_, map, List·Memᴰ, _⊎_, inl, inr, _≡_, refl, sym, ap, ap₂, _∙_, ℕ, zero, suc, _+_, _-_, _*_, _<_, _≤_, arith, eqb, leb, pos, natAbs, _+ℤ_, length, getD, length-map, eqb-false, le-leb, lt-leb, leb-true, not-true, keep, every, empty, totalBy, down, by-test, and-left, and-right, and-both, every-from, every-keep, every-mem, length-keep, elem-every, every-map, every-member, empty-is}
 use Rattle.postings.specs.declared.Posting.{Posting}
 use Rattle.postings.specs.Order.{ordered}
 use Rattle.postings.specs.Merge.{isZero, isCounted, pairs}
@@ -21,10 +21,10 @@ use Rattle.partitions.specs.Layout.{lengthOf}
 use Rattle.partitions.specs.Formed.{listRule, inRange, sumsInRange}
 use Rattle.removals.specs.Removal.{countsOf}
 use Rattle.plans.specs.Merging.{isLast}
-use Rattle.engine.specs.Calls.{Call, Open, Event, Close, Remove, Flush, Step, Query, Mean}
+use Rattle.engine.specs.Calls.{Call, Open, Event, Close, Remove, RemoveAll, Flush, Step, Query, Mean}
 use Rattle.accounts.specs.Account.{Portion, Account, postingsIn, storedIn, blocksOf, blocksIn, blocksAhead, dueOf, inputsOf}
 use Rattle.accounts.specs.Ledger.{Ledger, live, existing, byNumber}
-use Rattle.accounts.specs.Lists.{Lists, recordLike, listsRule, identifierRule, windowRule, inputsRule, callRule}
+use Rattle.accounts.specs.Lists.{Lists, recordLike, listsRule, identifierRule, listsRuled, windowSums, windowRule, inputsRule, callRule}
 use Rattle.accounts.proofs.Parts.{sums-in-range, window-in-range, identifier-in-range}
 use Rattle.accounts.proofs.Stored.{levelOf, sum-stored}
 use Rattle.accounts.proofs.Steps.{progress-due}
@@ -219,11 +219,14 @@ module _ (blocks entries : ℕ) (l : Ledger) (a : Account) (k : Kept blocks entr
   identifier-formed i =
       rw (under-formed i, identifier-in-range i (postingsIn (a .partitions)) partitions-small, identifier-in-range i (storedIn a) all-small)
 
+  window-sums : (w : ℕ) → windowSums a w ≡ true
+  window-sums w =
+      rw (window-in-range w (postingsIn (a .partitions)) partitions-small, window-in-range w (storedIn a) all-small)
+      (le-leb (length (countsOf w (storedIn a))) 64 (rw (counts-length entries l (k .lawful) a (k .sums) w) (k .lawful .held w)))
+
   pub window-formed : (w : ℕ) → windowRule a w ≡ true
   unfolding windowRule
-  window-formed w =
-      rw (lists-formed, window-in-range w (postingsIn (a .partitions)) partitions-small, window-in-range w (storedIn a) all-small)
-      (le-leb (length (countsOf w (storedIn a))) 64 (rw (counts-length entries l (k .lawful) a (k .sums) w) (k .lawful .held w)))
+  window-formed w = and-both (listsRuled a) _ lists-formed (window-sums w)
 
   pub inputs-formed : inputsRule a ≡ true
   unfolding inputsRule
@@ -239,8 +242,7 @@ module _ (blocks entries : ℕ) (l : Ledger) (a : Account) (k : Kept blocks entr
           (λ n. let d = eqb-false (a .steps) 0 n in rw (n, lt-leb (length (pairs (inputsOf a))) (16 * a .steps) (k .shaped .progress (omega arith))))
 
   identifiers-formed : (is : List ℕ) → every (identifierRule a) is ≡ true
-  identifiers-formed [] = refl
-  identifiers-formed (i ∷ is) = and-both (identifierRule a i) _ (identifier-formed i) (identifiers-formed is)
+  identifiers-formed is = elem-every (identifierRule a) is (λ i e. identifier-formed i)
 
   pub call-formed : (c : Call) → callRule (listsOf l a) c ≡ true
   unfolding callRule
@@ -248,6 +250,7 @@ module _ (blocks entries : ℕ) (l : Ledger) (a : Account) (k : Kept blocks entr
   call-formed (Event n) = refl
   call-formed Close = refl
   call-formed (Remove w) = window-formed w
+  call-formed (RemoveAll ws) = and-both (listsRuled a) _ lists-formed (elem-every (windowSums a) ws (λ w e. window-sums w))
   call-formed Flush = refl
   call-formed Step = inputs-formed
   call-formed (Query m ns) = identifiers-formed (numbersOf (l .identifiers) ns)

@@ -1,4 +1,4 @@
--- The ledger with the account beside it: what each call is to answer. Window numbers, hits, scores and means, and refusals 4 to 9, 14 and 15 come
+-- The ledger with the account beside it: what each call is to answer. Window numbers, hits, scores and means, and refusals 4 to 9 and 14 to 16 come
 -- from the ledger alone; refusals 10 to 13 and the postings taken from the account.
 use mathlib.Core.Bool.{Bool, true, false, _&&_, not, cond}
 use mathlib.Core.List.{List, [], _∷_}
@@ -9,7 +9,7 @@ use lib.ListN.{length, getD}
 use Rattle.lists.specs.Lists.{any, upTo}
 use Rattle.postings.specs.declared.Posting.{Posting}
 use Rattle.postings.specs.Merge.{isZero}
-use Rattle.answers.specs.Answers.{Answer, done, number, hits, mean, refused, Outcome, leave}
+use Rattle.answers.specs.Answers.{Answer, done, number, hits, mean, refused, Outcome, leave, inTurn}
 use Rattle.answers.specs.Order as order
 use Rattle.answers.specs.Order.{past, admit}
 use Rattle.answers.specs.declared.Hit.{Hit}
@@ -17,7 +17,8 @@ use Rattle.identifiers.specs.Names.{Name, badLength, among, numberOf, numbersOf
 use Rattle.ranking.specs.Hits.{frequency, ranked}
 use Rattle.ranking.specs.Asked.{badQuery}
 use Rattle.averages.specs.Average.{total, averaged}
-use Rattle.engine.specs.Calls.{Call, Open, Event, Close, Remove, Flush, Step, Query, Mean, run}
+use Rattle.batches.specs.Batch.{batchRule}
+use Rattle.engine.specs.Calls.{Call, Open, Event, Close, Remove, RemoveAll, Flush, Step, Query, Mean, run}
 use Rattle.accounts.specs.Account.{Account, emptyAccount, takenFrom, overflows, exceeds, addedTo, stepping, flushing, flushingIf}
 use Rattle.accounts.specs.Ledger.{Ledger, emptyLedger, live, shown, existing, opens, closes, counts, removes}
 
@@ -52,6 +53,7 @@ showing Open = false
 showing (Event n) = false
 showing Close = true
 showing (Remove w) = true
+showing (RemoveAll ws) = true
 showing Flush = false
 showing Step = false
 showing (Query k ns) = false
@@ -59,6 +61,13 @@ showing (Mean n) = false
 
 -- on a card of so many blocks and a register of so many entries
 module _ (blocks entries : ℕ) where
+  -- the removal of one window
+  abbrev pub removalIn : Books → ℕ → Outcome Books
+  removalIn b w =
+      admit (past 3 order.removal) ((b .ledger .isOpen && eqb w (b .ledger .last)) ∷ not (live (b .ledger) w) ∷ [])
+      (flushingIf blocks (exceeds (takenBack (b .ledger) w) (b .account)) (b .account)
+      (λ a. leave done (record { ledger = removes (b .ledger) w; account = addedTo (takenBack (b .ledger) w) a })))
+
   unfoldable pub books : Ledger → Account → Call → Outcome Books
   books l a Open =
       admit (past 3 order.opening) (l .isOpen ∷ leb 65535 (l .last) ∷ [])
@@ -76,10 +85,8 @@ module _ (blocks entries : ℕ) where
   books l a Close =
       admit (past 3 order.closing) (not (l .isOpen) ∷ [])
       (leave done (record { ledger = closes l; account = a }))
-  books l a (Remove w) =
-      admit (past 3 order.removal) ((l .isOpen && eqb w (l .last)) ∷ not (live l w) ∷ [])
-      (flushingIf blocks (exceeds (takenBack l w) a) a
-      (λ b. leave done (record { ledger = removes l w; account = addedTo (takenBack l w) b })))
+  books l a (Remove w) = removalIn (record { ledger = l; account = a }) w
+  books l a (RemoveAll ws) = admit (past 3 order.removals) (not (batchRule ws) ∷ []) (inTurn removalIn (record { ledger = l; account = a }) ws)
   books l a Flush = flushing blocks a (λ b. leave done (record { ledger = l; account = b }))
   books l a Step = stepping blocks a (λ b. leave done (record { ledger = l; account = b }))
   books l a (Query k ns) =

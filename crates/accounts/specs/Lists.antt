@@ -10,7 +10,7 @@ use Rattle.lists.specs.Lists.{any, every, empty, elem, totalBy}
 use Rattle.postings.specs.declared.Posting.{Posting}
 use Rattle.postings.specs.Merge.{put, pairs, negated}
 use Rattle.postings.specs.Sums.{sum, under, above}
-use Rattle.answers.specs.Answers.{Answer, done, number, hits, Outcome, leave, refuseIf}
+use Rattle.answers.specs.Answers.{Answer, done, number, hits, Outcome, leave, refuseIf, inTurn}
 use Rattle.answers.specs.Order as order
 use Rattle.answers.specs.Order.{past, admit}
 use Rattle.state.specs.declared.Windows.{Windows}
@@ -27,7 +27,8 @@ use Rattle.ranking.specs.Asked.{badQuery}
 use Rattle.removals.specs.Removal.{ofWindow, countsOf, isLive}
 use Rattle.plans.specs.Merging.{isLast}
 use Rattle.averages.specs.Average.{total, averaged}
-use Rattle.engine.specs.Calls.{Call, Open, Event, Close, Remove, Flush, Step, Query, Mean, run}
+use Rattle.batches.specs.Batch.{batchRule}
+use Rattle.engine.specs.Calls.{Call, Open, Event, Close, Remove, RemoveAll, Flush, Step, Query, Mean, run}
 use Rattle.accounts.specs.Account.{Portion, Account, emptyAccount, postingsIn, storedIn, takenFrom, dueOf, inputsOf, overflows, exceeds, addedTo, stepping, flushing, flushingIf}
 
 -- the state's window numbers; the register's identifiers, by number; the numbers of the open window's identifiers, in order of first count; the
@@ -69,12 +70,19 @@ identifierRule a i =
     every (λ (p : Portion). listRule (under i (p .postings))) (a .partitions)
     && (sumsInRange (under i (postingsIn (a .partitions))) && sumsInRange (under i (storedIn a)))
 
--- of a window to be removed: all lists, its sums over the partitions and with the buffer, and no more than 64 of them
+-- of windows to be removed: all lists
+abbrev pub listsRuled : Account → Bool
+listsRuled a = every (λ (p : Portion). listRule (p .postings)) (a .partitions)
+
+-- and of each its sums over the partitions and with the buffer, and no more than 64 of them
+abbrev pub windowSums : Account → ℕ → Bool
+windowSums a w =
+    sumsInRange (ofWindow w (postingsIn (a .partitions)))
+    && (sumsInRange (ofWindow w (storedIn a)) && leb (length (countsOf w (storedIn a))) 64)
+
+-- of one window
 unfoldable pub windowRule : Account → ℕ → Bool
-windowRule a w =
-    every (λ (p : Portion). listRule (p .postings)) (a .partitions)
-    && (sumsInRange (ofWindow w (postingsIn (a .partitions)))
-    && (sumsInRange (ofWindow w (storedIn a)) && leb (length (countsOf w (storedIn a))) 64))
+windowRule a w = listsRuled a && windowSums a w
 
 -- of a step: the inputs' lists and the sums of their pairs, and pairs are left to take where a merge is in progress
 unfoldable pub inputsRule : Account → Bool
@@ -88,6 +96,7 @@ callRule e Open = true
 callRule e (Event n) = true
 callRule e Close = true
 callRule e (Remove w) = windowRule (e .account) w
+callRule e (RemoveAll ws) = listsRuled (e .account) && every (windowSums (e .account)) ws
 callRule e Flush = true
 callRule e Step = inputsRule (e .account)
 callRule e (Query k ns) = every (identifierRule (e .account)) (numbersOf (e .names) ns)
@@ -168,6 +177,10 @@ module _ (blocks entries : ℕ) where
       ∷ [])
       (flushingIf blocks (exceeds counts (e .account)) (e .account) (λ a. leave done (removedLists e counts a)))
 
+  -- the same, with its counts found
+  abbrev pub removalOf : Lists → ℕ → Outcome Lists
+  removalOf e w = removingLists e w (countsOf w (storedIn (e .account)))
+
   -- what follows refusals 1 to 3
   unfoldable pub pursued : Lists → Call → Outcome Lists
   pursued e Open =
@@ -185,7 +198,8 @@ module _ (blocks entries : ℕ) where
   pursued e Close =
       admit (past 3 order.closing) (not (isOpen e) ∷ [])
       (leave done (closedLists e))
-  pursued e (Remove w) = removingLists e w (countsOf w (storedIn (e .account)))
+  pursued e (Remove w) = removalOf e w
+  pursued e (RemoveAll ws) = admit (past 3 order.removals) (not (batchRule ws) ∷ []) (inTurn removalOf e ws)
   pursued e Flush = flushing blocks (e .account) (λ a. leave done (withAccount e a))
   pursued e Step = stepping blocks (e .account) (λ a. leave done (withAccount e a))
   pursued e (Query k ns) =

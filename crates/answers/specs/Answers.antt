@@ -1,6 +1,6 @@
 -- What a call comes to, on whatever it works: a refusal with its number, or an answer and what is there afterwards.
 use mathlib.Core.Bool.{Bool, true, false}
-use mathlib.Core.List.{List}
+use mathlib.Core.List.{List, [], _∷_}
 use Prim.Native.Nat.{ℕ}
 use Rattle.answers.specs.declared.Hit.{Hit}
 
@@ -27,6 +27,16 @@ refuseIf false n o = o
 unfoldable pub choose : {S : Type 0} → Bool → Outcome S → Outcome S → Outcome S
 choose true o p = o
 choose false o p = p
+
+-- what is left by a call goes on to the next; a refusal ends it
+unfoldable pub next : {S : Type 0} → Outcome S → (S → Outcome S) → Outcome S
+next (refuse n) k = refuse n
+next (leave x s) k = k s
+
+-- a call for each of a list, one after another, where none is refused; else the first refusal
+unfoldable pub inTurn : {S A : Type 0} → (S → A → Outcome S) → S → List A → Outcome S
+inTurn f s [] = leave done s
+inTurn f s (x ∷ xs) = next (f s x) (λ t. inTurn f t xs)
 
 -- what is answered
 abbrev pub answerOf : {S : Type 0} → Outcome S → Answer

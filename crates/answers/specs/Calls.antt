@@ -2,12 +2,13 @@
 use mathlib.Core.List.{List}
 use Prim.Native.Nat.{ℕ}
 
--- an event and a mean have an identifier's bytes, a removal a window, and a query so many places in its list and the bytes of each identifier
+-- an event and a mean have an identifier's bytes, a removal a window or several, and a query so many places in its list and the bytes of each identifier
 pub data Call : Type 0 where
   Open : Call
   Event : List ℕ → Call
   Close : Call
   Remove : ℕ → Call
+  RemoveAll : List ℕ → Call
   Flush : Call
   Step : Call
   Query : ℕ → List (List ℕ) → Call

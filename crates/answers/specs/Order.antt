@@ -17,6 +17,10 @@ closing = 1 ∷ 5 ∷ []
 abbrev pub removal : List ℕ
 removal = 1 ∷ 2 ∷ 3 ∷ 5 ∷ 7 ∷ []
 
+-- of several windows together; what the single removals are tested for comes after these
+abbrev pub removals : List ℕ
+removals = 1 ∷ 2 ∷ 3 ∷ 16 ∷ []
+
 abbrev pub flush : List ℕ
 flush = 1 ∷ 2 ∷ []
 

@@ -19,6 +19,7 @@ pub enum Refusal {
     NothingDue,
     BadQuery,
     Uncounted,
+    BadList,
 }
 
 // The answer of a call that gives no value.
@@ -71,5 +72,6 @@ pub fn number_of(why: Refusal) -> u32
         Refusal::NothingDue => 13,
         Refusal::BadQuery => 14,
         Refusal::Uncounted => 15,
+        Refusal::BadList => 16,
     }
 }

@@ -1,7 +1,7 @@
 -- Storing to free blocks and releasing blocks move words and bytes only as is allowed.
 use Rattle.lists.proofs.Prelude.{true, List, [], _∷_, _⊎_, inl, inr, ⊎-elim, _≡_, sym, ap, _∙_, ℕ, zero, suc, _*_, _/_, _%_, _<_, arith, length, getD, getD-replicate, every, elem, by-test, every-elem}
-use Rattle.words.specs.Words.{words, bytes, allOnes, Below}
-use Rattle.words.proofs.Views.{length-words, bytes-words}
+use Rattle.words.specs.Words.{words, bytes, allOnes}
+use Rattle.words.proofs.Views.{length-words}
 use Rattle.card.specs.Blocks.{block, isFree}
 use Rattle.blocks.specs.Writes.{store, release}
 use Rattle.blocks.specs.Moves.{Fills, Frees, Moves, FillsBytes, FreesBytes, MovesBytes}
@@ -71,17 +71,17 @@ bytes-ones (u ∷ us) (suc (suc zero)) a e = ap (λ (w : ℕ). w / 65536 % 256) 
 bytes-ones (u ∷ us) (suc (suc (suc zero))) a e = ap (λ (w : ℕ). w / 16777216) e
 bytes-ones (u ∷ us) (suc (suc (suc (suc k)))) a e = bytes-ones us k (omega arith) (rw (word-on k) at e)
 
--- what the words of a card may do, its bytes may do
-module _ (card W′ : List ℕ) (p : Below 256 card) (m : length card % 4 ≡ 0) (l : length W′ ≡ length (words card)) where
+-- what the words of a card may do, its bytes may do, where these are the bytes of its words
+module _ (card W′ : List ℕ) (p : bytes (words card) ≡ card) (m : length card % 4 ≡ 0) (l : length W′ ≡ length (words card)) where
   byte-stays : (k : ℕ) → k < length card → getD W′ (k / 4) 0 ≡ getD (words card) (k / 4) 0 → getD (bytes W′) k 0 ≡ getD card k 0
   byte-stays k h s =
       let n = length-words card in
-      bytes-same W′ (words card) k (omega arith) (omega arith) s ∙ ap (λ (b : List ℕ). getD b k 0) (bytes-words card p m)
+      bytes-same W′ (words card) k (omega arith) (omega arith) s ∙ ap (λ (b : List ℕ). getD b k 0) p
 
   byte-was : (k : ℕ) → k < length card → getD (words card) (k / 4) 0 ≡ allOnes → getD card k 0 ≡ 255
   byte-was k h o =
       let n = length-words card in
-      ap (λ (b : List ℕ). getD b k 0) (sym (bytes-words card p m)) ∙ bytes-ones (words card) k (omega arith) o
+      ap (λ (b : List ℕ). getD b k 0) (sym p) ∙ bytes-ones (words card) k (omega arith) o
 
   bytes-go : (k : ℕ) → ((j : ℕ) → j < length (words card) → j / 1024 ≡ k / 4 / 1024 → getD W′ j 0 ≡ allOnes)
       → (j : ℕ) → j < length card → j / 4096 ≡ k / 4096 → getD (bytes W′) j 0 ≡ 255
@@ -106,7 +106,7 @@ module _ (card W′ : List ℕ) (p : Below 256 card) (m : length card % 4 ≡ 0)
       ⊎-elim (λ s. inl (byte-stays k h s)) (λ r. inr (⊎-elim (λ o. inl (byte-was k h o)) (λ g. inr (bytes-go k g)) r)) (f (k / 4) (omega arith))
 
 -- on a card of n blocks
-module _ (card : List ℕ) (n : ℕ) (p : Below 256 card) (long : length card ≡ 4096 * n) where
+module _ (card : List ℕ) (n : ℕ) (p : bytes (words card) ≡ card) (long : length card ≡ 4096 * n) where
   words-long : length (words card) ≡ 1024 * n
   words-long = omega (arith, length-words card)
 

@@ -5,8 +5,8 @@ use Rattle.card.specs.Blocks.{noBlock, block, link, isFree, afterTaken, freeBlo
 use Rattle.card.specs.Chains.{chain, chainRule}
 use Rattle.blocks.specs.Writes.{store, release}
 use Rattle.card.proofs.Links.{word-in, rule-first}
-use Rattle.blocks.proofs.Stores.{apart, store-apart, release-apart}
-use Rattle.blocks.proofs.Stored.{block-back}
+use Rattle.blocks.proofs.Stores.{apart, length-store, store-apart, release-apart}
+use Rattle.blocks.proofs.Stored.{block-back, chain-stored, rule-stored}
 
 -- Released ---------------------------------------------------------------------------------------------------------
 
@@ -108,3 +108,17 @@ apart-free W ds bs e f =
     (λ d u v. by-test (elem d bs)
     (λ y. absurd (true≢false (sym (every-elem (isFree W) bs d f y) ∙ not-true (isFree W d) u)))
     (λ g. rw g)) ds e e
+
+-- no block written to is free
+pub written-taken : (W bs c : List ℕ) (n b : ℕ) → length W ≡ 1024 * n → n ≤ allOnes → onCard n bs ≡ true → different bs ≡ true → elem b bs ≡ true → isFree (store W bs c) b ≡ false
+written-taken W [] c n b long most on once m = absurd (true≢false (sym m))
+written-taken W (d ∷ bs) c n b long most on once m =
+    not-true (isFree X b) (every-elem (λ x. not (isFree X x)) (d ∷ bs) b taken m)
+  where
+    X : List ℕ
+    X = store W (d ∷ bs) c
+
+    taken : every (λ x. not (isFree X x)) (d ∷ bs) ≡ true
+    taken =
+        ap (every (λ x. not (isFree X x))) (sym (chain-stored W (d ∷ bs) c n long on once))
+        ∙ chain-taken X n d (suc (length bs)) (length-store W (d ∷ bs) c ∙ long) most (rule-stored W (d ∷ bs) c n long on once (omega arith))

@@ -12,6 +12,7 @@ use Rattle.windows.specs.Calls.{startOf, unstarted, openOf, closeOf}
 use Rattle.events.specs.Event.{eventOf}
 use Rattle.flushes.specs.Flush.{flushOf}
 use Rattle.removals.specs.Removal.{removeOf}
+use Rattle.batches.specs.Batch.{removeAllOf}
 use Rattle.plans.specs.Step.{stepOf}
 use Rattle.images.specs.Images.{imageRule}
 use Rattle.numbers.specs.Images.{stateOn, imaged}
@@ -63,6 +64,9 @@ flushOn l = refuseIf (not (imageRule (l .image))) 1 (carry imagedStore (flushOf 
 
 unfoldable pub removeOn : Carded → ℕ → Outcome Carded
 removeOn l w = refuseIf (not (imageRule (l .image))) 1 (carry imagedStore (removeOf (storeOf (stateOn (l .image)) (l .card)) w))
+
+unfoldable pub removeAllOn : Carded → List ℕ → Outcome Carded
+removeAllOn l ws = refuseIf (not (imageRule (l .image))) 1 (carry imagedStore (removeAllOf (storeOf (stateOn (l .image)) (l .card)) ws))
 
 unfoldable pub stepOn : Carded → Outcome Carded
 stepOn l = refuseIf (not (imageRule (l .image))) 1 (carry imagedStore (stepOf (storeOf (stateOn (l .image)) (l .card))))

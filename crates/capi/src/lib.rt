@@ -16,7 +16,7 @@ ghost use Rattle.identifiers.specs.Register.{registerRule};
 ghost use Rattle.state.specs.Rules.{registerLength};
 ghost use Rattle.windows.specs.Promises.{Gives};
 ghost use Rattle.ranking.specs.Top.{listedHits};
-ghost use Rattle.capi.specs.Exports.{cardedOf, lentOf, startOn, unstartedOn, openOn, closeOn, eventOn, flushOn, removeOn, stepOn};
+ghost use Rattle.capi.specs.Exports.{cardedOf, lentOf, startOn, unstartedOn, openOn, closeOn, eventOn, flushOn, removeOn, removeAllOn, stepOn};
 ghost use Rattle.numbers.specs.Images.{repliedBy, openedBy, numberFor};
 ghost use Rattle.capi.specs.Queries.{hitBytes, Tells, queryOn, meanOn};
 
@@ -179,6 +179,20 @@ pub extern "C" fn gemsilver_remove(image: &mut [u8], card: &mut [u8], window: u3
     }
     let s = images::read_state(image);
     let r = removals::remove(s, card, window);
+    numbers::settle(image, r)
+}
+
+// Several windows are removed together, or none.
+#[no_mangle]
+pub extern "C" fn gemsilver_remove_all(image: &mut [u8], card: &mut [u8], windows: &[u32]) -> u32
+    ensures { λ r. ⌜ Gives (cardedOf (now (image .entry)) (now (card .entry))) (removeAllOn (cardedOf (now (image .entry)) (now (card .entry))) (now (windows .entry)))
+        (repliedBy r) (cardedOf (now (image .exit)) (now (card .exit))) ⌝ }
+{
+    if !images::image_ok(image) {
+        return 1;
+    }
+    let s = images::read_state(image);
+    let r = batches::remove_all(s, card, windows);
     numbers::settle(image, r)
 }
 

@@ -3,7 +3,7 @@ use Rattle.lists.proofs.Prelude.{Bool, true, false, List, _≡_, refl, sym, ap,
 use Rattle.lists.proofs.Padding.{length-padded}
 use Rattle.words.specs.Words.{words, bytes}
 use Rattle.words.proofs.Views.{words-bytes, length-bytes}
-use Rattle.answers.specs.Answers.{Answer, Outcome, refuse, leave, refuseIf, choose, carry}
+use Rattle.answers.specs.Answers.{Answer, Outcome, refuse, leave, refuseIf, choose, next, stateOf, carry}
 use Rattle.state.specs.declared.Buffer.{Buffer}
 use Rattle.state.specs.declared.Partition.{Partition}
 use Rattle.state.specs.declared.State.{State}
@@ -39,6 +39,13 @@ pub data Same {S : Type 0} (R : S → Lists → Type 0) : Outcome S → Outcome 
 pub same-carry : {S T : Type 0} (R : S → Lists → Type 0) (Q : T → Lists → Type 0) (f : S → T) → ((s : S) (e : Lists) → R s e → Q (f s) e) → {o : Outcome S} {q : Outcome Lists} → Same R o q → Same Q (carry f o) q
 same-carry R Q f h bothRefuse = bothRefuse
 same-carry R Q f h (bothLeave {s = s} {e = e} r) = bothLeave (h s e r)
+
+-- a call more on what both left, where something else holds of the lists too
+pub same-next : {S : Type 0} (R : S → Lists → Type 0) (Q : Lists → Type 0) {o : Outcome S} {q : Outcome Lists} → Same R o q → (e : Lists) → Q (stateOf e q)
+    → (f : S → Outcome S) (g : Lists → Outcome Lists) → ((s : S) (d : Lists) → R s d → Q d → Same R (f s) (g d)) → Same R (next o f) (next q g)
+unfolding next
+same-next R Q bothRefuse e x f g h = bothRefuse
+same-next R Q (bothLeave {s = s} {e = d} r) e x f g h = h s d r x
 
 module _ {S : Type 0} (R : S → Lists → Type 0) where
   -- one test on both sides

@@ -14,7 +14,7 @@ use Rattle.card.specs.Blocks.{noBlock, isFree}
 use Rattle.card.specs.Chains.{blocksFor}
 use Rattle.blocks.specs.Writes.{store, release}
 use Rattle.blocks.proofs.Stores.{Agree, apart, length-store, length-release, store-apart, release-apart, release-agrees}
-use Rattle.blocks.proofs.FreeBlocks.{released-free, release-other, store-other}
+use Rattle.blocks.proofs.FreeBlocks.{released-free, release-other, store-other, written-taken}
 use Rattle.partitions.specs.Layout.{lengthOf, encode, writtenAs}
 use Rattle.partitions.specs.Reading.{chainOf, postingsOf}
 use Rattle.partitions.specs.Formed.{partitionRule, chainsOf, partitionsFormed, Writable}
@@ -31,7 +31,7 @@ use Rattle.decoded.proofs.Holds.{Holds, due-is, taking-is}
 use Rattle.decoded.proofs.Past.{past-agree, past-written}
 use Rattle.decoded.proofs.Unused.{chains-once, each-formed}
 use Rattle.decoded.proofs.Outputs.{Output, chains-more}
-use Rattle.decoded.proofs.Stepped.{portions-agree, sizes-agree, written-taken}
+use Rattle.decoded.proofs.Stepped.{portions-agree, sizes-agree}
 
 pub chains-append : (W : List ℕ) (x y : List Partition) → chainsOf W (x ++ y) ≡ chainsOf W x ++ chainsOf W y
 unfolding chainsOf

@@ -1,10 +1,10 @@
--- Query, mean and removal on bytes are those on lists.
+-- Query, mean and removals on bytes are those on lists.
 use Rattle.lists.proofs.Prelude.{Bool, true, _||_, _&&_, not, List, [], _∷_, foldr, _≡_, refl, sym, ap, ap₂, _∙_, subst, fun-ext, ℕ, _+_, _-_, eqb, ltb, leb, length, replicate, length-replicate, keep, every, elem, totalBy, and-both, every-map}
 use Rattle.words.specs.Words.{words}
 use Rattle.postings.specs.declared.Posting.{Posting}
 use Rattle.postings.specs.Merge.{put, nonzero, negated}
 use Rattle.postings.specs.Sums.{sum, under, above}
-use Rattle.answers.specs.Answers.{Answer, done, hits, leave}
+use Rattle.answers.specs.Answers.{Answer, done, hits, leave, inTurn}
 use Rattle.answers.specs.declared.Hit.{Hit}
 use Rattle.state.specs.declared.Lengths.{Lengths}
 use Rattle.state.specs.declared.Windows.{Windows}
@@ -24,9 +24,11 @@ use Rattle.means.specs.Mean.{frequencyIn, totalIn, meaning, meanOf}
 use Rattle.queries.specs.Query.{countIn, takenUp, numbers, queryFormed, hitsOf, querying, queryOf, fill}
 use Rattle.ranking.specs.Asked.{badQuery}
 use Rattle.removals.specs.Removal.{ofWindow, countsOf, isLive, listsFormed, removalFormed, removalFlushes, removed, removing, removeOf}
-use Rattle.engine.specs.Calls.{Remove, Query, Mean, noHit, withStore, probeCall}
+use Rattle.sums.specs.Tally.{windowFormed}
+use Rattle.batches.specs.Batch.{batchFormed, removeAllOf}
+use Rattle.engine.specs.Calls.{Remove, RemoveAll, Query, Mean, noHit, storeIn, withStore, probeCall}
 use Rattle.accounts.specs.Account.{Portion, Account, postingsIn, storedIn, takenFrom, exceeds, addedTo, flushingIf as accountFlushingIf}
-use Rattle.accounts.specs.Lists.{Lists, identifierRule, windowRule, callRule, countOf, frequencyOf, totalOf, removedLists, removingLists, withAccount, pursued}
+use Rattle.accounts.specs.Lists.{Lists, identifierRule, windowSums, windowRule, callRule, countOf, frequencyOf, totalOf, removedLists, removingLists, removalOf, withAccount, pursued}
 use Rattle.decoded.specs.Portions.{portionOn}
 use Rattle.decoded.proofs.Holds.{Holds, Stored, partitions-is, buffer-is, stored-is}
 use Rattle.decoded.proofs.Fronts.{holds-fronted}
@@ -149,14 +151,22 @@ module _ {ls : Lengths} (p : Probe) (e : Lists) (k : Stored ls p e) (fine : Fine
 
   -- ---- removal
 
+  sums-same : (w : ℕ) → windowFormed W s w ≡ windowSums (e .account) w
+  sums-same w =
+      ap₂ _&&_ (ap (λ l. sumsInRange (ofWindow w l)) partitions-same)
+      (ap (λ l. sumsInRange (ofWindow w l) && leb (length (countsOf w l)) 64) stored-same)
+
   window-same : (w : ℕ) → windowRule (e .account) w ≡ true → removalFormed W s w ≡ true
   unfolding removalFormed listsFormed windowRule
   window-same w rule =
       and-both (partitionsFormed W (blocks s) (finished (s .partitions))) _ (h .formed)
-      (ap₂ _&&_ (every-partition listRule)
-      (ap₂ _&&_ (ap (λ l. sumsInRange (ofWindow w l)) partitions-same)
-      (ap (λ l. sumsInRange (ofWindow w l) && leb (length (countsOf w l)) 64) stored-same))
-      ∙ rule)
+      (ap₂ _&&_ (every-partition listRule) (sums-same w) ∙ rule)
+
+  pub batch-same : (ws : List ℕ) → callRule e (RemoveAll ws) ≡ true → batchFormed W s ws ≡ true
+  unfolding batchFormed
+  batch-same ws rule =
+      and-both (partitionsFormed W (blocks s) (finished (s .partitions))) _ (h .formed)
+      (ap₂ (λ (t : Bool) (f : ℕ → Bool). t && every f ws) (every-partition listRule) (fun-ext sums-same) ∙ (unfold callRule in rule))
 
   -- the state with the window's counts taken back, after a flush or without one
   holds-removed : (t : State) (X : List ℕ) (a : Account) (cs : List Posting) → Holds t X (withAccount e a) → Holds (removed t cs) X (removedLists e cs a)
@@ -168,19 +178,20 @@ module _ {ls : Lengths} (p : Probe) (e : Lists) (k : Stored ls p e) (fine : Fine
       (ap (λ (w : Windows). record { last = w .last; live = w .live - 1; current = w .current; events = w .events }) (g .windows)) (g .listed)
       (ap (λ l. bufferOf (nonzero (foldr put l (negated cs)))) (buffer-is t X (withAccount e a) g)) refl refl
 
-  removing-same : (w : ℕ) (cs : List Posting) → Same (λ q e′. Stored ls (withStore p q) e′) (removing s (p .card) w cs) (removingLists (blocks s) (registerSize s) e w cs)
+  -- what is there with a store that a removal leaves
+  abbrev Left : Store → Lists → Type 0
+  Left q e′ = Stored ls (withStore p q) e′
+
+  removing-same : (w : ℕ) (cs : List Posting) → Same Left (removing s (p .card) w cs) (removingLists (blocks s) (registerSize s) e w cs)
   unfolding removing removingLists
   removing-same w cs =
-      refusing R _ _ 5 _ _ (ap (λ (x : Windows). not (eqb (x .current) 0) && eqb w (x .current)) (h .windows)) λ _.
-      refusing R _ _ 7 _ _ (ap (λ (x : Windows). not (isLive cs) || (ltb (x .last) w || eqb (x .live) 0)) (h .windows)) λ _.
-      subst (λ t. Same R (flushingIf t s (p .card) (λ u c. leave done (record { state = removed u cs; card = c }))) (accountFlushingIf (blocks s) (exceeds cs (e .account)) (e .account) (λ a. leave done (removedLists e cs a)))) (sym flushes)
-      (flushIf-same s (p .card) e h fine R (λ u c. leave done (record { state = removed u cs; card = c })) (λ a. leave done (removedLists e cs a)) (exceeds cs (e .account))
+      refusing Left _ _ 5 _ _ (ap (λ (x : Windows). not (eqb (x .current) 0) && eqb w (x .current)) (h .windows)) λ _.
+      refusing Left _ _ 7 _ _ (ap (λ (x : Windows). not (isLive cs) || (ltb (x .last) w || eqb (x .live) 0)) (h .windows)) λ _.
+      subst (λ t. Same Left (flushingIf t s (p .card) (λ u c. leave done (record { state = removed u cs; card = c }))) (accountFlushingIf (blocks s) (exceeds cs (e .account)) (e .account) (λ a. leave done (removedLists e cs a)))) (sym flushes)
+      (flushIf-same s (p .card) e h fine Left (λ u c. leave done (record { state = removed u cs; card = c })) (λ a. leave done (removedLists e cs a)) (exceeds cs (e .account))
       (λ u c a g same long. bothLeave (stored-store p e (removedLists e cs a) (record { state = removed u cs; card = c }) k (holds-removed u (words c) a cs g) (lengths-same u ∙ same) long (names-same a)))
       (k .card))
     where
-      R : Store → Lists → Type 0
-      R q e′ = Stored ls (withStore p q) e′
-
       flushes : removalFlushes s cs ≡ exceeds cs (e .account)
       flushes = unfold removalFlushes exceeds in ap (λ l. ltb 128 (length l + length cs)) (buffer-is s W e h)
 
@@ -190,15 +201,26 @@ module _ {ls : Lengths} (p : Probe) (e : Lists) (k : Stored ls p e) (fine : Fine
       names-same : (a : Account) → removedLists e cs a .names ≡ e .names
       names-same a = unfold removedLists in refl
 
+  pub removal-same : (w : ℕ) → callRule e (Remove w) ≡ true → Same Left (removeOf (storeIn p) w) (removalOf (blocks s) (registerSize s) e w)
+  unfolding removeOf
+  removal-same w rule =
+      passing Left _ 1 _ _ (no-first p e k fine)
+      (passing Left _ 2 _ _ (no-second p e k fine)
+      (passing Left _ 3 _ _ (ap not (window-same w (unfold callRule in rule)))
+      (subst (λ l. Same Left (removing s (p .card) w (countsOf w l)) (removalOf (blocks s) (registerSize s) e w)) (sym stored-same)
+      (removing-same w (countsOf w (storedIn (e .account)))))))
+
   pub remove-same : (w : ℕ) → callRule e (Remove w) ≡ true → Same (Stored ls) (probeCall p (Remove w)) (pursued (blocks s) (registerSize s) e (Remove w))
-  unfolding probeCall removeOf pursued
-  remove-same w rule =
-      same-carry R (Stored ls) (withStore p) (λ q e′ r. r)
-      (passing R _ 1 _ _ (no-first p e k fine)
-      (passing R _ 2 _ _ (no-second p e k fine)
-      (passing R _ 3 _ _ (ap not (window-same w (unfold callRule in rule)))
-      (subst (λ l. Same R (removing s (p .card) w (countsOf w l)) (removingLists (blocks s) (registerSize s) e w (countsOf w (storedIn (e .account))))) (sym stored-same)
-      (removing-same w (countsOf w (storedIn (e .account))))))))
-    where
-      R : Store → Lists → Type 0
-      R q e′ = Stored ls (withStore p q) e′
+  unfolding probeCall pursued
+  remove-same w rule = same-carry Left (Stored ls) (withStore p) (λ q e′ r. r) (removal-same w rule)
+
+  -- several, where their removals one after another are the same
+  pub removals-same : (ws : List ℕ) → callRule e (RemoveAll ws) ≡ true → Same Left (inTurn removeOf (storeIn p) ws) (inTurn (removalOf (blocks s) (registerSize s)) e ws)
+      → Same (Stored ls) (probeCall p (RemoveAll ws)) (pursued (blocks s) (registerSize s) e (RemoveAll ws))
+  unfolding probeCall removeAllOf pursued
+  removals-same ws rule each =
+      same-carry Left (Stored ls) (withStore p) (λ q e′ r. r)
+      (passing Left _ 1 _ _ (no-first p e k fine)
+      (passing Left _ 2 _ _ (no-second p e k fine)
+      (passing Left _ 3 _ _ (ap not (batch-same ws rule))
+      (refusing Left _ _ 16 _ _ refl λ _. each))))

@@ -13,7 +13,7 @@ use Rattle.card.specs.Chains.{blocksFor, chain, chainRule, content}
 use Rattle.blocks.specs.Writes.{store}
 use Rattle.blocks.proofs.Stores.{length-store}
 use Rattle.blocks.proofs.Stored.{chain-stored, rule-stored, content-stored}
-use Rattle.blocks.proofs.FreeBlocks.{store-other, chain-taken}
+use Rattle.blocks.proofs.FreeBlocks.{store-other, chain-taken, written-taken}
 use Rattle.partitions.specs.Layout.{termCount, lengthOf, wordOf}
 use Rattle.partitions.specs.Reading.{postingsOf}
 use Rattle.partitions.specs.Formed.{chainsOf}
@@ -70,20 +70,6 @@ chain-of W (b ∷ bs) c n long on once = chain-stored W (b ∷ bs) c n long on o
 pub rule-of : (W bs c : List ℕ) (n : ℕ) → length W ≡ 1024 * n → onCard n bs ≡ true → different bs ≡ true → 1 ≤ length bs → chainRule (store W bs c) n (getD bs 0 noBlock) (length bs) ≡ true
 rule-of W [] c n long on once some = absurd (omega arith)
 rule-of W (b ∷ bs) c n long on once some = rule-stored W (b ∷ bs) c n long on once some
-
--- no block written to is free
-pub written-taken : (W bs c : List ℕ) (n b : ℕ) → length W ≡ 1024 * n → n ≤ allOnes → onCard n bs ≡ true → different bs ≡ true → elem b bs ≡ true → isFree (store W bs c) b ≡ false
-written-taken W [] c n b long most on once m = absurd (true≢false (sym m))
-written-taken W (d ∷ bs) c n b long most on once m =
-    not-true (isFree X b) (every-elem (λ x. not (isFree X x)) (d ∷ bs) b taken m)
-  where
-    X : List ℕ
-    X = store W (d ∷ bs) c
-
-    taken : every (λ x. not (isFree X x)) (d ∷ bs) ≡ true
-    taken =
-        ap (every (λ x. not (isFree X x))) (sym (chain-stored W (d ∷ bs) c n long on once))
-        ∙ chain-taken X n d (suc (length bs)) (length-store W (d ∷ bs) c ∙ long) most (rule-stored W (d ∷ bs) c n long on once (omega arith))
 
 module _ (s : State) (W : List ℕ) (e : Lists) (h : Holds s W e) (bs : List ℕ) (out : Output W s bs) (t : ℕ) (low : t < blocks s)
     (left : isLast (taking W s) (suc (s .merge .steps)) ≡ false) where

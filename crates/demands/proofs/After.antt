@@ -1,9 +1,9 @@
--- After every history: what a query lists and a mean is, by the ledger, and what the card's blocks hold.
+-- After every history: what a query lists, a mean is and removals leave, by the ledger, and what the card's blocks hold.
 use Rattle.lists.proofs.TopK.{different-down}
-use Rattle.lists.proofs.Prelude.{true, false, not, List, [], _∷_, _++_, _≡_, refl, sym, ap, _∙_, subst, ℕ, _*_, _/_, _%_, _<_, arith, eqb, length, getD, eqb-true, every, empty, and-left}
+use Rattle.lists.proofs.Prelude.{true, false, not, cond, List, [], _∷_, _++_, _≡_, refl, sym, ap, _∙_, subst, ℕ, _*_, _/_, _%_, _<_, arith, eqb, length, getD, eqb-true, elem, every, empty, and-left}
 use Rattle.words.specs.Words.{words, allOnes}
 use Rattle.postings.specs.Merge.{pairs}
-use Rattle.answers.specs.Answers.{Answer, done, hits, mean, Outcome, answerOf, stateOf}
+use Rattle.answers.specs.Answers.{Answer, done, hits, mean, refused, Outcome, answerOf, stateOf}
 use Rattle.answers.specs.declared.Hit.{Hit}
 use Rattle.state.specs.declared.Lengths.{Lengths}
 use Rattle.state.specs.declared.State.{State}
@@ -20,20 +20,22 @@ use Rattle.ranking.specs.Hits.{frequency, ranked}
 use Rattle.averages.specs.Average.{total, averaging}
 use Rattle.means.specs.Mean.{meanOf}
 use Rattle.queries.specs.Query.{queryOf}
-use Rattle.engine.specs.Calls.{Call, Query, Mean, probeCall, run, afterwards}
+use Rattle.batches.specs.Batch.{batchRule}
+use Rattle.engine.specs.Calls.{Call, RemoveAll, Query, Mean, probeCall, run, afterwards}
 use Rattle.accounts.specs.Account.{Account, takenFrom, inputsOf, merged, blocksOf}
-use Rattle.accounts.specs.Ledger.{shown, existing}
+use Rattle.accounts.specs.Ledger.{Ledger, live, shown, existing}
 use Rattle.accounts.specs.Books.{Books, showing, books, booksCall}
 use Rattle.accounts.specs.Lists.{Lists}
 use Rattle.accounts.proofs.Showing.{hitsBy, hits-stay}
 use Rattle.decoded.specs.Portions.{outputOf, cleanPast}
 use Rattle.decoded.proofs.Holds.{Holds, taking-is}
 use Rattle.decoded.proofs.Unused.{going, output-going}
-use Rattle.decoded.proofs.Simulated.{runs-simulated, Left}
+use Rattle.decoded.proofs.Simulated.{removals-formed, runs-simulated, Left}
 use Rattle.histories.proofs.Theorem.{entries-most, history-left}
-use Rattle.demands.specs.Words.{Listing, Divided, probeAfter, booksAfter, unused}
+use Rattle.demands.specs.Words.{Listing, Divided, Together, probeAfter, booksAfter, unused}
 use Rattle.demands.proofs.Granted.{Where, where-if, hits-granted, listOf, takenOf, ranked-listing, mean-granted, mean-last}
 use Rattle.demands.proofs.Rows.{same-if, query-called, mean-called}
+use Rattle.demands.proofs.Removals.{removals-together, without, count-without, live-without, list-bad-books, bad-books-list, books-removed, books-unchanged}
 use Rattle.demands.proofs.Cards.{whole-after, ones-bytes}
 
 -- ---- what ledger and account answer to a query
@@ -124,6 +126,32 @@ module _ (c r : ℕ) (cardFits : cardLength c ≡ true) (registerFits : register
   stay-after q e k ns =
       ap (λ (x : Books). hitsBy k ns (x .ledger)) (books-more q)
       ∙ hits-stay (c / 4096) (r / 65) b (left .stands .kept .lawful) k ns q e
+
+  -- ---- removals of several windows
+
+  -- refused with 16 exactly where the list is bad
+  pub list-bad-after : (ws : List ℕ) → (batchRule ws ≡ false → answerOf (probeCall p (RemoveAll ws)) ≡ refused 16) × (answerOf (probeCall p (RemoveAll ws)) ≡ refused 16 → batchRule ws ≡ false)
+  list-bad-after ws =
+      (λ e. answered (RemoveAll ws) ∙ list-bad-books (c / 4096) (r / 65) b ws e, λ e. bad-books-list (c / 4096) (r / 65) b ws (sym (answered (RemoveAll ws)) ∙ e))
+
+  module _ (ws : List ℕ) where
+    -- all or none of any other, by single removals
+    pub together-left : batchRule ws ≡ true → Together p ws (probeCall p (RemoveAll ws))
+    together-left = let f = removals-formed ls (entries-most r registerFits) p (left .lists) b (left .stored) (left .stands) ws in removals-together p ws (f .0) (f .1) (f .2)
+
+    -- the ledger afterwards
+    removed-ledger : answerOf (probeCall p (RemoveAll ws)) ≡ done → booksAfter c r (cs ++ (RemoveAll ws ∷ [])) .ledger ≡ without (b .ledger) ws
+    removed-ledger e = ap (λ (x : Books). x .ledger) (books-more (RemoveAll ws)) ∙ books-removed (c / 4096) (r / 65) b ws (sym (answered (RemoveAll ws)) ∙ e)
+
+    pub count-removed : answerOf (probeCall p (RemoveAll ws)) ≡ done → (n : Name) (v : ℕ)
+        → booksAfter c r (cs ++ (RemoveAll ws ∷ [])) .ledger .count n v ≡ cond (elem v ws) 0 (b .ledger .count n v)
+    count-removed e n v = ap (λ (l : Ledger). l .count n v) (removed-ledger e) ∙ count-without ws (b .ledger) n v
+
+    pub live-removed : answerOf (probeCall p (RemoveAll ws)) ≡ done → (v : ℕ) → live (booksAfter c r (cs ++ (RemoveAll ws ∷ [])) .ledger) v ≡ cond (elem v ws) false (live (b .ledger) v)
+    live-removed e v = ap (λ (l : Ledger). live l v) (removed-ledger e) ∙ live-without ws (b .ledger) v
+
+    pub none-removed : (n : ℕ) → answerOf (probeCall p (RemoveAll ws)) ≡ refused n → booksAfter c r (cs ++ (RemoveAll ws ∷ [])) ≡ b
+    none-removed n e = books-more (RemoveAll ws) ∙ books-unchanged (c / 4096) (r / 65) b ws .same n (sym (answered (RemoveAll ws)) ∙ e)
 
   -- ---- blocks
 

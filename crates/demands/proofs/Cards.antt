@@ -3,7 +3,7 @@ use Rattle.lists.proofs.Prelude.{Bool, List, [], _∷_, _≡_, sym, ap, _∙_, 
 use Rattle.words.specs.Words.{words, bytes, allOnes, Below}
 use Rattle.words.proofs.Views.{words-bytes, bytes-words}
 use Rattle.answers.specs.Answers.{Outcome, refuseIf, choose, stateOf, carry}
-use Rattle.answers.proofs.Kept.{after-if, after-choose}
+use Rattle.answers.proofs.Kept.{after-if, after-choose, after-turn}
 use Rattle.answers.specs.declared.Hit.{Hit}
 use Rattle.state.specs.declared.State.{State}
 use Rattle.state.specs.Probe.{Store, Probe}
@@ -14,8 +14,9 @@ use Rattle.events.specs.Event.{eventOf}
 use Rattle.queries.specs.Query.{queryOf}
 use Rattle.means.specs.Mean.{meanOf}
 use Rattle.removals.specs.Removal.{removing, removeOf}
+use Rattle.batches.specs.Batch.{removeAllOf}
 use Rattle.plans.specs.Step.{stepping, stepOf}
-use Rattle.engine.specs.Calls.{Call, Open, Event, Close, Remove, Flush, Step, Query, Mean, storeIn, withStore, withState, noHit, probeCall, afterwards}
+use Rattle.engine.specs.Calls.{Call, Open, Event, Close, Remove, RemoveAll, Flush, Step, Query, Mean, storeIn, withStore, withState, noHit, probeCall, afterwards}
 use Rattle.demands.proofs.Rows.{state-carry}
 
 -- the bytes of its words are the card
@@ -75,6 +76,12 @@ module _ (p : Store) (w : Whole (p .card)) where
   stepped-whole =
       pass ofStore p w _ 1 _ (pass ofStore p w _ 2 _ (pass ofStore p w _ 3 _ (pass ofStore p w _ 12 _ (pass ofStore p w _ 13 _ (whole-bytes _)))))
 
+removed-all-whole : (p : Store) → Whole (p .card) → (ns : List ℕ) → Whole (stateOf p (removeAllOf p ns) .card)
+unfolding removeAllOf
+removed-all-whole p w ns =
+    pass ofStore p w _ 1 _ (pass ofStore p w _ 2 _ (pass ofStore p w _ 3 _ (pass ofStore p w _ 16 _
+    (after-turn (λ (q : Store). Whole (q .card)) removeOf (λ t n x. removed-whole t x n) p w p w ns))))
+
 -- seen on the whole probe
 carried : {S : Type 0} (g : S → Probe) (s : S) (o : Outcome S) → Whole (g (stateOf s o) .card) → Whole (stateOf (g s) (carry g o) .card)
 carried g s o h = subst (λ (q : Probe). Whole (q .card)) (sym (state-carry g s o)) h
@@ -85,6 +92,7 @@ call-whole p w Open = carried (withState p) (p .state) (openOf (p .state)) w
 call-whole p w (Event n) = event-whole p n w
 call-whole p w Close = carried (withState p) (p .state) (closeOf (p .state)) w
 call-whole p w (Remove n) = carried (withStore p) (storeIn p) (removeOf (storeIn p) n) (removed-whole (storeIn p) w n)
+call-whole p w (RemoveAll ns) = carried (withStore p) (storeIn p) (removeAllOf (storeIn p) ns) (removed-all-whole (storeIn p) w ns)
 call-whole p w Flush = carried (withStore p) (storeIn p) (flushOf (storeIn p)) (flushed-whole (storeIn p) w)
 call-whole p w Step = carried (withStore p) (storeIn p) (stepOf (storeIn p)) (stepped-whole (storeIn p) w)
 call-whole p w (Query k ns) = carried (λ (l : List Hit). p) (replicate k noHit) (queryOf p ns (replicate k noHit)) w

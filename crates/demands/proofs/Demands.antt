@@ -1,6 +1,6 @@
 -- The three demands as theorems, each under a plain sentence. Who believes the definitions that they name, and the promises of the public functions,
 -- which equate result and lent buffers with those definitions, need read no further: every proof here cites a law.
-use Rattle.lists.proofs.Prelude.{true, false, _&&_, List, [], _∷_, _++_, map, _≡_, sym, ap, _∙_, ℕ, _*_, _/_, _≤_, _<_, eqb, pos, length, getD, AllOf, any, every, empty, different}
+use Rattle.lists.proofs.Prelude.{true, false, _&&_, cond, List, [], _∷_, _++_, map, _≡_, sym, ap, _∙_, ℕ, _*_, _/_, _≤_, _<_, eqb, pos, length, getD, AllOf, any, elem, every, empty, different}
 use Rattle.words.specs.Words.{words, allOnes, Below}
 use Rattle.postings.specs.declared.Posting.{Posting}
 use Rattle.postings.specs.Merge.{pairs}
@@ -10,9 +10,9 @@ use Rattle.answers.specs.declared.Found.{Found}
 use Rattle.answers.specs.declared.Averaged.{Averaged}
 use Rattle.answers.specs.declared.Hit.{Hit}
 use Rattle.state.specs.declared.State.{State}
-use Rattle.state.specs.Probe.{Store, Probe}
+use Rattle.state.specs.Probe.{Store, Probe, sameLength}
 use Rattle.state.specs.Views.{padded, blocks, finished}
-use Rattle.state.specs.Rules.{cardLength, registerLength}
+use Rattle.state.specs.Rules.{cardLength, registerLength, stateRule}
 use Rattle.state.specs.Shown.{shows, shown}
 use Rattle.identifiers.specs.Names.{Name, badLength}
 use Rattle.identifiers.specs.Register.{names}
@@ -36,8 +36,9 @@ use Rattle.queries.proofs.Refused.{query-unchanged}
 use Rattle.ranking.specs.Hits.{frequency}
 use Rattle.averages.specs.Average.{total, averaging}
 use Rattle.means.specs.Mean.{frequencyIn, totalIn, meanOf}
+use Rattle.batches.specs.Batch.{batchRule, batchFormed}
 use Rattle.plans.specs.Merging.{progress}
-use Rattle.engine.specs.Calls.{Call, probeCall}
+use Rattle.engine.specs.Calls.{Call, RemoveAll, probeCall}
 use Rattle.engine.proofs.Refused.{call-unchanged}
 use Rattle.engine.proofs.ByteRule.{call-moved}
 use Rattle.plans.specs.Step.{stepOf}
@@ -53,12 +54,13 @@ use Rattle.decoded.specs.Portions.{portionOn, outputOf, cleanPast}
 use Rattle.decoded.proofs.Simulated.{left-sums}
 use Rattle.histories.specs.Statement.{answers, SameAnswers}
 use Rattle.histories.proofs.Theorem.{entries-most, same-answers, none-malformed, history-left}
-use Rattle.demands.specs.Words.{Fit, Listing, Divided, probeAfter, booksAfter, unused}
-use Rattle.demands.specs.Promises.{Starts, Opens, Counts, Closes, Removes, Flushes, Steps, Asks, AsksValue, Averages, Begun}
+use Rattle.demands.specs.Words.{Fit, Listing, Divided, Together, probeAfter, booksAfter, unused}
+use Rattle.demands.specs.Promises.{Starts, Opens, Counts, Closes, Removes, RemovesAll, Flushes, Steps, Asks, AsksValue, Averages, Begun}
 use Rattle.demands.proofs.Granted.{event-bad, query-bad, mean-bad, event-noted, query-answered, answered-listing, open-unlisted, mean-answered}
 use Rattle.demands.proofs.Rows.{start-fresh, start-refuses, all-unstarted, begun-run}
+use Rattle.demands.proofs.Removals.{removals-together, list-bad}
 use Rattle.demands.proofs.Single.{one-state, one-store, one-probe, one-opening, one-list, one-found, one-averaged}
-use Rattle.demands.proofs.After.{listing-by-ledger, hits-kept, mean-told, mean-by-ledger, free-left, byte-left, past-left, output-left}
+use Rattle.demands.proofs.After.{listing-by-ledger, hits-kept, mean-told, mean-by-ledger, list-bad-after, together-left, count-removed, live-removed, none-removed, free-left, byte-left, past-left, output-left}
 
 -- ==== 1. Every call does what the page says, on every input
 
@@ -79,6 +81,9 @@ one-close s x y g h = one-state x y g h
 
 pub one-removal : (s : State) (card : List ℕ) (window : ℕ) (x y : Replied) (card₁ card₂ : List ℕ) → Removes s card window x card₁ → Removes s card window y card₂ → (x ≡ y) × (card₁ ≡ card₂)
 one-removal s card window x y card₁ card₂ g h = one-store x y g h
+
+pub one-removals : (s : State) (card windows : List ℕ) (x y : Replied) (card₁ card₂ : List ℕ) → RemovesAll s card windows x card₁ → RemovesAll s card windows y card₂ → (x ≡ y) × (card₁ ≡ card₂)
+one-removals s card windows x y card₁ card₂ g h = one-store x y g h
 
 pub one-flush : (s : State) (card : List ℕ) (x y : Replied) (card₁ card₂ : List ℕ) → Flushes s card x card₁ → Flushes s card y card₂ → (x ≡ y) × (card₁ ≡ card₂)
 one-flush s card x y card₁ card₂ g h = one-store x y g h
@@ -151,6 +156,17 @@ pub bad-mean : (p : Probe) (n : Name) → Fit p → queryFormed (words (p .card)
     → badLength n ≡ true → answerOf (meanOf p n) ≡ refused 4
 bad-mean = mean-bad
 
+-- A list of windows to be removed together that is empty, has more than 32 or names one twice is refused with 16 (with 1 to 3 where these come first).
+pub bad-list : (p : Probe) (ws : List ℕ) → stateRule (p .state) ≡ true → sameLength (p .card) (p .state .lengths .card) ≡ true → batchFormed (words (p .card)) (p .state) ws ≡ true
+    → batchRule ws ≡ false → answerOf (probeCall p (RemoveAll ws)) ≡ refused 16
+bad-list = list-bad
+
+-- Any other list is removed all or none: where the single removals, one after another in the list's order, are all done, it is done and leaves what they leave; else it is
+-- refused with the number of the first of them that is refused, and so leaves everything as it was.
+pub together : (p : Probe) (ws : List ℕ) → stateRule (p .state) ≡ true → sameLength (p .card) (p .state .lengths .card) ≡ true → batchFormed (words (p .card)) (p .state) ws ≡ true
+    → batchRule ws ≡ true → Together p ws (probeCall p (RemoveAll ws))
+together = removals-together
+
 -- An identifier is never shortened: after a counted event the register's identifiers are those before, with this one included whole.
 pub counted-whole : (p : Probe) (n : Name) → answerOf (eventOf p n) ≡ done
     → (1 ≤ length n) × (length n ≤ 64) × (names (stateOf p (eventOf p n) .register) ≡ including (names (p .register)) n)
@@ -207,6 +223,31 @@ pub mean-of-ledger : (c r : ℕ) → cardLength c ≡ true → registerLength r 
     → answerOf (meanOf (probeAfter c r cs) n) ≡ mean quotient remainder divisor
     → Divided (frequency (booksAfter c r cs .ledger .count) (ledger.shown (booksAfter c r cs .ledger)) n) (total (booksAfter c r cs .ledger .count) (ledger.shown (booksAfter c r cs .ledger)) n) quotient remainder divisor
 mean-of-ledger = mean-by-ledger
+
+-- After every history a list of windows to be removed is refused with 16 exactly where it is empty, has more than 32 or names one twice.
+pub lists-refused : (c r : ℕ) → cardLength c ≡ true → registerLength r ≡ true → (cs : List Call) (ws : List ℕ)
+    → (batchRule ws ≡ false → answerOf (probeCall (probeAfter c r cs) (RemoveAll ws)) ≡ refused 16) × (answerOf (probeCall (probeAfter c r cs) (RemoveAll ws)) ≡ refused 16 → batchRule ws ≡ false)
+lists-refused = list-bad-after
+
+-- Any other is removed all or none, as its single removals one after another say.
+pub lists-together : (c r : ℕ) → cardLength c ≡ true → registerLength r ≡ true → (cs : List Call) (ws : List ℕ) → batchRule ws ≡ true
+    → Together (probeAfter c r cs) ws (probeCall (probeAfter c r cs) (RemoveAll ws))
+lists-together = together-left
+
+-- One that is done has removed every window named, and no other: in the ledger their counts are 0, and every other count is what it was.
+pub all-removed : (c r : ℕ) → cardLength c ≡ true → registerLength r ≡ true → (cs : List Call) (ws : List ℕ) → answerOf (probeCall (probeAfter c r cs) (RemoveAll ws)) ≡ done
+    → (n : Name) (v : ℕ) → booksAfter c r (cs ++ (RemoveAll ws ∷ [])) .ledger .count n v ≡ cond (elem v ws) 0 (booksAfter c r cs .ledger .count n v)
+all-removed = count-removed
+
+-- So none of them is live, and every other window is if it was.
+pub none-live : (c r : ℕ) → cardLength c ≡ true → registerLength r ≡ true → (cs : List Call) (ws : List ℕ) → answerOf (probeCall (probeAfter c r cs) (RemoveAll ws)) ≡ done
+    → (v : ℕ) → ledger.live (booksAfter c r (cs ++ (RemoveAll ws ∷ [])) .ledger) v ≡ cond (elem v ws) false (ledger.live (booksAfter c r cs .ledger) v)
+none-live = live-removed
+
+-- One that is refused has removed none: ledger and account are what they were.
+pub refused-removes-none : (c r : ℕ) → cardLength c ≡ true → registerLength r ≡ true → (cs : List Call) (ws : List ℕ) (n : ℕ)
+    → answerOf (probeCall (probeAfter c r cs) (RemoveAll ws)) ≡ refused n → booksAfter c r (cs ++ (RemoveAll ws ∷ [])) ≡ booksAfter c r cs
+refused-removes-none = none-removed
 
 -- Postings in order, written as a partition of any level to any blocks of the card, keep the layout and read back as they were.
 pub written-reads-back : (W bs : List ℕ) (n level : ℕ) (ps : List Posting) → length W ≡ 1024 * n → onCard n bs ≡ true → different bs ≡ true → length bs ≡ blocksFor (lengthOf ps) → Writable ps

@@ -44,7 +44,7 @@ module _ {S : Type 0} {s : S} {a : Answer} {G : S → Type 0} (fine : (m : ℕ) 
   where-flush t x card k h =
       where-choose t _ _ (where-choose _ _ _ (h x card) (where-if _ 10 _ (λ _. where-if _ 11 _ (λ _. where-if _ 12 _ (λ _. h _ _))))) (h x card)
 
-done-granted : (m : ℕ) → refused m ≡ done → ⊥
+pub done-granted : (m : ℕ) → refused m ≡ done → ⊥
 done-granted m e = let z : _≡_ {A = ℕ} 0 1 = cc in absurd (omega arith)
 
 pub hits-granted : (hs : List Hit) (k m : ℕ) → refused m ≡ hits hs k → ⊥

@@ -21,10 +21,11 @@ use Rattle.queries.specs.Finds.{Finds}
 use Rattle.ranking.specs.declared.Top.{Top}
 use Rattle.means.specs.Mean.{meaning, meanOf}
 use Rattle.removals.specs.Removal.{removeOf}
+use Rattle.batches.specs.Batch.{removeAllOf}
 use Rattle.plans.specs.Step.{stepOf}
-use Rattle.engine.specs.Calls.{Call, Open, Event, Close, Remove, Flush, Step, Query, Mean, withStore, withState, noHit, probeCall, run}
+use Rattle.engine.specs.Calls.{Call, Open, Event, Close, Remove, RemoveAll, Flush, Step, Query, Mean, withStore, withState, noHit, probeCall, run}
 use Rattle.histories.specs.Statement.{answers}
-use Rattle.demands.specs.Promises.{Row, noCall, opening, counting, closing, removing, flushing, stepping, asking, askingValue, averaging, Begun}
+use Rattle.demands.specs.Promises.{Row, noCall, opening, counting, closing, removing, removingAll, flushing, stepping, asking, askingValue, averaging, Begun}
 
 -- ---- outcomes seen on the whole probe
 
@@ -98,6 +99,10 @@ module _ (p : Probe) where
   unfolding probeCall
   remove-is w x t g = on-card _ x t g
 
+  remove-all-is : (ws : List ℕ) (x : Answer) (t : Store) → Gives (storeOf (p .state) (p .card)) (removeAllOf (storeOf (p .state) (p .card)) ws) x t → Is p (RemoveAll ws) x (withStore p t)
+  unfolding probeCall
+  remove-all-is ws x t g = on-card _ x t g
+
   flush-is : (x : Answer) (t : Store) → Gives (storeOf (p .state) (p .card)) (flushOf (storeOf (p .state) (p .card))) x t → Is p Flush x (withStore p t)
   unfolding probeCall
   flush-is x t g = on-card _ x t g
@@ -134,6 +139,7 @@ row-run (opening {s} {card} {register} {cs} {told} r g row) = follow _ Open cs _
 row-run (counting {s} {card} {register} {cs} {told} {id} r g row) = follow _ (Event id) cs _ _ told (event-is (probeOf s card register) id _ _ g) (row-run row)
 row-run (closing {s} {card} {register} {cs} {told} r g row) = follow _ Close cs _ _ told (close-is (probeOf s card register) _ _ g) (row-run row)
 row-run (removing {s} {card} {register} {cs} {told} {window} r {card′} g row) = follow _ (Remove window) cs _ (probeOf (r .state) card′ register) told (remove-is (probeOf s card register) window _ _ g) (row-run row)
+row-run (removingAll {s} {card} {register} {cs} {told} {windows} r {card′} g row) = follow _ (RemoveAll windows) cs _ (probeOf (r .state) card′ register) told (remove-all-is (probeOf s card register) windows _ _ g) (row-run row)
 row-run (flushing {s} {card} {register} {cs} {told} r {card′} g row) = follow _ Flush cs _ (probeOf (r .state) card′ register) told (flush-is (probeOf s card register) _ _ g) (row-run row)
 row-run (stepping {s} {card} {register} {cs} {told} r {card′} g row) = follow _ Step cs _ (probeOf (r .state) card′ register) told (step-is (probeOf s card register) _ _ g) (row-run row)
 row-run (asking {s} {card} {register} {cs} {told} {ids} {hits} r g row) =
@@ -162,11 +168,12 @@ zeros-broken = refl
 
 -- so every call on it is refused with 1
 pub all-unstarted : (card register : List ℕ) (c : Call) → answerOf (probeCall (unstarted card register) c) ≡ refused 1
-unfolding probeCall unstarted openOf closeOf eventOf flushOf removeOf stepOf queryOf querying meanOf meaning refuseIf
+unfolding probeCall unstarted openOf closeOf eventOf flushOf removeOf removeAllOf stepOf queryOf querying meanOf meaning refuseIf
 all-unstarted card register Open = rw zeros-broken
 all-unstarted card register (Event n) = rw zeros-broken
 all-unstarted card register Close = rw zeros-broken
 all-unstarted card register (Remove w) = rw zeros-broken
+all-unstarted card register (RemoveAll ws) = rw zeros-broken
 all-unstarted card register Flush = rw zeros-broken
 all-unstarted card register Step = rw zeros-broken
 all-unstarted card register (Query k ns) = rw zeros-broken

@@ -18,8 +18,9 @@ pub use Rattle.queries.specs.Finds.{AsksValue}
 use Rattle.queries.specs.declared.Answered.{Answered}
 pub use Rattle.means.specs.Mean.{Averages}
 pub use Rattle.removals.specs.Promises.{Removes}
+pub use Rattle.batches.specs.Batch.{RemovesAll}
 pub use Rattle.merges.specs.Promises.{Steps}
-use Rattle.engine.specs.Calls.{Call, Open, Event, Close, Remove, Flush, Step, Query, Mean}
+use Rattle.engine.specs.Calls.{Call, Open, Event, Close, Remove, RemoveAll, Flush, Step, Query, Mean}
 pub use Rattle.hits.specs.Lent.{Asks}
 
 -- from this state, card and register on: the calls, each given what the one before left, and the answers of results that keep their promises
@@ -33,6 +34,8 @@ pub data Row : State → List ℕ → List ℕ → List Call → List Answer →
       → Closes s r → Row (r .state) card register cs told → Row s card register (Close ∷ cs) (replied (r .reply) ∷ told)
   removing : {s : State} {card register : List ℕ} {cs : List Call} {told : List Answer} {window : ℕ} (r : Replied) {card′ : List ℕ}
       → Removes s card window r card′ → Row (r .state) card′ register cs told → Row s card register (Remove window ∷ cs) (replied (r .reply) ∷ told)
+  removingAll : {s : State} {card register : List ℕ} {cs : List Call} {told : List Answer} {windows : List ℕ} (r : Replied) {card′ : List ℕ}
+      → RemovesAll s card windows r card′ → Row (r .state) card′ register cs told → Row s card register (RemoveAll windows ∷ cs) (replied (r .reply) ∷ told)
   flushing : {s : State} {card register : List ℕ} {cs : List Call} {told : List Answer} (r : Replied) {card′ : List ℕ}
       → Flushes s card r card′ → Row (r .state) card′ register cs told → Row s card register (Flush ∷ cs) (replied (r .reply) ∷ told)
   stepping : {s : State} {card register : List ℕ} {cs : List Call} {told : List Answer} (r : Replied) {card′ : List ℕ}

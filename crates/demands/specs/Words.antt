@@ -1,19 +1,20 @@
 -- Words that the demands are stated with.
 use mathlib.Core.Bool.{Bool, true, false, _&&_, not}
-use mathlib.Core.List.{List, [], _∷_}
+use mathlib.Core.List.{List, [], _∷_, _++_, map}
 use mathlib.Core.Path.{_≡_}
-use Prim.Native.Nat.{ℕ, _+_, _*_, _/_, _<_}
+use Prim.Native.Nat.{ℕ, suc, _+_, _*_, _/_, _<_}
 use lib.Dec.{eqb}
-use lib.ListN.{length}
+use lib.ListN.{length, take, replicate}
 use Rattle.lists.specs.Lists.{every, any, elem}
 use Rattle.words.specs.Words.{words}
+use Rattle.answers.specs.Answers.{done, refused, Outcome, refuse, leave}
 use Rattle.answers.specs.declared.Hit.{Hit}
 use Rattle.state.specs.Rules.{stateRule}
 use Rattle.state.specs.Probe.{Probe, sameLength}
 use Rattle.identifiers.specs.Register.{registerRule}
 use Rattle.windows.specs.Calls.{fresh}
 use Rattle.ranking.specs.Hits.{outranks, score, matching}
-use Rattle.engine.specs.Calls.{Call, probeCall, afterwards}
+use Rattle.engine.specs.Calls.{Call, Remove, probeCall, run, afterwards}
 use Rattle.accounts.specs.Account.{emptyAccount}
 use Rattle.accounts.specs.Ledger.{emptyLedger}
 use Rattle.accounts.specs.Books.{Books, booksCall}
@@ -51,6 +52,13 @@ pub record Divided (f t quotient remainder divisor : ℕ) : Type 0 where
   pub sum : quotient * divisor + remainder ≡ t
   pub below : remainder < divisor
   pub windows : divisor ≡ f
+
+-- what the removal of several windows together comes to, by their removals one after another
+pub data Together (p : Probe) (ws : List ℕ) : Outcome Probe → Type 0 where
+  -- each of these is done: it leaves what they leave
+  allRemoved : run probeCall p (map Remove ws) ≡ replicate (length ws) done → Together p ws (leave done (afterwards probeCall p (map Remove ws)))
+  -- i of them are done and the next one is refused: so is it, with that number
+  oneRefused : (n i : ℕ) → i < length ws → take (suc i) (run probeCall p (map Remove ws)) ≡ replicate i done ++ (refused n ∷ []) → Together p ws (refuse n)
 
 -- the probe, and ledger and account, after a list of calls on a fresh card of c bytes with a register of r
 abbrev pub probeAfter : ℕ → ℕ → List Call → Probe

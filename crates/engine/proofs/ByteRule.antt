@@ -1,11 +1,11 @@
 -- Document 01's rule of a card's bytes, for every call on a probe whose card is bytes, refused or not: the card keeps its length, and a byte that
 -- changes was 255 before, or becomes 255 as all of its block does.
-use Rattle.lists.proofs.Prelude.{Bool, true, false, List, [], _∷_, inl, inr, _≡_, refl, _∙_, ℕ, suc, _*_, arith, length, replicate, length-replicate, getD-replicate, eqb-true, not-false, empty, and-left, and-both, empty-not}
+use Rattle.lists.proofs.Prelude.{Bool, true, false, List, [], _∷_, inl, inr, ⊎-elim, _≡_, refl, sym, ap, _∙_, ℕ, suc, _*_, arith, length, replicate, length-replicate, getD-replicate, eqb-true, not-false, empty, and-left, and-both, empty-not}
 use Rattle.words.specs.Words.{words, bytes, Below}
-use Rattle.words.proofs.Views.{length-words, length-bytes}
+use Rattle.words.proofs.Views.{length-words, words-bytes, length-bytes, bytes-words}
 use Rattle.answers.specs.declared.Hit.{Hit}
 use Rattle.answers.specs.Answers.{Outcome, refuse, leave, stateOf, carry, refuseIf}
-use Rattle.answers.proofs.Kept.{after-if, after-choose}
+use Rattle.answers.proofs.Kept.{after-if, after-choose, after-turn}
 use Rattle.state.specs.declared.State.{State}
 use Rattle.state.specs.Views.{blocks}
 use Rattle.state.specs.Rules.{stateRule}
@@ -14,20 +14,21 @@ use Rattle.state.proofs.Kept.{state-kept}
 use Rattle.identifiers.specs.Names.{Name}
 use Rattle.card.specs.Blocks.{isFree, freeBlocks}
 use Rattle.blocks.specs.Writes.{store}
-use Rattle.blocks.specs.Moves.{Moves, MovesBytes}
+use Rattle.blocks.specs.Moves.{Moves, FillsBytes, MovesBytes}
 use Rattle.blocks.proofs.Stores.{length-store}
 use Rattle.blocks.proofs.FreeBlocks.{free-at}
-use Rattle.blocks.proofs.ByteRule.{store-fills, fills-moves, moves-bytes}
+use Rattle.blocks.proofs.ByteRule.{moves-bytes, store-bytes}
 use Rattle.flushes.specs.Flush.{nextFree, flushedCard, flushing, flushingIf, flushOf}
 use Rattle.windows.specs.Calls.{fresh, startOf, unstarted, openOf, closeOf}
 use Rattle.events.specs.Event.{eventOf}
 use Rattle.queries.specs.Query.{queryOf}
 use Rattle.means.specs.Mean.{meanOf}
 use Rattle.removals.specs.Removal.{removing, removeOf}
+use Rattle.batches.specs.Batch.{removeAllOf}
 use Rattle.plans.specs.Merging.{taking}
 use Rattle.plans.specs.Step.{stepFormed, outputOn, writtenOn, stepping, stepOf}
 use Rattle.merges.proofs.Filling.{step-moves, step-length}
-use Rattle.engine.specs.Calls.{Call, Open, Event, Close, Remove, Flush, Step, Query, Mean, storeIn, withStore, withState, noHit, probeCall}
+use Rattle.engine.specs.Calls.{Call, Open, Event, Close, Remove, RemoveAll, Flush, Step, Query, Mean, storeIn, withStore, withState, noHit, probeCall}
 
 -- The rule ---------------------------------------------------------------------------------------------------------------
 
@@ -40,10 +41,40 @@ pub record Moved (card card′ : List ℕ) : Type 0 where
 stays : (card : List ℕ) → Moved card card
 stays card = record { long = refl; rule = λ k h. inl refl }
 
+-- where a card is of whole blocks, it is the bytes of its words
+abbrev Whole : List ℕ → Type 0
+Whole card = (n : ℕ) → length card ≡ 4096 * n → bytes (words card) ≡ card
+
+-- so it is where its bytes are bytes
+whole-small : (card : List ℕ) → Below 256 card → Whole card
+whole-small card small n long = bytes-words card small (omega arith)
+
 -- words that move as is allowed
-by-words : (card : List ℕ) (n : ℕ) → Below 256 card → length card ≡ 4096 * n → (W′ : List ℕ) → length W′ ≡ length (words card) → Moves (words card) W′ → Moved card (bytes W′)
-by-words card n small long W′ l m =
-    record { long = omega (arith, length-bytes W′, length-words card); rule = moves-bytes card W′ small (omega arith) l m }
+by-words : (card : List ℕ) (n : ℕ) → Whole card → length card ≡ 4096 * n → (W′ : List ℕ) → length W′ ≡ length (words card) → Moves (words card) W′ → Moved card (bytes W′)
+by-words card n whole long W′ l m =
+    record { long = omega (arith, length-bytes W′, length-words card); rule = moves-bytes card W′ (whole n long) (omega arith) l m }
+
+-- what a call that frees no block does to a card: each byte stays, or was 255
+record Filled (card card′ : List ℕ) : Type 0 where
+  long : length card′ ≡ length card
+  rule : FillsBytes card card′
+  whole : Whole card′
+
+-- that is allowed
+filled-moved : {card card′ : List ℕ} → Filled card card′ → Moved card card′
+filled-moved f = record { long = f .long; rule = λ k h. ⊎-elim (λ s. inl s) (λ o. inr (inl o)) (f .rule k h) }
+
+-- a card that is left
+filled-stays : (card : List ℕ) → Whole card → Filled card card
+filled-stays card w = record { long = refl; rule = λ k h. inl refl; whole = w }
+
+-- one call after another
+filled-on : {a b c : List ℕ} → Filled a b → Filled b c → Filled a c
+filled-on f g = record {
+  long = g .long ∙ f .long;
+  rule = λ k h. ⊎-elim (λ s. ⊎-elim (λ t. inl (t ∙ s)) (λ o. inr (sym s ∙ o)) (g .rule k (omega (arith, f .long)))) (λ o. inr o) (f .rule k h);
+  whole = g .whole;
+}
 
 -- Outcomes ---------------------------------------------------------------------------------------------------------------
 
@@ -58,12 +89,14 @@ whole-blocks s card one two = eqb-true (length card) (s .lengths .card) two ∙ 
 
 -- Flush ------------------------------------------------------------------------------------------------------------------
 
-module _ (s : State) (card : List ℕ) (small : Below 256 card) (long : length card ≡ 4096 * blocks s) where
+module _ (s : State) (card : List ℕ) (w : Whole card) (long : length card ≡ 4096 * blocks s) where
   -- a store to the next free block
-  to-free : (c : List ℕ) → empty (freeBlocks (words card) (blocks s) (s .taken)) ≡ false → Moved card (bytes (store (words card) (nextFree s (words card) ∷ []) c))
-  to-free c e =
-      by-words card (blocks s) small long (store W (b ∷ []) c) (length-store W (b ∷ []) c)
-      (fills-moves W (store W (b ∷ []) c) (store-fills W (b ∷ []) c (and-both (isFree W b) true (free-at W (blocks s) (s .taken) 0 (empty-not (freeBlocks W (blocks s) (s .taken)) e) .1) refl)))
+  to-free : (c : List ℕ) → empty (freeBlocks (words card) (blocks s) (s .taken)) ≡ false → Filled card (bytes (store (words card) (nextFree s (words card) ∷ []) c))
+  to-free c e = record {
+    long = omega (arith, length-bytes W′, length-words card, length-store W (b ∷ []) c);
+    rule = store-bytes card (blocks s) (w (blocks s) long) long (b ∷ []) c (and-both (isFree W b) true (free-at W (blocks s) (s .taken) 0 (empty-not (freeBlocks W (blocks s) (s .taken)) e) .1) refl);
+    whole = λ n l. ap bytes (words-bytes W′);
+  }
     where
       W : List ℕ
       W = words card
@@ -71,25 +104,28 @@ module _ (s : State) (card : List ℕ) (small : Below 256 card) (long : length c
       b : ℕ
       b = nextFree s W
 
-  flushed-moved : empty (freeBlocks (words card) (blocks s) (s .taken)) ≡ false → Moved card (bytes (flushedCard s (words card) (nextFree s (words card))))
+      W′ : List ℕ
+      W′ = store W (b ∷ []) c
+
+  flushed-filled : empty (freeBlocks (words card) (blocks s) (s .taken)) ≡ false → Filled card (bytes (flushedCard s (words card) (nextFree s (words card))))
   unfolding flushedCard
-  flushed-moved e = to-free _ e
+  flushed-filled e = to-free _ e
 
   -- what follows a flush, where that leaves the card as the flush left it
-  module _ {S : Type 0} (f : S → List ℕ) (q : S) (here : Moved card (f q)) (k : State → List ℕ → Outcome S)
-      (h : (t : State) (after : List ℕ) → Moved card after → Moved card (f (stateOf q (k t after)))) where
-    flushing-moved : Moved card (f (stateOf q (flushing s card k)))
+  module _ {S : Type 0} (f : S → List ℕ) (q : S) (here : Filled card (f q)) (k : State → List ℕ → Outcome S)
+      (h : (t : State) (after : List ℕ) → Filled card after → Filled card (f (stateOf q (k t after)))) where
+    flushing-filled : Filled card (f (stateOf q (flushing s card k)))
     unfolding flushing
-    flushing-moved =
-        after-choose P q _ _ _ (λ y. h s card (stays card))
-        (λ n. after-if P q here _ 10 _ (λ a. after-if P q here _ 11 _ (λ b. after-if P q here _ 12 _ (λ c. h _ _ (flushed-moved c)))))
+    flushing-filled =
+        after-choose P q _ _ _ (λ y. h s card (filled-stays card w))
+        (λ n. after-if P q here _ 10 _ (λ a. after-if P q here _ 11 _ (λ b. after-if P q here _ 12 _ (λ c. h _ _ (flushed-filled c)))))
       where
         P : S → Type 0
-        P r = Moved card (f r)
+        P r = Filled card (f r)
 
-    flushing-if-moved : (t : Bool) → Moved card (f (stateOf q (flushingIf t s card k)))
+    flushing-if-filled : (t : Bool) → Filled card (f (stateOf q (flushingIf t s card k)))
     unfolding flushingIf
-    flushing-if-moved t = after-choose (λ r. Moved card (f r)) q t _ _ (λ y. flushing-moved) (λ n. h s card (stays card))
+    flushing-if-filled t = after-choose (λ r. Filled card (f r)) q t _ _ (λ y. flushing-filled) (λ n. h s card (filled-stays card w))
 
 -- The calls --------------------------------------------------------------------------------------------------------------
 
@@ -100,9 +136,9 @@ start-moved card register =
     after-if (λ (q : Probe). Moved card (q .card)) (unstarted card register) (stays card) _ 2 _
     (λ e. record { long = length-replicate (length card) 255; rule = λ k h. inr (inr (λ j l q. getD-replicate (length card) j 255 0 l)) })
 
-event-moved : (p : Probe) (n : Name) → Below 256 (p .card) → Moved (p .card) (stateOf p (eventOf p n) .card)
+event-filled : (p : Probe) (n : Name) → Whole (p .card) → Filled (p .card) (stateOf p (eventOf p n) .card)
 unfolding eventOf
-event-moved p n small =
+event-filled p n w =
     pass _ 1 _ (λ one.
     pass _ 2 _ (λ two.
     pass _ 3 _ (λ three.
@@ -111,47 +147,53 @@ event-moved p n small =
     pass _ 6 _ (λ six.
     pass _ 8 _ (λ eight.
     pass _ 9 _ (λ nine.
-    flushing-if-moved (p .state) (p .card) small (whole-blocks (p .state) (p .card) (not-false _ one) (and-left (sameLength (p .card) (p .state .lengths .card)) _ (not-false _ two))) (λ (q : Probe). q .card) p (stays (p .card)) _ (λ t after m. m) _))))))))
+    flushing-if-filled (p .state) (p .card) w (whole-blocks (p .state) (p .card) (not-false _ one) (and-left (sameLength (p .card) (p .state .lengths .card)) _ (not-false _ two))) (λ (q : Probe). q .card) p here _ (λ t after m. m) _))))))))
   where
     P : Probe → Type 0
-    P q = Moved (p .card) (q .card)
+    P q = Filled (p .card) (q .card)
+
+    here : P p
+    here = filled-stays (p .card) w
 
     pass : (t : Bool) (k : ℕ) (o : Outcome Probe) → (t ≡ false → P (stateOf p o)) → P (stateOf p (refuseIf t k o))
-    pass = after-if P p (stays (p .card))
+    pass = after-if P p here
 
-module _ (p : Store) (small : Below 256 (p .card)) where
-  -- what is left has a card whose bytes moved as is allowed
-  abbrev AsAllowed : Store → Type 0
-  AsAllowed q = Moved (p .card) (q .card)
+module _ (p : Store) (w : Whole (p .card)) where
+  -- what is left has a card that was only filled
+  abbrev OnlyFilled : Store → Type 0
+  OnlyFilled q = Filled (p .card) (q .card)
 
-  pass : (t : Bool) (k : ℕ) (o : Outcome Store) → (t ≡ false → AsAllowed (stateOf p o)) → AsAllowed (stateOf p (refuseIf t k o))
-  pass = after-if AsAllowed p (stays (p .card))
+  here : OnlyFilled p
+  here = filled-stays (p .card) w
 
-  flush-moved : AsAllowed (stateOf p (flushOf p))
+  pass : (t : Bool) (k : ℕ) (o : Outcome Store) → (t ≡ false → OnlyFilled (stateOf p o)) → OnlyFilled (stateOf p (refuseIf t k o))
+  pass = after-if OnlyFilled p here
+
+  flush-filled : OnlyFilled (stateOf p (flushOf p))
   unfolding flushOf
-  flush-moved =
+  flush-filled =
       pass _ 1 _ (λ one.
       pass _ 2 _ (λ two.
-      flushing-moved (p .state) (p .card) small (whole-blocks (p .state) (p .card) (not-false _ one) (not-false _ two)) (λ (q : Store). q .card) p (stays (p .card)) _ (λ t after m. m)))
+      flushing-filled (p .state) (p .card) w (whole-blocks (p .state) (p .card) (not-false _ one) (not-false _ two)) (λ (q : Store). q .card) p here _ (λ t after m. m)))
 
-  removal-moved : (w : ℕ) → AsAllowed (stateOf p (removeOf p w))
+  removal-filled : (v : ℕ) → OnlyFilled (stateOf p (removeOf p v))
   unfolding removeOf removing
-  removal-moved w =
+  removal-filled v =
       pass _ 1 _ (λ one.
       pass _ 2 _ (λ two.
       pass _ 3 _ (λ three.
       pass _ 5 _ (λ five.
       pass _ 7 _ (λ seven.
-      flushing-if-moved (p .state) (p .card) small (whole-blocks (p .state) (p .card) (not-false _ one) (not-false _ two)) (λ (q : Store). q .card) p (stays (p .card)) _ (λ t after m. m) _)))))
+      flushing-if-filled (p .state) (p .card) w (whole-blocks (p .state) (p .card) (not-false _ one) (not-false _ two)) (λ (q : Store). q .card) p here _ (λ t after m. m) _)))))
 
-  step-moved : AsAllowed (stateOf p (stepOf p))
+  step-moved : Moved (p .card) (stateOf p (stepOf p) .card)
   unfolding stepOf stepping
   step-moved =
-      pass _ 1 _ (λ one.
-      pass _ 2 _ (λ two.
-      pass _ 3 _ (λ three.
-      pass _ 12 _ (λ twelve.
-      pass _ 13 _ (λ thirteen. written (whole-blocks (p .state) (p .card) (not-false _ one) (not-false _ two)) (not-false _ three))))))
+      on _ 1 _ (λ one.
+      on _ 2 _ (λ two.
+      on _ 3 _ (λ three.
+      on _ 12 _ (λ twelve.
+      on _ 13 _ (λ thirteen. written (whole-blocks (p .state) (p .card) (not-false _ one) (not-false _ two)) (not-false _ three))))))
     where
       s : State
       s = p .state
@@ -159,10 +201,26 @@ module _ (p : Store) (small : Below 256 (p .card)) where
       W : List ℕ
       W = words (p .card)
 
+      P : Store → Type 0
+      P q = Moved (p .card) (q .card)
+
+      on : (t : Bool) (k : ℕ) (o : Outcome Store) → (t ≡ false → P (stateOf p o)) → P (stateOf p (refuseIf t k o))
+      on = after-if P p (stays (p .card))
+
       written : length (p .card) ≡ 4096 * blocks s → stepFormed W s ≡ true → Moved (p .card) (bytes (writtenOn W s (taking W s) (suc (s .merge .steps)) (outputOn W s (taking W s))))
       written long formed =
           let l : length W ≡ 1024 * blocks s = omega (arith, length-words (p .card)) in
-          by-words (p .card) (blocks s) small long _ (step-length W s l) (step-moves W s l formed)
+          by-words (p .card) (blocks s) w long _ (step-length W s l) (step-moves W s l formed)
+
+-- several removals: each fills what the one before left
+removals-filled : (p : Store) → Whole (p .card) → (ws : List ℕ) → Filled (p .card) (stateOf p (removeAllOf p ws) .card)
+unfolding removeAllOf
+removals-filled p w ws =
+    pass p w _ 1 _ (λ one.
+    pass p w _ 2 _ (λ two.
+    pass p w _ 3 _ (λ three.
+    pass p w _ 16 _ (λ sixteen.
+    after-turn (OnlyFilled p w) removeOf (λ t v f. filled-on f (removal-filled t (f .whole) v)) p (here p w) p (here p w) ws))))
 
 -- every call: nothing is asked but that the card's bytes are bytes
 pub call-moved : (p : Probe) → Below 256 (p .card) → (c : Call) → Moved (p .card) (stateOf p (probeCall p c) .card)
@@ -172,15 +230,19 @@ call-moved p small c = go c
     P : Probe → Type 0
     P q = Moved (p .card) (q .card)
 
-    here : P p
-    here = stays (p .card)
+    same : P p
+    same = stays (p .card)
+
+    w : Whole (p .card)
+    w = whole-small (p .card) small
 
     go : (c : Call) → P (stateOf p (probeCall p c))
-    go Open = after-carry P (withState p) (p .state) p (openOf (p .state)) here here
-    go (Event n) = event-moved p n small
-    go Close = after-carry P (withState p) (p .state) p (closeOf (p .state)) here here
-    go (Remove w) = after-carry P (withStore p) (storeIn p) p (removeOf (storeIn p) w) here (removal-moved (storeIn p) small w)
-    go Flush = after-carry P (withStore p) (storeIn p) p (flushOf (storeIn p)) here (flush-moved (storeIn p) small)
-    go Step = after-carry P (withStore p) (storeIn p) p (stepOf (storeIn p)) here (step-moved (storeIn p) small)
-    go (Query k ns) = after-carry P (λ (l : List Hit). p) (replicate k noHit) p (queryOf p ns (replicate k noHit)) here here
-    go (Mean n) = after-carry P (λ (u : Unit {0}). p) tt p (meanOf p n) here here
+    go Open = after-carry P (withState p) (p .state) p (openOf (p .state)) same same
+    go (Event n) = filled-moved (event-filled p n w)
+    go Close = after-carry P (withState p) (p .state) p (closeOf (p .state)) same same
+    go (Remove v) = after-carry P (withStore p) (storeIn p) p (removeOf (storeIn p) v) same (filled-moved (removal-filled (storeIn p) w v))
+    go (RemoveAll vs) = after-carry P (withStore p) (storeIn p) p (removeAllOf (storeIn p) vs) same (filled-moved (removals-filled (storeIn p) w vs))
+    go Flush = after-carry P (withStore p) (storeIn p) p (flushOf (storeIn p)) same (filled-moved (flush-filled (storeIn p) w))
+    go Step = after-carry P (withStore p) (storeIn p) p (stepOf (storeIn p)) same (step-moved (storeIn p) w)
+    go (Query k ns) = after-carry P (λ (l : List Hit). p) (replicate k noHit) p (queryOf p ns (replicate k noHit)) same same
+    go (Mean n) = after-carry P (λ (u : Unit {0}). p) tt p (meanOf p n) same same

@@ -15,9 +15,11 @@ use Rattle.means.specs.Mean.{meanOf}
 use Rattle.means.proofs.Refused.{mean-unchanged}
 use Rattle.removals.specs.Removal.{removeOf}
 use Rattle.removals.proofs.Refused.{removal-unchanged}
+use Rattle.batches.specs.Batch.{removeAllOf}
+use Rattle.batches.proofs.Refused.{batch-unchanged}
 use Rattle.plans.specs.Step.{stepOf}
 use Rattle.merges.proofs.Refused.{step-unchanged}
-use Rattle.engine.specs.Calls.{Call, Open, Event, Close, Remove, Flush, Step, Query, Mean, storeIn, withStore, withState, noHit, probeCall}
+use Rattle.engine.specs.Calls.{Call, Open, Event, Close, Remove, RemoveAll, Flush, Step, Query, Mean, storeIn, withStore, withState, noHit, probeCall}
 
 pub call-unchanged : (p : Probe) (c : Call) → Unchanged p (probeCall p c)
 unfolding probeCall
@@ -25,6 +27,7 @@ call-unchanged p Open = unchanged-carry (withState p) (p .state) p (openOf (p .s
 call-unchanged p (Event n) = event-unchanged p n
 call-unchanged p Close = unchanged-carry (withState p) (p .state) p (closeOf (p .state)) refl (close-unchanged (p .state))
 call-unchanged p (Remove w) = unchanged-carry (withStore p) (storeIn p) p (removeOf (storeIn p) w) refl (removal-unchanged (storeIn p) w)
+call-unchanged p (RemoveAll ws) = unchanged-carry (withStore p) (storeIn p) p (removeAllOf (storeIn p) ws) refl (batch-unchanged (storeIn p) ws)
 call-unchanged p Flush = unchanged-carry (withStore p) (storeIn p) p (flushOf (storeIn p)) refl (flush-unchanged (storeIn p))
 call-unchanged p Step = unchanged-carry (withStore p) (storeIn p) p (stepOf (storeIn p)) refl (step-unchanged (storeIn p))
 call-unchanged p (Query k ns) =

@@ -2,7 +2,7 @@
 use mathlib.Core.List.{List, [], _∷_}
 use lib.ListN.{replicate}
 use Rattle.answers.specs.Answers.{Answer, Outcome, answerOf, stateOf, carry}
-pub use Rattle.answers.specs.Calls.{Call, Open, Event, Close, Remove, Flush, Step, Query, Mean}
+pub use Rattle.answers.specs.Calls.{Call, Open, Event, Close, Remove, RemoveAll, Flush, Step, Query, Mean}
 use Rattle.answers.specs.declared.Hit.{Hit}
 use Rattle.state.specs.declared.State.{State}
 use Rattle.state.specs.Probe.{Store, Probe}
@@ -12,6 +12,7 @@ use Rattle.flushes.specs.Flush.{flushOf}
 use Rattle.queries.specs.Query.{queryOf}
 pub use Rattle.ranking.specs.Top.{noHit}
 use Rattle.removals.specs.Removal.{removeOf}
+use Rattle.batches.specs.Batch.{removeAllOf}
 use Rattle.means.specs.Mean.{meanOf}
 use Rattle.plans.specs.Step.{stepOf}
 
@@ -31,6 +32,7 @@ probeCall p Open = carry (withState p) (openOf (p .state))
 probeCall p (Event n) = eventOf p n
 probeCall p Close = carry (withState p) (closeOf (p .state))
 probeCall p (Remove w) = carry (withStore p) (removeOf (storeIn p) w)
+probeCall p (RemoveAll ws) = carry (withStore p) (removeAllOf (storeIn p) ws)
 probeCall p Flush = carry (withStore p) (flushOf (storeIn p))
 probeCall p Step = carry (withStore p) (stepOf (storeIn p))
 probeCall p (Query k ns) = carry (λ (l : List Hit). p) (queryOf p ns (replicate k noHit))

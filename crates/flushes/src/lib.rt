@@ -30,7 +30,7 @@ pub enum Target {
 }
 
 // The blocks of finished partitions.
-fn finished_blocks(p: Partitions) -> u64
+pub fn finished_blocks(p: Partitions) -> u64
     requires { ⌜ p .used ≤ 51 ⌝ }
     ensures { λ r. ⌜ (r ≤ 219043332045) × (r ≡ totalBy (λ q. blocksFor (q .length)) (finished p)) ⌝ }
 {

@@ -9,7 +9,7 @@ use Rattle.answers.specs.Answers.{Answer, done, number, hits, mean, refused}
 use Rattle.answers.specs.declared.Hit.{Hit}
 use Rattle.identifiers.specs.Names.{Name, badLength, numberOf}
 use Rattle.identifiers.specs.Register.{names, registerRule, added}
-use Rattle.engine.specs.Calls.{Call, Open, Event, Close, Remove, Flush, Step, Query, Mean}
+use Rattle.engine.specs.Calls.{Call, Open, Event, Close, Remove, RemoveAll, Flush, Step, Query, Mean}
 use Rattle.accounts.specs.Books.{expected}
 use Rattle.histories.specs.Statement.{answers}
 
@@ -138,6 +138,10 @@ table =
     -- window 1 the mean is 1. DOOR, whose only window is removed, and an identifier never counted are refused with 15, and an empty one with 4
     ∷ History 4 (three ++ (Flush ∷ Open ∷ Event LUCKY ∷ Mean LUCKY ∷ Close ∷ Mean LUCKY ∷ Remove 1 ∷ Mean LUCKY ∷ Remove 3 ∷ Mean DOOR ∷ Mean (As 16) ∷ Mean [] ∷ []))
     (mean 2 0 2 ∷ done ∷ mean 1 2 3 ∷ done ∷ mean 1 0 2 ∷ done ∷ refused 15 ∷ refused 15 ∷ refused 4 ∷ [])
+    -- windows removed together: no window, or one named twice, is refused with 16; window 9, never given, with 7 though window 1 stands before it, and window 4, under way,
+    -- with 5; each time nothing moves. 3 and 1 go together, and LUCKY is in window 2 alone, the only one, which weighs 0
+    ∷ History 4 (three ++ (RemoveAll [] ∷ RemoveAll (1 ∷ 2 ∷ 1 ∷ []) ∷ RemoveAll (1 ∷ 9 ∷ []) ∷ asked ∷ Open ∷ Event DOOR ∷ RemoveAll (1 ∷ 4 ∷ []) ∷ asked ∷ RemoveAll (3 ∷ 1 ∷ []) ∷ asked ∷ []))
+    (refused 16 ∷ refused 16 ∷ refused 7 ∷ hits (hit 1 24 ∷ hit 3 8 ∷ hit 2 8 ∷ []) 4 ∷ number 4 ∷ done ∷ refused 5 ∷ hits (hit 1 24 ∷ hit 3 8 ∷ hit 2 8 ∷ []) 4 ∷ done ∷ hits (hit 2 0 ∷ []) 1 ∷ [])
     -- the command program's example
     ∷ History 16 (Open ∷ Event LUCKY ∷ Event LUCKY ∷ Event LUCKY ∷ Event TILT ∷ Close ∷ Open ∷ Event LUCKY ∷ Close ∷ Query 2 (LUCKY ∷ TILT ∷ []) ∷ [])
     (number 1 ∷ done ∷ done ∷ done ∷ done ∷ done ∷ number 2 ∷ done ∷ done ∷ hits (hit 1 16 ∷ hit 2 0 ∷ []) 3 ∷ [])

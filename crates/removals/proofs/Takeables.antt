@@ -24,7 +24,7 @@ use Rattle.sums.proofs.Windowed.{window-fits, counts-ordered, counts-some, coun
 
 -- ---- signed numbers
 
-natAbs-neg : (z : ℤ) → natAbs (negℤ z) ≡ natAbs z
+pub natAbs-neg : (z : ℤ) → natAbs (negℤ z) ≡ natAbs z
 natAbs-neg (pos zero) = refl
 natAbs-neg (pos (suc n)) = refl
 natAbs-neg (negsuc n) = refl

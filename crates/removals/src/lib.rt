@@ -31,7 +31,7 @@ ghost use Rattle.removals.specs.Promises.{Removes};
 ghost use Rattle.removals.specs.Taking.{Takeable, Removable};
 
 // Takes each of a window's counts back: it is added to the buffer negated, and a sum that comes to 0 is dropped.
-fn take_back(b: Buffer, c: Counts) -> Buffer
+pub fn take_back(b: Buffer, c: Counts) -> Buffer
     requires { ⌜ Takeable b c ⌝ }
     ensures { λ r. ⌜ r ≡ bufferOf (nonzero (foldr put (buffered b) (negated (countsIn c)))) ⌝ }
 {
@@ -98,7 +98,7 @@ fn flushed(s: State, card: &mut [u8], block: u16) -> State
 }
 
 // Is it the open window's number?
-fn names_open(w: Windows, window: u32) -> bool
+pub fn names_open(w: Windows, window: u32) -> bool
     ensures { λ r. ⌜ r ≡ (not (eqb (w .current) 0) && eqb window (w .current)) ⌝ }
 {
     !(w.current == 0) & (window == w.current as u32)
@@ -129,7 +129,7 @@ fn is_live(c: Counts) -> bool
 }
 
 // Is there no such window to remove: none that is live, none given yet, or none in N?
-fn not_live(w: Windows, window: u32, c: Counts) -> bool
+pub fn not_live(w: Windows, window: u32, c: Counts) -> bool
     requires { ⌜ c .used ≤ 64 ⌝ }
     ensures { λ r. ⌜ r ≡ (not (isLive (countsIn c)) || (ltb (w .last) window || eqb (w .live) 0)) ⌝ }
 {
@@ -137,7 +137,7 @@ fn not_live(w: Windows, window: u32, c: Counts) -> bool
 }
 
 // Do buffered postings and counts together exceed 128?
-fn must_flush(b: Buffer, c: Counts) -> bool
+pub fn must_flush(b: Buffer, c: Counts) -> bool
     requires { ⌜ (b .used ≤ 128) × (c .used ≤ 64) ⌝ }
     ensures { λ r. ⌜ r ≡ ltb 128 (length (buffered b) + length (countsIn c)) ⌝ }
 {
@@ -145,7 +145,7 @@ fn must_flush(b: Buffer, c: Counts) -> bool
 }
 
 // Removes a window whose counts are read, with a flush first where the buffer has no room for them.
-fn remove_counts(s: State, card: &mut [u8], window: u32, c: Counts) -> Replied
+pub fn remove_counts(s: State, card: &mut [u8], window: u32, c: Counts) -> Replied
     requires { ⌜ Removable s (now card) window c ⌝ }
     ensures { λ r. ⌜ Gives (storeOf s (now (card .entry))) (removing s (now (card .entry)) window (countsIn c))
         (replied (r .reply)) (storeOf (r .state) (now (card .exit))) ⌝ }

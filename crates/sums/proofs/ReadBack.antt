@@ -21,6 +21,7 @@ use Rattle.sums.specs.Views.{Tidy, heldFor}
 use Rattle.sums.specs.Tally.{ofWindow, countsOf, listsRuled, windowFormed, ReadAll}
 use Rattle.sums.specs.Steps.{Begun}
 use Rattle.sums.proofs.Tally.{Tally, faulty, tallied, tallyIf, tallyOf, isFine, bufferItems, Walkable, groups}
+use Rattle.sums.proofs.Windowed.{counts-pass}
 use Rattle.sums.proofs.Tallies.{joined-keyed, all-keyed, tally-lists}
 use Rattle.sums.proofs.Keeps.{Watched}
 use Rattle.sums.proofs.Walking.{Fault}
@@ -123,6 +124,11 @@ module _ (W : List ℕ) (s : State) (b : Buffer) (ws H : List ℕ) (start : ℕ)
       ∙ ap (λ (t : Bool). cond t (tallyIf (sumsInRange (ofWindow w (joined lists)) && sumsInRange (ofWindow w (joined lists ++ buffered (s .buffer)))) (countsOf w (joined lists ++ buffered (s .buffer)))) faulty)
       (every-map listRule (postingsOf W) (finished (s .partitions)))
 
+  -- counts have keys
+  counts-keyed : (w : ℕ) → every isKeyed (countsOf w (stored W s)) ≡ true
+  unfolding inPartitions stored
+  counts-keyed w = counts-pass w (joined lists ++ buffered (s .buffer)) isKeyed (λ q c e. e) (all-keyed w lists (buffered (s .buffer)) lists-keyed (ok .keyed))
+
   -- a number that no window has is well formed
   formed-above : (w : ℕ) → 65535 < w → windowFormed W s w ≡ true
   unfolding inPartitions stored sumsInRange countsOf pairs nonzero
@@ -135,6 +141,7 @@ module _ (W : List ℕ) (s : State) (b : Buffer) (ws H : List ℕ) (start : ℕ)
     read-back m h = record {
       fine = sym (and-both (listsRuled W s) _ (at 65536 m .0) (elem-every (windowFormed W s) ws (λ v e. at v (rw e) .1)));
       counts = λ y v e. at v (rw e) .2;
+      keyed = λ y v. counts-keyed v;
       long = slots;
       tidy = tidy;
     }
@@ -147,6 +154,7 @@ module _ (W : List ℕ) (s : State) (b : Buffer) (ws H : List ℕ) (start : ℕ)
     read-fault f = record {
       fine = sym (by-test (listsRuled W s) (λ y. rw y (unformed (rw y at bad))) (λ n. rw n));
       counts = λ y. never y;
+      keyed = λ y. never y;
       long = slots;
       tidy = tidy;
     }

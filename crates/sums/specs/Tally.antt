@@ -14,6 +14,7 @@ use Rattle.partitions.specs.Reading.{postingsOf, inPartitions, stored}
 use Rattle.partitions.specs.Formed.{listRule, sumsInRange}
 use Rattle.sums.specs.declared.Judged.{Judged}
 use Rattle.kway.specs.Parts.{part}
+use Rattle.scans.specs.Keys.{isKeyed}
 use Rattle.sums.specs.Views.{countsIn, Neat, heldFor, Tidy}
 
 -- the postings of window w
@@ -48,5 +49,6 @@ pub record ReadOf (W : List ℕ) (s : State) (w : ℕ) (r : Judged) : Type 0 whe
 pub record ReadAll (W : List ℕ) (s : State) (ws : List ℕ) (r : Bool) (T : List ℕ) : Type 0 where
   pub fine : r ≡ (listsRuled W s && every (windowFormed W s) ws)
   pub counts : r ≡ true → (w : ℕ) → elem w ws ≡ true → heldFor ws T w ≡ countsOf w (stored W s)
+  pub keyed : r ≡ true → (w : ℕ) → every isKeyed (countsOf w (stored W s)) ≡ true
   pub long : length T ≡ 65 * length ws
   pub tidy : (j : ℕ) → j < length ws → Tidy (getD ws j 0) (part 65 j T)

@@ -86,7 +86,7 @@ fn past(at: usize, f: Front, top: u32) -> usize
 }
 
 // The place at which a window is first named; how many are named where it is not.
-fn place_of(windows: &[u32], window: u32) -> usize
+pub fn place_of(windows: &[u32], window: u32) -> usize
     ensures { λ r. ⌜ r ≡ firstPlace window (now (windows .entry)) ⌝ }
 {
     let n = windows.len();

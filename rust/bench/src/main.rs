@@ -8,7 +8,7 @@ mod timing;
 
 use probes::{Probe, alike, chained, half_full, name, register, to_merge, with_full_buffer};
 use second::engine;
-use second::state::Hit;
+use second::state::{Hit, State};
 use std::hint::black_box;
 use std::path::Path;
 use timing::{compare, once, print, title};
@@ -17,6 +17,9 @@ const BLOCKS: [usize; 4] = [64, 256, 1_024, 4_096];
 const BLOCK: usize = 4_096;
 const ENTRIES: usize = 1_024;
 const PLACES: usize = 32;
+const WINDOWS: u32 = 32;
+/// The most blocks that removals of so many windows write: level 0 has no more.
+const WRITTEN: usize = 16;
 
 /// Times the judging of a register, and tells the proved engine's time.
 fn judging(case: &str, register: &[u8]) -> f64 {
@@ -145,6 +148,77 @@ fn mean(blocks: usize, probe: &Probe, name: &[u8]) {
     );
 }
 
+/// What both engines remove windows from. What that writes is put back, the blocks of the card too.
+struct Removing {
+    first: Probe,
+    other: Probe,
+    start: Probe,
+}
+
+impl Removing {
+    fn of(start: Probe) -> Self {
+        Removing {
+            first: start.clone(),
+            other: start.clone(),
+            start,
+        }
+    }
+
+    /// Times removals by both engines, and tells the proved engine's time.
+    fn compare(
+        &mut self,
+        case: &str,
+        mut proved: impl FnMut(&mut [u8], &mut [u8]),
+        mut second: impl FnMut(&mut State, &mut [u8]),
+    ) -> f64 {
+        let start = &self.start;
+        let next = (usize::from(start.state.taken) + 1) * BLOCK;
+        let free = |card: &mut [u8]| card[next..next + WRITTEN * BLOCK].fill(255);
+        let (first, other) = (&mut self.first, &mut self.other);
+        compare(
+            case,
+            || {
+                first.image.copy_from_slice(&start.image);
+                free(&mut first.card);
+                proved(&mut first.image, &mut first.card);
+            },
+            || {
+                other.state.clone_from(&start.state);
+                free(&mut other.card);
+                second(&mut other.state, &mut other.card);
+            },
+        )
+    }
+}
+
+fn removals() {
+    title("removing 32 windows", "blocks");
+    let windows: Vec<u32> = (1..=WINDOWS).collect();
+    let ratios = BLOCKS.map(|blocks| {
+        let mut removing = Removing::of(half_full(blocks, ENTRIES));
+        let singly = removing.compare(
+            &format!("{blocks}, one by one"),
+            |image, card| {
+                for &window in &windows {
+                    assert_eq!(proved::remove(image, card, window), Ok(()));
+                }
+            },
+            |state, card| {
+                for &window in &windows {
+                    assert_eq!(engine::remove(state, card, window), Ok(()));
+                }
+            },
+        );
+        let together = removing.compare(
+            &format!("{blocks}, together"),
+            |image, card| assert_eq!(proved::remove_all(image, card, &windows), Ok(())),
+            |state, card| assert_eq!(engine::remove_all(state, card, &windows), Ok(())),
+        );
+        format!("{:.2}", together / singly)
+    });
+    println!("together, to one by one: {}", ratios.join(", "));
+}
+
 /// Steps to the end, or so many; gives how many were taken.
 fn steps(most: usize, mut step: impl FnMut() -> bool) -> usize {
     (0..most).take_while(|_| step()).count()
@@ -234,6 +308,10 @@ fn stacks() {
     stack("remove", &probes, |probe| {
         assert!(proved::remove(&mut probe.image, &mut probe.card, 1).is_ok());
     });
+    let windows: Vec<u32> = (1..=WINDOWS).collect();
+    stack("remove_all", &probes, |probe| {
+        assert!(proved::remove_all(&mut probe.image, &mut probe.card, &windows).is_ok());
+    });
     stack("all steps of a merge", &probes, |probe| {
         while proved::step(&mut probe.image, &mut probe.card).is_ok() {}
     });
@@ -262,6 +340,7 @@ fn main() {
     events();
     queries();
     means();
+    removals();
     merges();
     stacks();
 }

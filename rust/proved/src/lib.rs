@@ -58,6 +58,14 @@ mod exported {
             card_length: usize,
             window: u32,
         ) -> u32;
+        pub fn gemsilver_remove_all(
+            image: *mut u8,
+            image_length: usize,
+            card: *mut u8,
+            card_length: usize,
+            windows: *const u32,
+            window_count: usize,
+        ) -> u32;
         pub fn gemsilver_step(
             image: *mut u8,
             image_length: usize,
@@ -198,6 +206,22 @@ pub fn remove(image: &mut [u8], card: &mut [u8], window: u32) -> Result<(), u32>
             card.as_mut_ptr(),
             card.len(),
             window,
+        )
+    })
+}
+
+/// Takes out all windows of a list, of 1 to 32 different ones, in the order given, or none of them.
+pub fn remove_all(image: &mut [u8], card: &mut [u8], windows: &[u32]) -> Result<(), u32> {
+    // Sound: each pointer and length are those of one slice, slices lent for writing overlap nothing, and the list of windows,
+    // which is aligned as its numbers are, is only read.
+    done(unsafe {
+        exported::gemsilver_remove_all(
+            image.as_mut_ptr(),
+            image.len(),
+            card.as_mut_ptr(),
+            card.len(),
+            windows.as_ptr(),
+            windows.len(),
         )
     })
 }

@@ -34,6 +34,8 @@ pub const STEP: usize = 16;
 pub const QUERY_IDENTIFIERS: usize = 5;
 /// The most places in a list of hits.
 pub const HITS: usize = 32;
+/// The most windows that are removed together.
+pub const REMOVED_WINDOWS: usize = 32;
 
 /// Whether a card may have this many bytes.
 pub fn is_card_length(bytes: usize) -> bool {

@@ -1,6 +1,7 @@
 //! Why a call is refused.
 
-/// The reasons for a refusal, in the order in which they are checked.
+/// The reasons for a refusal, in the order in which they are checked; but the last
+/// one comes after 3.
 #[derive(Clone, Copy, PartialEq, Eq, PartialOrd, Ord, Hash, Debug)]
 #[repr(u8)]
 pub enum Refusal {
@@ -34,6 +35,8 @@ pub enum Refusal {
     BadQuery = 14,
     /// The identifier counts in no closed window.
     Uncounted = 15,
+    /// A list of windows is empty, too long, or names one twice.
+    BadList = 16,
 }
 
 impl Refusal {

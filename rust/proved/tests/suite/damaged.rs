@@ -2,7 +2,7 @@
 
 use crate::damage::{any_call, damage, damage_merge, spoil};
 use crate::engines::{Call, Probe};
-use crate::history::{History, Odds, Plan};
+use crate::history::{History, Odds, Plan, any_list};
 use crate::pair::Pair;
 use crate::parts::{BLOCK, CONTENT, Mix, advance, build, mix};
 use crate::rng::Rng;
@@ -19,6 +19,7 @@ const PLAN: Plan = Plan {
         turn: 8,
         event: 40,
         remove: 6,
+        together: 0,
         flush: 12,
         step: 12,
         query: 0,
@@ -31,6 +32,7 @@ const PLAN: Plan = Plan {
 fn both_engines_bear_damage_alike() {
     let mut tally = Tally::default();
     let mut on_the_way = Tally::default();
+    let mut lists = Rng(500);
     for (seed, blocks) in [40, 24, 64, 36, 28, 40, 48, 32].into_iter().enumerate() {
         let plan = Plan { blocks, ..PLAN };
         let mut history = History::new(&plan, seed as u64, &mut on_the_way);
@@ -41,6 +43,10 @@ fn both_engines_bear_damage_alike() {
             let last = word(&probe.image, at::LAST) as usize;
             for _ in 0..1 + rng.below(2) {
                 damage(&mut probe, &mut rng);
+            }
+            if lists.one_in(3) {
+                let call = history.any_list(&mut lists);
+                let _ = Pair::of(probe.clone()).make(&call, &mut tally);
             }
             let mut pair = Pair::of(probe);
             for _ in 0..3 {
@@ -59,6 +65,7 @@ fn both_engines_bear_damage_alike() {
 fn both_engines_take_foreign_probes_alike() {
     let mut tally = Tally::default();
     let mut rng = Rng(2_024);
+    let mut lists = Rng(501);
     for _ in 0..8_000 {
         let mix = mix(&mut rng);
         let mut probe = build(&mix, &mut rng);
@@ -70,6 +77,11 @@ fn both_engines_take_foreign_probes_alike() {
         }
         for _ in 0..rng.pick(&[0, 0, 0, 1, 1, 2]) {
             damage(&mut probe, &mut rng);
+        }
+        if lists.one_in(3) {
+            let windows = (1..=u32::from(mix.windows.min(8))).collect();
+            let call = Call::RemoveAll(any_list(&mut lists, windows));
+            let _ = Pair::of(probe.clone()).make(&call, &mut tally);
         }
         let mut pair = Pair::of(probe);
         for _ in 0..4 {
@@ -84,6 +96,7 @@ fn both_engines_take_foreign_probes_alike() {
     tally.expect("flush", &[10, 11, 12], 20);
     tally.expect("remove", &[10, 11, 12], 10);
     tally.expect_left_out(100);
+    tally.expect("remove_all", &[10, 11, 12], 3);
 }
 
 /// Partitions to be merged into one of at most two blocks, some beside an older one and a newer one.
@@ -173,4 +186,5 @@ fn expect_all(tally: &Tally, times: usize) {
     tally.expect("step", &[0, 1, 2, 3, 12, 13], times);
     tally.expect("query", &[0, 1, 2, 3, 4, 14], times);
     tally.expect("mean", &[0, 1, 2, 3, 4, 15], times);
+    tally.expect("remove_all", &[0, 1, 2, 3, 5, 7, 16], times);
 }

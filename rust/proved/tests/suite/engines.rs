@@ -22,6 +22,7 @@ pub enum Call {
     Event(Vec<u8>),
     Flush,
     Remove(u32),
+    RemoveAll(Vec<u32>),
     Step,
     /// The identifiers, and what the list of hits holds before.
     Query(Vec<Vec<u8>>, Vec<u8>),
@@ -37,6 +38,7 @@ impl Call {
             Call::Event(_) => "event",
             Call::Flush => "flush",
             Call::Remove(_) => "remove",
+            Call::RemoveAll(_) => "remove_all",
             Call::Step => "step",
             Call::Query(..) => "query",
             Call::Mean(_) => "mean",
@@ -59,7 +61,7 @@ pub type Told = [u64; 3];
 /// for the rest; or a refusal's number.
 pub type Answer = Result<Told, u32>;
 
-const NOTHING: Told = [0; 3];
+pub const NOTHING: Told = [0; 3];
 
 fn window(number: impl Into<u64>) -> Told {
     [number.into(), 0, 0]
@@ -87,6 +89,7 @@ pub fn proved(probe: &mut Probe, call: &Call, hits: &mut [u8]) -> Answer {
         Call::Event(name) => proved::event(image, card, register, name).map(|()| NOTHING),
         Call::Flush => proved::flush(image, card).map(|()| NOTHING),
         Call::Remove(window) => proved::remove(image, card, *window).map(|()| NOTHING),
+        Call::RemoveAll(windows) => proved::remove_all(image, card, windows).map(|()| NOTHING),
         Call::Step => proved::step(image, card).map(|()| NOTHING),
         Call::Query(names, _) => proved::query(image, card, register, &slices(names), hits)
             .map(|answer| found(answer.hits, answer.taken)),
@@ -130,6 +133,7 @@ fn on_state(
         Call::Event(name) => engine::event(state, card, register, name).map(|()| NOTHING),
         Call::Flush => engine::flush(state, card).map(|()| NOTHING),
         Call::Remove(window) => engine::remove(state, card, *window).map(|()| NOTHING),
+        Call::RemoveAll(windows) => engine::remove_all(state, card, windows).map(|()| NOTHING),
         Call::Step => engine::step(state, card).map(|()| NOTHING),
         Call::Query(names, _) => {
             let mut list = vec![Hit::default(); hits.len() / 8];

@@ -8,6 +8,7 @@ const EVEN: Odds = Odds {
     turn: 10,
     event: 60,
     remove: 8,
+    together: 0,
     flush: 4,
     step: 10,
     query: 12,
@@ -19,6 +20,7 @@ const MERGING: Odds = Odds {
     turn: 12,
     event: 25,
     remove: 10,
+    together: 0,
     flush: 20,
     step: 30,
     query: 8,
@@ -30,6 +32,7 @@ const CANCELLING: Odds = Odds {
     turn: 20,
     event: 20,
     remove: 20,
+    together: 0,
     flush: 25,
     step: 15,
     query: 5,
@@ -48,6 +51,7 @@ const WIDE: Odds = Odds {
     turn: 1,
     event: 150,
     remove: 8,
+    together: 0,
     flush: 4,
     step: 12,
     query: 8,
@@ -59,9 +63,34 @@ const GROWING: Odds = Odds {
     turn: 5,
     event: 80,
     remove: 1,
+    together: 0,
     flush: 0,
     step: 12,
     query: 4,
+    odd: 1,
+};
+
+/// Many windows, of which many are removed together.
+const TOGETHER: Odds = Odds {
+    turn: 14,
+    event: 50,
+    remove: 1,
+    together: 4,
+    flush: 4,
+    step: 10,
+    query: 1,
+    odd: 1,
+};
+
+/// Windows of many identifiers, so that lists of them flush on their way.
+const WIDE_TOGETHER: Odds = Odds {
+    turn: 4,
+    event: 160,
+    remove: 0,
+    together: 4,
+    flush: 1,
+    step: 50,
+    query: 1,
     odd: 1,
 };
 
@@ -107,6 +136,37 @@ fn plans() -> Vec<Plan> {
     plans
 }
 
+/// Histories that remove windows together.
+fn plans_of_lists() -> Vec<Plan> {
+    let mut plans = Vec::new();
+    for blocks in [4, 8, 20, 52] {
+        plans.extend([
+            Plan {
+                keep: 34,
+                ..plan(48, 30, 4_000, TOGETHER)
+            },
+            Plan {
+                names: 90,
+                ..plan(64, 90, 8_000, WIDE_TOGETHER)
+            },
+            Plan {
+                keep: 2,
+                ..plan(
+                    blocks,
+                    40,
+                    2_000,
+                    Odds {
+                        remove: 0,
+                        together: 2,
+                        ..JAMMED
+                    },
+                )
+            },
+        ]);
+    }
+    plans
+}
+
 fn run(plan: &Plan, seed: u64, tally: &mut Tally) {
     let mut history = History::new(plan, seed, tally);
     for _ in 0..plan.calls {
@@ -133,6 +193,27 @@ fn both_engines_go_through_histories_alike() {
     tally.expect("mean", &[0, 15], 1_000);
     tally.expect("mean", &[4], 100);
     tally.expect_left_out(100);
+}
+
+#[test]
+fn both_engines_remove_windows_together_alike() {
+    let mut tally = Tally::default();
+    for (seed, plan) in plans_of_lists().iter().enumerate() {
+        run(plan, seed as u64 + 200, &mut tally);
+    }
+    tally.print("histories of lists");
+    tally.expect("remove_all", &[0], 200);
+    tally.expect("remove_all", &[5, 11], 10);
+    tally.expect("remove_all", &[10], 3);
+    tally.expect("remove_all", &[7, 16], 50);
+    tally.expect_lists("done past the first window", 200);
+    tally.expect_lists("done of 32 windows", 20);
+    tally.expect_lists("done with a flush past the first window", 40);
+    tally.expect_lists("done with several flushes", 20);
+    tally.expect_lists("refused past the first window", 50);
+    tally.expect_lists("refused with a flush", 10);
+    tally.expect_lists("refused with 5 past the first window", 10);
+    tally.expect_lists("refused with 7 past the first window", 30);
 }
 
 /// Short histories on cards of 4 to 64 blocks and registers of 1 to 1,024 entries.

@@ -13,6 +13,8 @@ pub struct Odds {
     pub turn: usize,
     pub event: usize,
     pub remove: usize,
+    /// Remove several windows together.
+    pub together: usize,
     pub flush: usize,
     pub step: usize,
     pub query: usize,
@@ -79,6 +81,22 @@ pub fn any_query(rng: &mut Rng, names: usize) -> Call {
     Call::Query(ids, list)
 }
 
+/// A list of some of these windows, now and then with another one or one twice.
+pub fn any_list(rng: &mut Rng, mut windows: Vec<u32>) -> Vec<u32> {
+    rng.shuffle(&mut windows);
+    windows.truncate(rng.pick(&[0, 1, 2, 2, 3, 3, 5, 8, 32, 32, 33, 40]));
+    if rng.one_in(4) {
+        let odd = match rng.below(4) {
+            0 => rng.pick(&[0, 65_535, 65_536, u32::MAX]),
+            1 => 65_536 + windows.first().copied().unwrap_or(1),
+            2 => 1 + rng.below(50) as u32,
+            _ => windows.last().copied().unwrap_or(0),
+        };
+        windows.insert(rng.below(windows.len() + 1), odd);
+    }
+    windows
+}
+
 /// A history on its way.
 pub struct History {
     pub pair: Pair,
@@ -105,6 +123,7 @@ impl History {
         match call {
             Call::Event(_) if self.live.last() != Some(&open) => self.live.push(open),
             Call::Remove(window) => self.live.retain(|live| live != window),
+            Call::RemoveAll(windows) => self.live.retain(|live| !windows.contains(live)),
             _ => {}
         }
     }
@@ -117,10 +136,11 @@ impl History {
     /// Makes the next call.
     pub fn act(&mut self, plan: &Plan, tally: &mut Tally) {
         let odds = &plan.odds;
-        let kinds: [(usize, fn(&mut Self, &Plan) -> Call); 7] = [
+        let kinds: [(usize, fn(&mut Self, &Plan) -> Call); 8] = [
             (odds.turn, Self::turn),
             (odds.event, Self::event),
             (odds.remove, Self::remove),
+            (odds.together, Self::together),
             (odds.flush, |_, _| Call::Flush),
             (odds.step, Self::step),
             (odds.query, |history, plan| {
@@ -164,6 +184,25 @@ impl History {
             self.live.len()
         };
         Call::Remove(self.live[self.rng.below(among)])
+    }
+
+    /// Removes several windows together.
+    fn together(&mut self, plan: &Plan) -> Call {
+        if self.live.len() <= plan.keep {
+            return self.event(plan);
+        }
+        let mut rng = Rng(self.rng.next());
+        self.any_list(&mut rng)
+    }
+
+    /// A list of live windows, now and then with the open one, one that is not live, or one twice.
+    pub fn any_list(&self, rng: &mut Rng) -> Call {
+        let open = self.word(at::OPEN);
+        let mut live = self.live.clone();
+        if !rng.one_in(6) {
+            live.retain(|&window| window != open);
+        }
+        Call::RemoveAll(any_list(rng, live))
     }
 
     /// Steps, though less often where there are too few partitions for a merge.

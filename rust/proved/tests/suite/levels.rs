@@ -59,6 +59,7 @@ fn settle(pair: &mut Pair, rng: &mut Rng, tally: &mut Tally) -> usize {
 fn both_engines_merge_alike_up_to_the_highest_level() {
     let mut tally = Tally::default();
     let mut rng = Rng(5);
+    let mut removed = 0;
     for round in 0..6 {
         let mix = Mix {
             blocks: 160,
@@ -77,8 +78,14 @@ fn both_engines_merge_alike_up_to_the_highest_level() {
         let state = image::read(&pair.probe().image).expect("an image");
         assert_eq!(state.partitions.used, 1);
         assert_eq!(state.partitions.records[0].level, 5);
+        // The first windows go together, as many as have a count above 0.
+        let first = |length| Call::RemoveAll((1..=length).collect());
+        let mut lengths = (1..=32).rev();
+        let done = lengths.find(|&length| pair.make(&first(length), &mut tally).is_ok());
+        removed += done.unwrap_or(0);
     }
     tally.print("levels");
+    assert!(removed > 20, "{removed} windows of the highest level");
     tally.expect("step", &[0], 200);
     tally.expect("mean", &[0], 20);
 }

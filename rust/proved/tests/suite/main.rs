@@ -15,4 +15,5 @@ mod rng;
 mod rules;
 mod starts;
 mod tally;
+mod together;
 mod words;

@@ -68,7 +68,7 @@ fn counts_of_closed_windows_have_a_mean() {
 }
 
 /// A foreign probe with partitions of lists by falling window, all windows closed.
-fn probe(partitions: &[&[(u16, Vec<(u16, i16)>)]]) -> Probe {
+pub fn probe(partitions: &[&[(u16, Vec<(u16, i16)>)]]) -> Probe {
     let blocks = 80;
     let mut card = vec![255; blocks * BLOCK];
     let mut state = State {

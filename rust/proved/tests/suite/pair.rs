@@ -1,14 +1,19 @@
 //! The two engines beside each other: every call goes to both, and all that they answer and leave is compared byte by byte.
 
-use crate::engines::{Answer, Call, Probe, proved, second};
+use crate::engines::{Answer, Call, NOTHING, Probe, proved, second};
 use crate::tally::Tally;
+use crate::words::{at, word};
 use second::image;
 use second::state::State;
+use std::collections::BTreeSet;
 
 const BLOCK: usize = 4_096;
 
 /// The refusal of a mean for an identifier that no closed window has.
 pub const UNCOUNTED: u32 = 15;
+
+/// The refusal of a list of windows that is empty, too long, or names one twice.
+pub const BAD_LIST: u32 = 16;
 
 pub struct Pair {
     proved: Probe,
@@ -62,6 +67,9 @@ impl Pair {
         assert!(found == expected, "hits: {call:?}");
         same(&self.proved, &self.second, call);
         tally.record(call.name(), answer.err());
+        if let Call::RemoveAll(windows) = call {
+            self.compare_one_by_one(windows, answer, tally);
+        }
         if is_answered(call, &answer) && leaves_out(&self.before, call) {
             tally.leave_out(call.name());
         }
@@ -75,6 +83,42 @@ impl Pair {
         answer
     }
 
+    /// Compares what windows removed together have left and answered with single removals of the proved engine, and notes how far these
+    /// come.
+    fn compare_one_by_one(&self, windows: &[u32], answer: Answer, tally: &mut Tally) {
+        let single = |probe: &mut Probe, window| proved(probe, &Call::Remove(window), &mut []);
+        // Window 0 has no counts: its removal judges what is read for every list.
+        let judged = [0].iter().chain(windows).find_map(|&window| {
+            let number = single(&mut self.before.clone(), window).err()?;
+            (1..=3).contains(&number).then_some(number)
+        });
+        let different: BTreeSet<&u32> = windows.iter().collect();
+        let is_list = (1..=32).contains(&windows.len()) && different.len() == windows.len();
+        if let Some(refusal) = judged.or((!is_list).then_some(BAD_LIST)) {
+            return assert_eq!(answer, Err(refusal), "{windows:?}");
+        }
+        let mut after = self.before.clone();
+        let mut told = Ok(NOTHING);
+        // How many partitions there are after each removal.
+        let mut grown = Vec::new();
+        for &window in windows {
+            told = single(&mut after, window);
+            if told.is_err() {
+                break;
+            }
+            grown.push(word(&after.image, at::PARTITIONS));
+        }
+        assert_eq!(answer, told, "one by one: {windows:?}");
+        let expected = if told.is_ok() { &after } else { &self.before };
+        same(&self.proved, expected, &Call::RemoveAll(windows.to_vec()));
+        see_list(
+            word(&self.before.image, at::PARTITIONS),
+            &grown,
+            told,
+            tally,
+        );
+    }
+
     /// Keeps what is there now for the next call.
     fn remember(&mut self) {
         self.before.image.clone_from(&self.proved.image);
@@ -84,6 +128,31 @@ impl Pair {
             if old != new {
                 old.copy_from_slice(new);
             }
+        }
+    }
+}
+
+/// Notes how far a list came from so many partitions, and where it flushed.
+fn see_list(before: u32, grown: &[u32], told: Answer, tally: &mut Tally) {
+    let (Some(&first), Some(&last)) = (grown.first(), grown.last()) else {
+        return;
+    };
+    let (kind, is_past) = match told {
+        Ok(_) => ("done", grown.len() > 1),
+        Err(refusal) => {
+            tally.see_list(format!("refused with {refusal} past the first window"));
+            ("refused", true)
+        }
+    };
+    for (sight, is_seen) in [
+        ("past the first window", is_past),
+        ("of 32 windows", grown.len() == 32),
+        ("with a flush", last > before),
+        ("with a flush past the first window", last > first),
+        ("with several flushes", last > before + 1),
+    ] {
+        if is_seen {
+            tally.see_list(format!("{kind} {sight}"));
         }
     }
 }

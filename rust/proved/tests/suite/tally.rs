@@ -8,6 +8,8 @@ pub struct Tally {
     counts: BTreeMap<(&'static str, u32), usize>,
     /// Calls by name that left out counts of the open window in partitions.
     left_out: BTreeMap<&'static str, usize>,
+    /// How far lists of windows came, and where they flushed.
+    lists: BTreeMap<String, usize>,
 }
 
 impl Tally {
@@ -18,6 +20,11 @@ impl Tally {
     /// Notes a call that left out counts of the open window in partitions.
     pub fn leave_out(&mut self, call: &'static str) {
         *self.left_out.entry(call).or_default() += 1;
+    }
+
+    /// Notes something of a list of windows.
+    pub fn see_list(&mut self, sight: String) {
+        *self.lists.entry(sight).or_default() += 1;
     }
 
     /// Prints what was compared, a line a call and one for all.
@@ -34,10 +41,13 @@ impl Tally {
         let all: usize = self.counts.values().sum();
         println!("{title}: {all} calls compared");
         for (call, (count, line)) in calls {
-            println!("  {call:6} {count:7}:{line}");
+            println!("  {call:10} {count:7}:{line}");
         }
         for (call, count) in &self.left_out {
-            println!("  {call:6} {count:7}: past an open window on the card");
+            println!("  {call:10} {count:7}: past an open window on the card");
+        }
+        for (sight, count) in &self.lists {
+            println!("  lists {sight}: {count}");
         }
     }
 
@@ -47,6 +57,12 @@ impl Tally {
             let met = self.counts.get(&(call, refusal)).copied().unwrap_or(0);
             assert!(met >= times, "{call} with {refusal}: met {met} times");
         }
+    }
+
+    /// So many lists of windows must have been seen to come so far.
+    pub fn expect_lists(&self, sight: &str, times: usize) {
+        let seen = self.lists.get(sight).copied().unwrap_or(0);
+        assert!(seen >= times, "lists {sight}: seen {seen} times");
     }
 
     /// So many queries and so many means must have left out counts of the open window in partitions.

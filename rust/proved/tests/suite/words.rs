@@ -3,6 +3,7 @@
 /// The places of some words of an image.
 pub mod at {
     pub const LAST: usize = 2;
+    pub const LIVE: usize = 3;
     pub const OPEN: usize = 4;
     pub const EVENTS: usize = 5;
     pub const LISTED: usize = 6;

@@ -1,7 +1,8 @@
 //! The calls, a file each.
 //!
 //! Every call checks its refusals in the order of their numbers and writes only
-//! when none is left, so that a refused call changes nothing.
+//! when none is left, so that a refused call changes nothing. One refusal stands
+//! elsewhere: a list of windows is checked after 3, before its removals.
 
 mod close;
 mod event;
@@ -10,6 +11,7 @@ mod mean;
 mod open;
 mod query;
 mod remove;
+mod remove_all;
 mod start;
 mod step;
 
@@ -20,5 +22,6 @@ pub use mean::{Mean, mean};
 pub use open::open;
 pub use query::{Found, query};
 pub use remove::remove;
+pub use remove_all::remove_all;
 pub use start::start;
 pub use step::step;

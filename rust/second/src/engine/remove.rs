@@ -10,10 +10,8 @@ use crate::state::{Buffer, Posting, State};
 
 /// Takes out a closed window: each of its counts is buffered negated.
 pub fn remove(state: &mut State, card: &mut [u8], window: u32) -> Result<(), Refusal> {
-    check_state(state)?;
-    check_card(state, card)?;
-    let stored = read_all(&state.partitions.to_list(), card).ok_or(Refusal::Malformed)?;
-    let counts = counts_of(state, &stored, window).ok_or(Refusal::Malformed)?;
+    let on_card = all_postings(state, card)?;
+    let counts = counts_of(state, &on_card, window).ok_or(Refusal::Malformed)?;
     if state.windows.open != 0 && window == u32::from(state.windows.open) {
         return Err(Refusal::WrongWindow);
     }
@@ -29,22 +27,31 @@ pub fn remove(state: &mut State, card: &mut [u8], window: u32) -> Result<(), Ref
     Ok(())
 }
 
-/// The window's counts over partitions and buffer, or `None` if a list is
-/// malformed, a sum is no count or there are too many.
-fn counts_of(state: &State, stored: &[Stored], window: u32) -> Option<Vec<Posting>> {
-    let of_window = |postings: Vec<Posting>| -> Vec<Posting> {
+/// Judges state and card as far as no window is named, refusals 1 to 3, and gives
+/// all postings of the finished partitions.
+pub(super) fn all_postings(state: &State, card: &[u8]) -> Result<Vec<Posting>, Refusal> {
+    check_state(state)?;
+    check_card(state, card)?;
+    let stored = read_all(&state.partitions.to_list(), card).ok_or(Refusal::Malformed)?;
+    let lists: Option<Vec<Vec<Posting>>> = stored.iter().map(Stored::all_lists).collect();
+    Ok(lists.ok_or(Refusal::Malformed)?.concat())
+}
+
+/// The window's counts over card and buffer, or `None` if a sum is no count or
+/// there are too many.
+pub(super) fn counts_of(state: &State, on_card: &[Posting], window: u32) -> Option<Vec<Posting>> {
+    let of_window = |postings: &[Posting]| -> Vec<Posting> {
         postings
-            .into_iter()
+            .iter()
             .filter(|posting| u32::from(posting.window) == window)
+            .copied()
             .collect()
     };
     let mut sums = Sums::new();
-    for partition in stored {
-        add(&mut sums, &of_window(partition.all_lists()?));
-    }
-    let on_card = are_counts(&sums);
-    add(&mut sums, &of_window(state.buffer.to_list()));
-    if !on_card || !are_counts(&sums) {
+    add(&mut sums, &of_window(on_card));
+    let fits_on_card = are_counts(&sums);
+    add(&mut sums, &of_window(&state.buffer.to_list()));
+    if !fits_on_card || !are_counts(&sums) {
         return None;
     }
     let counts = nonzero(&sums);

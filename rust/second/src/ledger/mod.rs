@@ -141,6 +141,20 @@ impl Ledger {
         Ok(())
     }
 
+    /// Takes out all windows of a list, or none.
+    pub fn remove_all(&mut self, windows: &[u32]) -> Answer<()> {
+        let different: BTreeSet<u32> = windows.iter().copied().collect();
+        if windows.is_empty() || windows.len() > 32 || different.len() < windows.len() {
+            return Err(16);
+        }
+        let mut after = self.clone();
+        for &window in windows {
+            after.remove(window)?;
+        }
+        *self = after;
+        Ok(())
+    }
+
     /// Writes the buffer to the card.
     pub fn flush(&mut self) -> Answer<()> {
         if self.account.buffer.is_empty() {

@@ -5,6 +5,7 @@ use second::commands::Probe;
 use second::engine::{self, Mean};
 use second::refusal::Refusal;
 use second::state::Hit;
+use std::collections::BTreeSet;
 
 #[derive(Clone, Debug)]
 pub enum Call {
@@ -12,6 +13,7 @@ pub enum Call {
     Event(Vec<u8>),
     Close,
     Remove(u32),
+    RemoveAll(Vec<u32>),
     Flush,
     Step,
     Query(Vec<Vec<u8>>, usize),
@@ -41,6 +43,7 @@ fn call_engine(probe: &mut Probe, call: &Call) -> Result<(), Refusal> {
         Call::Event(identifier) => engine::event(state, card, register, identifier),
         Call::Close => engine::close(state),
         Call::Remove(window) => engine::remove(state, card, *window),
+        Call::RemoveAll(windows) => remove_all(probe, windows),
         Call::Flush => engine::flush(state, card),
         Call::Step => engine::step(state, card),
         Call::Query(names, places) => {
@@ -57,6 +60,37 @@ fn call_engine(probe: &mut Probe, call: &Call) -> Result<(), Refusal> {
         }
         Call::Mean(name) => mean_of(probe, name).map(drop),
     }
+}
+
+/// Removes windows together, which must come to what single removals come to.
+fn remove_all(probe: &mut Probe, windows: &[u32]) -> Result<(), Refusal> {
+    let (after, expected) = one_by_one(probe, windows);
+    let result = engine::remove_all(&mut probe.state, &mut probe.card, windows);
+    assert_eq!(result.map_err(Refusal::number), expected, "{windows:?}");
+    assert!(*probe == after, "other than one by one: {windows:?}");
+    result
+}
+
+/// What windows removed together must leave and answer, by single removals alone.
+pub fn one_by_one(probe: &Probe, windows: &[u32]) -> (Probe, Result<(), u8>) {
+    let refused = |number| (probe.clone(), Err(number));
+    // Window 0 has no counts: its removal judges what is read for every list.
+    for &window in [0].iter().chain(windows) {
+        if let number @ 1..=3 = outcome(probe, &Call::Remove(window)) {
+            return refused(number);
+        }
+    }
+    let different: BTreeSet<&u32> = windows.iter().collect();
+    if windows.is_empty() || windows.len() > 32 || different.len() < windows.len() {
+        return refused(16);
+    }
+    let mut after = probe.clone();
+    for &window in windows {
+        if let Err(number) = make(&mut after, &Call::Remove(window)) {
+            return refused(number);
+        }
+    }
+    (after, Ok(()))
 }
 
 /// The mean of an identifier. A query of it alone is refused for the same

@@ -1,8 +1,8 @@
 //! Random damage to state, card and register: a call may refuse, but never
 //! panics, and a refusal changes nothing.
 
-use crate::calls::{Call, make};
-use crate::history::{Odds, Plan, act, name};
+use crate::calls::{Call, make, outcome};
+use crate::history::{Odds, Plan, act, any_list, name};
 use crate::rng::Rng;
 use crate::tally::Tally;
 use crate::twin::Twin;
@@ -20,6 +20,7 @@ pub const PLAN: Plan = Plan {
         turn: 8,
         event: 40,
         remove: 6,
+        together: 0,
         flush: 12,
         step: 12,
         query: 0,
@@ -170,6 +171,7 @@ fn kind(call: &Call) -> &'static str {
         Call::Event(_) => "event",
         Call::Close => "close",
         Call::Remove(_) => "remove",
+        Call::RemoveAll(_) => "remove_all",
         Call::Flush => "flush",
         Call::Step => "step",
         Call::Query(..) => "query",
@@ -179,8 +181,9 @@ fn kind(call: &Call) -> &'static str {
 
 #[test]
 fn damage_is_refused_or_borne() {
-    let mut tally = Tally::default();
+    let (mut tally, mut together) = (Tally::default(), Tally::default());
     let mut rng = Rng(2024);
+    let mut lists = Rng(2025);
     for _ in 0..8 {
         let mut twin = Twin::new(PLAN.blocks, PLAN.entries);
         for _ in 0..1500 {
@@ -192,6 +195,11 @@ fn damage_is_refused_or_borne() {
             };
             for _ in 0..1 + rng.below(2) {
                 damage(&mut probe, &mut rng);
+            }
+            if lists.one_in(5) {
+                let call = Call::RemoveAll(any_list(&mut lists, &twin.ledger));
+                let refusal = Some(outcome(&probe, &call)).filter(|&number| number > 0);
+                together.record(kind(&call), refusal);
             }
             for _ in 0..2 {
                 let call = random_call(&mut rng, probe.state.windows.last);
@@ -209,12 +217,19 @@ fn damage_is_refused_or_borne() {
     }
     tally.expect_done("mean", 300);
     tally.expect_refused(15, 50);
+    together.print("Lists of windows on these:");
+    together.expect_done("remove_all", 300);
+    for number in [1, 2, 3, 7, 16] {
+        together.expect_refused(number, 50);
+    }
+    together.expect_refused(5, 10);
 }
 
 /// States of random numbers altogether, on cards of any length.
 #[test]
 fn random_states_are_refused_or_borne() {
     let mut rng = Rng(99);
+    let mut lists = Rng(100);
     for _ in 0..20_000 {
         let mut state = State::default();
         state.lengths.card = rng.pick(&[0, 16_384, 20_480, 16_383]);
@@ -236,6 +251,8 @@ fn random_states_are_refused_or_borne() {
             card: vec![fill; card],
             register: vec![fill; rng.pick(&[0, 65, 130])],
         };
+        let windows = (0..lists.below(4)).map(|_| number(&mut lists)).collect();
+        let _ = outcome(&probe, &Call::RemoveAll(windows));
         let _ = make(&mut probe, &random_call(&mut rng, 9));
     }
 }

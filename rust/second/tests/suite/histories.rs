@@ -9,6 +9,7 @@ const EVEN: Odds = Odds {
     turn: 10,
     event: 60,
     remove: 8,
+    together: 0,
     flush: 4,
     step: 10,
     query: 8,
@@ -20,6 +21,7 @@ const MERGING: Odds = Odds {
     turn: 12,
     event: 25,
     remove: 10,
+    together: 0,
     flush: 20,
     step: 30,
     query: 5,
@@ -31,6 +33,7 @@ const CANCELLING: Odds = Odds {
     turn: 20,
     event: 20,
     remove: 20,
+    together: 0,
     flush: 25,
     step: 15,
     query: 3,
@@ -49,6 +52,7 @@ const WIDE: Odds = Odds {
     turn: 1,
     event: 150,
     remove: 8,
+    together: 0,
     flush: 4,
     step: 12,
     query: 6,
@@ -60,9 +64,34 @@ const GROWING: Odds = Odds {
     turn: 5,
     event: 80,
     remove: 1,
+    together: 0,
     flush: 0,
     step: 12,
     query: 2,
+    odd: 1,
+};
+
+/// Many windows, of which many are removed together.
+const TOGETHER: Odds = Odds {
+    turn: 14,
+    event: 50,
+    remove: 1,
+    together: 4,
+    flush: 4,
+    step: 10,
+    query: 2,
+    odd: 1,
+};
+
+/// Windows of many identifiers, so that lists of them flush on their way.
+const WIDE_TOGETHER: Odds = Odds {
+    turn: 4,
+    event: 160,
+    remove: 0,
+    together: 4,
+    flush: 1,
+    step: 50,
+    query: 1,
     odd: 1,
 };
 
@@ -110,6 +139,33 @@ fn plans() -> Vec<Plan> {
                 keep: 300,
                 odds: GROWING,
                 ..plan(seed + 50, 96, 128, 7000)
+            },
+        ]);
+    }
+    plans
+}
+
+/// Histories that remove windows together.
+fn plans_of_lists() -> Vec<Plan> {
+    let mut plans = Vec::new();
+    for seed in 0..4 {
+        plans.extend([
+            Plan {
+                keep: 34,
+                odds: TOGETHER,
+                ..plan(seed + 70, 48, 30, 5000)
+            },
+            Plan {
+                names: 90,
+                odds: WIDE_TOGETHER,
+                ..plan(seed + 80, 96, 90, 10_000)
+            },
+            Plan {
+                odds: Odds {
+                    step: 1,
+                    ..TOGETHER
+                },
+                ..plan(seed + 90, 4 + seed as usize * 16, 12, 2000)
             },
         ]);
     }
@@ -203,6 +259,35 @@ fn engine_and_ledger_agree_at_every_call() {
     assert!(!tally.refusals.contains_key(&12));
 }
 
+#[test]
+fn engine_and_ledger_agree_on_lists() {
+    let mut tally = Tally::default();
+    for plan in plans_of_lists() {
+        tally.absorb(&run(&plan).tally);
+    }
+    tally.print("Histories with windows removed together:");
+    tally.expect_done("remove_all", 300);
+    for (sight, times) in [
+        ("done past the first window", 250),
+        ("done after 32 windows", 30),
+        ("done with a flush", 70),
+        ("done with a flush past the first window", 60),
+        ("done with several flushes", 25),
+        ("done during a merge", 100),
+        ("refused past the first window", 60),
+        ("refused with a flush", 10),
+        ("refused with several flushes", 4),
+        ("refused with 5", 10),
+        ("refused with 7", 80),
+        ("refused with 10", 8),
+        ("refused with 11", 20),
+        ("refused with 16", 120),
+    ] {
+        tally.expect_seen(&format!("lists {sight}"), times);
+    }
+    assert!(!tally.refusals.contains_key(&12));
+}
+
 /// Short histories on cards and registers of all sizes.
 #[test]
 fn cards_and_registers_of_all_sizes_agree() {
@@ -227,6 +312,11 @@ fn cards_and_registers_of_all_sizes_agree() {
             act(&mut twin, &mut rng, &plan);
         }
         tally.absorb(&twin.tally);
+        let plan = Plan {
+            odds: TOGETHER,
+            ..plan
+        };
+        tally.absorb(&run(&plan).tally);
     }
     tally.print("Cards and registers of all sizes:");
 }

@@ -2,6 +2,7 @@
 
 use crate::rng::Rng;
 use crate::twin::Twin;
+use second::ledger::Ledger;
 
 /// How likely each kind of call is, against the others.
 #[derive(Clone, Copy)]
@@ -10,6 +11,8 @@ pub struct Odds {
     pub turn: usize,
     pub event: usize,
     pub remove: usize,
+    /// Remove several windows together.
+    pub together: usize,
     pub flush: usize,
     pub step: usize,
     pub query: usize,
@@ -58,10 +61,11 @@ type Call = fn(&mut Twin, &mut Rng, &Plan) -> bool;
 /// Makes one call.
 pub fn act(twin: &mut Twin, rng: &mut Rng, plan: &Plan) -> bool {
     let odds = &plan.odds;
-    let kinds: [(usize, Call); 7] = [
+    let kinds: [(usize, Call); 8] = [
         (odds.turn, turn),
         (odds.event, event),
         (odds.remove, remove),
+        (odds.together, together),
         (odds.flush, |twin, _, _| twin.flush().is_ok()),
         (odds.step, step),
         (odds.query, query),
@@ -119,6 +123,34 @@ fn remove(twin: &mut Twin, rng: &mut Rng, plan: &Plan) -> bool {
     }
     let among = if rng.one_in(2) { 1 } else { live.len() };
     twin.remove(live[rng.below(among)]).is_ok()
+}
+
+fn together(twin: &mut Twin, rng: &mut Rng, plan: &Plan) -> bool {
+    if twin.ledger.live.len() <= plan.keep {
+        return false;
+    }
+    let windows = any_list(rng, &twin.ledger);
+    twin.remove_all(&windows).is_ok()
+}
+
+/// A list of live closed windows, now and then with one that is none or one twice.
+pub fn any_list(rng: &mut Rng, ledger: &Ledger) -> Vec<u32> {
+    let mut live: Vec<u32> = ledger.closed().map(|(&window, _)| window).collect();
+    let length = rng.pick(&[0, 1, 2, 2, 3, 3, 5, 8, 32, 32, 33, 40]);
+    let mut list: Vec<u32> = (0..length.min(live.len()))
+        .map(|_| live.swap_remove(rng.below(live.len())))
+        .collect();
+    if rng.one_in(3) {
+        let odd = match rng.below(6) {
+            0 => rng.pick(&[0, 65_535, 65_536, u32::MAX]),
+            1 => 65_536 + list.first().copied().unwrap_or(1),
+            2 => ledger.last + rng.below(2) as u32,
+            3 => 1 + rng.below(ledger.last as usize + 1) as u32,
+            _ => list.last().copied().unwrap_or(0),
+        };
+        list.insert(rng.below(list.len() + 1), odd);
+    }
+    list
 }
 
 /// Steps where there is work, and now and then where there is none.

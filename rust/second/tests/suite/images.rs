@@ -67,6 +67,7 @@ fn states_of_histories_come_back() {
         turn: 10,
         event: 60,
         remove: 8,
+        together: 0,
         flush: 14,
         step: 10,
         query: 0,

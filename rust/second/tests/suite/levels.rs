@@ -105,6 +105,9 @@ fn one_flush_sets_all_levels_in_motion() {
     // The second one to level 5 takes three of level 5.
     assert_eq!([1, 2, 3, 4, 5].map(merges), [1, 1, 1, 1, 2]);
     assert!(twin.tally.sights["outputs of several blocks"] >= 2);
+    let oldest: Vec<u32> = twin.ledger.live.keys().copied().take(32).collect();
+    twin.remove_all(&oldest).unwrap();
+    assert_eq!(twin.state.partitions.used, 2);
     twin.tally.print("From level 0 to 5:");
 }
 

@@ -20,5 +20,6 @@ mod reading;
 mod rng;
 mod state_rules;
 mod tally;
+mod together;
 mod twin;
 mod worked_cases;

@@ -59,6 +59,10 @@ fn outcomes(probe: &Probe) -> [u8; 6] {
         // It is held against the query of that identifier.
         let _ = mean_of(probe, name);
     }
+    for windows in [vec![], vec![9], vec![8, 9], vec![9; 2]] {
+        // They are held against single removals.
+        let _ = outcome(probe, &Call::RemoveAll(windows));
+    }
     [
         query(&[b"A"]),
         query(&[b"C"]),

@@ -1,11 +1,12 @@
-//! Queries, means and removals on damaged cards that are still well-formed,
-//! held against a plain reading of the bytes.
+//! Queries, means and removals, of one window and of several together, on damaged
+//! cards that are still well-formed, held against a plain reading of the bytes.
 
 use crate::calls::mean_of;
 use crate::damage::{PLAN, any_name, damage};
-use crate::history::act;
+use crate::history::{act, any_list};
 use crate::image::{decode, walk};
 use crate::rng::Rng;
+use crate::together;
 use crate::twin::Twin;
 use second::commands::Probe;
 use second::engine;
@@ -108,19 +109,26 @@ fn plain_query(probe: &Probe, ids: &BTreeSet<Vec<u8>>) -> (Vec<(u32, u32)>, usiz
     (ranked, entries.len())
 }
 
-/// The buffer after a window is taken out.
-fn plain_removal(probe: &Probe, window: u32) -> Vec<Entry> {
-    let counts = sums(&all_entries(probe));
-    let counts = counts.iter().filter(|(pair, _)| pair.1.0 == window);
-    let negated: Vec<Entry> = counts.map(|(pair, sum)| (pair.0, window, -sum)).collect();
-    let mut entries = buffered(&probe.state);
-    if entries.len() + negated.len() > 128 {
-        entries.clear();
+/// The buffer after windows are taken out in their order, and how many
+/// partitions that writes.
+fn plain_removals(probe: &Probe, windows: &[u32]) -> (Vec<Entry>, usize) {
+    let mut on_card = on_card(probe);
+    let mut buffer = buffered(&probe.state);
+    let mut flushes = 0;
+    for &window in windows {
+        let counts = sums(&[&buffer[..], &on_card].concat());
+        let counts = counts.iter().filter(|(pair, _)| pair.1.0 == window);
+        let negated: Vec<Entry> = counts.map(|(pair, sum)| (pair.0, window, -sum)).collect();
+        if buffer.len() + negated.len() > 128 {
+            on_card.append(&mut buffer);
+            flushes += 1;
+        }
+        buffer.extend(negated);
+        let after = sums(&buffer);
+        let list = after.iter().map(|(pair, &sum)| (pair.0, pair.1.0, sum));
+        buffer = list.collect();
     }
-    entries.extend(negated);
-    let after = sums(&entries);
-    let list = after.iter().map(|(pair, &sum)| (pair.0, pair.1.0, sum));
-    list.collect()
+    (buffer, flushes)
 }
 
 /// How many calls were done.
@@ -174,7 +182,8 @@ fn compare(probe: &Probe, rng: &mut Rng, done: &mut Done) {
     let window = rng.below(usize::from(probe.state.windows.last) + 1) as u32;
     let removed = engine::remove(&mut after.state, &mut after.card, window);
     if removed.is_ok() {
-        assert_eq!(buffered(&after.state), plain_removal(probe, window));
+        let (buffer, _) = plain_removals(probe, &[window]);
+        assert_eq!(buffered(&after.state), buffer);
         assert_eq!(after.state.windows.live + 1, probe.state.windows.live);
         done.removals += 1;
     }
@@ -211,4 +220,58 @@ fn well_formed_damage_is_read_as_it_stands() {
     );
     assert!(queries > 1000 && of_open > 200 && removals > 200);
     assert!(means > 1000 && uncounted > 200);
+}
+
+/// How many lists of windows were done.
+#[derive(Default)]
+struct Lists {
+    of_several: usize,
+    /// Lists that wrote a partition on their way.
+    flushing: usize,
+}
+
+/// Removes windows together and holds what is left against plain removals.
+fn compare_list(probe: &Probe, windows: &[u32], done: &mut Lists) {
+    let mut after = probe.clone();
+    if engine::remove_all(&mut after.state, &mut after.card, windows).is_err() {
+        return;
+    }
+    let (buffer, flushes) = plain_removals(probe, windows);
+    assert_eq!(buffered(&after.state), buffer);
+    let (new, old) = (&after.state, &probe.state);
+    let written = new.partitions.used - old.partitions.used;
+    assert_eq!(usize::from(written), flushes);
+    let removed = old.windows.live - new.windows.live;
+    assert_eq!(usize::from(removed), windows.len());
+    // What a removed window had is taken back, and no other count has moved.
+    let mut left = sums(&all_entries(probe));
+    left.retain(|pair, _| !windows.contains(&pair.1.0));
+    assert_eq!(sums(&all_entries(&after)), left);
+    done.of_several += usize::from(windows.len() > 1);
+    done.flushing += usize::from(flushes > 0);
+}
+
+#[test]
+fn lists_on_well_formed_damage_are_taken_as_it_stands() {
+    let mut rng = Rng(33);
+    let mut done = Lists::default();
+    for _ in 0..4 {
+        let mut twin = Twin::new(together::PLAN.blocks, together::PLAN.entries);
+        for _ in 0..together::PLAN.calls {
+            act(&mut twin, &mut rng, &together::PLAN);
+            let mut probe = Probe {
+                state: twin.state.clone(),
+                card: twin.card.clone(),
+                register: twin.register.clone(),
+            };
+            damage(&mut probe, &mut rng);
+            compare_list(&probe, &any_list(&mut rng, &twin.ledger), &mut done);
+        }
+    }
+    let Lists {
+        of_several,
+        flushing,
+    } = done;
+    println!("Well-formed damage: {of_several} lists of several windows, {flushing} that flush");
+    assert!(of_several > 200 && flushing > 50);
 }

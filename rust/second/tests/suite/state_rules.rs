@@ -34,12 +34,15 @@ fn probe() -> Probe {
     }
 }
 
-fn all_calls() -> [Call; 8] {
+fn all_calls() -> [Call; 11] {
     [
         Call::Open,
         event(b"A"),
         Call::Close,
         Call::Remove(1),
+        Call::RemoveAll(vec![1, 2]),
+        Call::RemoveAll(vec![1, 1]),
+        Call::RemoveAll(Vec::new()),
         Call::Flush,
         Call::Step,
         query(&[b"A"]),
@@ -303,7 +306,8 @@ fn buffers_must_have_the_lengths_of_the_start() {
         for call in all_calls() {
             let refused = match call {
                 Call::Open | Call::Close => false,
-                Call::Remove(_) | Call::Flush | Call::Step => card_is_wrong,
+                Call::Remove(_) | Call::RemoveAll(_) => card_is_wrong,
+                Call::Flush | Call::Step => card_is_wrong,
                 Call::Event(_) | Call::Query(..) | Call::Mean(_) => true,
             };
             assert_eq!(outcome(&probe, &call) == 2, refused, "{call:?}");

@@ -40,6 +40,12 @@ impl Tally {
         assert!(met >= times, "refusal {number}: met {met} times");
     }
 
+    /// A thing worth testing must have been seen so many times.
+    pub fn expect_seen(&self, sight: &str, times: usize) {
+        let seen = self.sights.get(sight).copied().unwrap_or(0);
+        assert!(seen >= times, "{sight}: seen {seen} times");
+    }
+
     pub fn absorb(&mut self, other: &Tally) {
         for (call, counts) in &other.calls {
             let calls = self.calls.entry(call).or_default();
@@ -57,7 +63,7 @@ impl Tally {
     pub fn print(&self, title: &str) {
         println!("{title}");
         for (call, (done, refused)) in &self.calls {
-            println!("  {call:8} {done:8} done {refused:7} refused");
+            println!("  {call:10} {done:8} done {refused:7} refused");
         }
         for (number, count) in &self.refusals {
             println!("  refusal {number:2} met {count} times");

@@ -102,6 +102,14 @@ impl Twin {
         self.compare("remove", engine, ledger)
     }
 
+    pub fn remove_all(&mut self, windows: &[u32]) -> Result<(), u8> {
+        let engine = engine::remove_all(&mut self.state, &mut self.card, windows);
+        let before = self.ledger.clone();
+        let ledger = self.ledger.remove_all(windows);
+        self.see_list(before, windows, ledger);
+        self.compare("remove_all", engine, ledger)
+    }
+
     pub fn flush(&mut self) -> Result<(), u8> {
         let engine = engine::flush(&mut self.state, &mut self.card);
         let ledger = self.ledger.flush();
@@ -182,7 +190,7 @@ impl Twin {
             assert_eq!(self.state.merge, self.before.state.merge, "{call}");
         }
         let changed = check_byte_rule(&self.before.card, &self.card);
-        self.check_taking(&changed);
+        self.check_taking(call, &changed);
         if !changed.is_empty() || self.state.partitions != self.before.state.partitions {
             check_card(&self.state, &self.card, &self.ledger.account);
         }
@@ -234,7 +242,8 @@ impl Twin {
     }
 
     /// Blocks taken are the next free ones, and the last of them is remembered.
-    fn check_taking(&mut self, changed: &[usize]) {
+    /// They are one chain, but each flush inside a list takes its own block.
+    fn check_taking(&mut self, call: &'static str, changed: &[usize]) {
         let is_free = |card: &[u8], number: usize| card[number * BLOCK..][..BLOCK] == FREE;
         let (state, card) = (&self.before.state, &self.before.card);
         let taken: BTreeSet<usize> = changed
@@ -254,12 +263,18 @@ impl Twin {
             .take(taken.len())
             .collect();
         assert_eq!(taken, expected.iter().copied().collect());
-        assert_eq!(walk(&self.card, expected[0], expected.len()), expected);
+        let length = match call {
+            "remove_all" => 1,
+            _ => expected.len(),
+        };
+        for chain in expected.chunks(length) {
+            assert_eq!(walk(&self.card, chain[0], length), chain);
+        }
         assert_eq!(usize::from(self.state.taken), expected[expected.len() - 1]);
         if self.state.taken < state.taken {
             self.tally.see("blocks taken round the end");
         }
-        if expected.len() > 1 {
+        if length > 1 {
             self.tally.see("outputs of several blocks");
         }
     }
@@ -276,6 +291,44 @@ impl Twin {
             _ => return,
         };
         self.tally.see(sight);
+    }
+
+    /// Notes how far a list of windows came, and where it flushed.
+    fn see_list(&mut self, before: Ledger, windows: &[u32], answer: Result<(), u8>) {
+        if let Err(number) = answer {
+            self.tally.see(&format!("lists refused with {number}"));
+            if number == 16 {
+                return;
+            }
+        }
+        let parts = before.account.parts.len();
+        let is_merging = before.account.steps > 0;
+        let mut ledger = before;
+        // How many partitions there are after each removal.
+        let removals = windows.iter().map_while(|&window| {
+            let removed = ledger.remove(window);
+            removed.ok().map(|()| ledger.account.parts.len())
+        });
+        let grown: Vec<usize> = removals.collect();
+        let (first, last) = match grown[..] {
+            [first, .., last] => (first, last),
+            [only] => (only, only),
+            [] => return,
+        };
+        let kind = if answer.is_ok() { "done" } else { "refused" };
+        let sights = [
+            ("past the first window", grown.len() > 1 || answer.is_err()),
+            ("after 32 windows", grown.len() == 32),
+            ("with a flush", last > parts),
+            ("with a flush past the first window", last > first),
+            ("with several flushes", last > parts + 1),
+            ("during a merge", is_merging),
+        ];
+        for (sight, is_seen) in sights {
+            if is_seen {
+                self.tally.see(&format!("lists {kind} {sight}"));
+            }
+        }
     }
 
     fn see_merge(&mut self, due: &Due) {

@@ -1,0 +1,236 @@
+// Removal of several windows together: all or none. The lists are read once for all windows named, and the removals are judged before a byte is written.
+use admission::Admission;
+use answers::Refusal;
+use answers::Reply;
+use state::BLOCK_BYTES;
+use state::Buffer;
+use state::State;
+use state::Windows;
+use sums::Counts;
+use sums::MOST_WINDOWS;
+use sums::SLOT;
+use windows::Replied;
+ghost use mathlib.Core.Bool.{true, false, cond};
+ghost use mathlib.Core.List.{[], foldr};
+ghost use mathlib.Core.Path.{_≡_};
+ghost use Prim.Native.Nat.{_+_, _-_, _*_, _≤_, min};
+ghost use lib.ListN.{length};
+ghost use Rattle.words.specs.Words.{words as wordsOf};
+ghost use Rattle.postings.specs.Merge.{put, nonzero, negated};
+ghost use Rattle.answers.specs.Answers.{answerOf, done, leave, inTurn};
+ghost use Rattle.answers.specs.Numbers.{replied};
+ghost use Rattle.state.specs.Views.{blocks, buffered, finished, bufferOf};
+ghost use Rattle.state.specs.Rules.{stateRule};
+ghost use Rattle.partitions.specs.Formed.{partitionsFormed};
+ghost use Rattle.sums.specs.Views.{countsIn};
+ghost use Rattle.windows.specs.Promises.{Gives, storeOf};
+ghost use Rattle.removals.specs.Removal.{removeOf};
+ghost use Rattle.removals.specs.Taking.{Takeable};
+ghost use Rattle.batches.specs.Batch.{batchRule, RemovesAll};
+ghost use Rattle.batches.specs.Steps.{Ready, ReadLists, flushAfter, removalAfter};
+
+// How many of the windows left one pass takes.
+fn portion(left: usize) -> usize
+    ensures { λ r. ⌜ r ≡ min left 32 ⌝ }
+{
+    if left < MOST_WINDOWS {
+        left
+    } else {
+        MOST_WINDOWS
+    }
+}
+
+// Judges what is read of every window named, in as many passes as they need; a list that needs more than one is refused later.
+fn read_lists(card: &[u8], s: State, named: &[u32], slots: &mut [u32]) -> bool
+    requires { ⌜ (stateRule s ≡ true) × (length (wordsOf (now card)) ≡ 1024 * blocks s)
+        × (partitionsFormed (wordsOf (now card)) (blocks s) (finished (s .partitions)) ≡ true) × (length (now slots) ≡ 2080) ⌝ }
+    ensures { λ r. ⌜ ReadLists (wordsOf (now (card .entry))) s (now (named .entry)) r (now (slots .exit)) ⌝ }
+{
+    let n = named.len();
+    let mut from: usize = 0;
+    loop {
+        let count = portion(n - from);
+        let to = from + count;
+        let end = SLOT * count;
+        let fine = sums::read_all(card, s, &named[from..to], &mut slots[0..end]);
+        if !fine {
+            return false;
+        }
+        if to == n {
+            return true;
+        }
+        from = to;
+    }
+}
+
+// Does a list name at least one window, at most 32, and none twice?
+fn batch_ok(named: &[u32]) -> bool
+    ensures { λ r. ⌜ r ≡ batchRule (now (named .entry)) ⌝ }
+{
+    let n = named.len();
+    if (n == 0) | (n > MOST_WINDOWS) {
+        return false;
+    }
+    let mut i: usize = 0;
+    while i < n {
+        let next = i + 1;
+        if sums::place_of(&named[next..n], named[i]) < n - next {
+            return false;
+        }
+        i = next;
+    }
+    true
+}
+
+// Judges a flush that comes after others of the list.
+fn judge_flush(s: State, card: &[u8], before: u32) -> Reply
+    requires { ⌜ (stateRule s ≡ true) × (length (now card) ≡ s .lengths .card) × (before ≤ 32) ⌝ }
+    ensures { λ r. ⌜ replied r ≡ answerOf (flushAfter s (wordsOf (now (card .entry))) before) ⌝ }
+{
+    if levels::of_level(s.partitions, 0) as u32 + before >= 16 {
+        return Reply::Refused(Refusal::LevelFull);
+    }
+    let blocks = s.lengths.card / BLOCK_BYTES;
+    if 2 * (flushes::finished_blocks(s.partitions) + before as u64) + 2 > blocks as u64 {
+        return Reply::Refused(Refusal::HalfFull);
+    }
+    if !blocks::enough_free(card, blocks, s.taken, before + 1) {
+        return Reply::Refused(Refusal::TooFewFree);
+    }
+    Reply::Done
+}
+
+// Judges a removal that comes after others of the list, by what they leave of window numbers and buffer and the flushes that they make.
+fn judge_removal(
+    s: State,
+    card: &[u8],
+    v: Windows,
+    b: Buffer,
+    before: u32,
+    window: u32,
+    c: Counts,
+) -> Reply
+    requires { ⌜ (stateRule s ≡ true) × (length (now card) ≡ s .lengths .card) × (before ≤ 32) × (b .used ≤ 128) × (c .used ≤ 64) ⌝ }
+    ensures { λ r. ⌜ replied r ≡ answerOf (removalAfter s (wordsOf (now (card .entry))) v b before window (countsIn c)) ⌝ }
+{
+    if removals::names_open(v, window) {
+        return Reply::Refused(Refusal::OutOfTurn);
+    }
+    if removals::not_live(v, window, c) {
+        return Reply::Refused(Refusal::NotLive);
+    }
+    if !removals::must_flush(b, c) {
+        return Reply::Done;
+    }
+    judge_flush(s, card, before)
+}
+
+// The window numbers after a removal: N is one less.
+fn one_less(v: Windows) -> Windows
+    requires { ⌜ 1 ≤ v .live ⌝ }
+    ensures { λ r. ⌜ r ≡ record { last = v .last; live = v .live - 1; current = v .current; events = v .events } ⌝ }
+{
+    Windows {
+        last: v.last,
+        live: v.live - 1,
+        current: v.current,
+        events: v.events,
+    }
+}
+
+// The buffer with which a removal begins: empty after a flush.
+fn begun(b: Buffer, flush: bool) -> Buffer
+    ensures { λ r. ⌜ r ≡ cond flush (bufferOf []) b ⌝ }
+{
+    if flush { windows::empty_buffer() } else { b }
+}
+
+// One more where it holds.
+fn counted(n: u32, flush: bool) -> u32
+    requires { ⌜ n ≤ 32 ⌝ }
+    ensures { λ r. ⌜ r ≡ cond flush (n + 1) n ⌝ }
+{
+    if flush { n + 1 } else { n }
+}
+
+// Judges the removals one after another on copies of window numbers and buffer: nothing is written.
+fn judge_all(s: State, card: &[u8], named: &[u32], slots: &[u32]) -> Reply
+    requires { ⌜ Ready s (now card) (now named) (now slots) ⌝ }
+    ensures { λ r. ⌜ replied r ≡ answerOf (inTurn removeOf (storeOf s (now (card .entry))) (now (named .entry))) ⌝ }
+{
+    let n = named.len();
+    let mut v = s.windows;
+    let mut b = s.buffer;
+    let mut flushed: u32 = 0;
+    let mut i: usize = 0;
+    while i < n {
+        let from = SLOT * i;
+        let to = from + SLOT;
+        let c = sums::counts_of(&slots[from..to], named[i]);
+        let verdict = judge_removal(s, card, v, b, flushed, named[i], c);
+        if let Reply::Refused(why) = verdict {
+            return Reply::Refused(why);
+        }
+        let flush = removals::must_flush(b, c);
+        b = removals::take_back(begun(b, flush), c);
+        v = one_less(v);
+        flushed = counted(flushed, flush);
+        i += 1;
+    }
+    Reply::Done
+}
+
+// Makes the removals one after another, of which none is refused.
+fn remove_each(s: State, card: &mut [u8], named: &[u32], slots: &[u32]) -> State
+    requires { ⌜ Ready s (now card) (now named) (now slots) × (answerOf (inTurn removeOf (storeOf s (now card)) (now named)) ≡ done) ⌝ }
+    ensures { λ r. ⌜ inTurn removeOf (storeOf s (now (card .entry))) (now (named .entry)) ≡ leave done (storeOf r (now (card .exit))) ⌝ }
+{
+    let n = named.len();
+    let mut t = s;
+    let mut i: usize = 0;
+    while i < n {
+        let from = SLOT * i;
+        let to = from + SLOT;
+        let c = sums::counts_of(&slots[from..to], named[i]);
+        let r = removals::remove_counts(t, card, named[i], c);
+        t = r.state;
+        i += 1;
+    }
+    t
+}
+
+// The removals of a list that has passed refusals 1 to 3 and 16: judged first, then made.
+fn remove_listed(s: State, card: &mut [u8], named: &[u32], slots: &[u32]) -> Replied
+    requires { ⌜ Ready s (now card) (now named) (now slots) ⌝ }
+    ensures { λ r. ⌜ Gives (storeOf s (now (card .entry))) (inTurn removeOf (storeOf s (now (card .entry))) (now (named .entry)))
+        (replied (r .reply)) (storeOf (r .state) (now (card .exit))) ⌝ }
+{
+    let verdict = judge_all(s, card, named, slots);
+    match verdict {
+        Reply::Refused(why) => windows::refuse(s, why),
+        Reply::Done => windows::done(remove_each(s, card, named, slots)),
+    }
+}
+
+// Removes closed windows together. Refusals 1 and 2 come by admission, 3 for what is read of the card, 16 for the list; then come the removals in the order given.
+pub fn remove_all(s: State, card: &mut [u8], named: &[u32]) -> Replied
+    ensures { λ r. ⌜ RemovesAll s (now (card .entry)) (now (named .entry)) r (now (card .exit)) ⌝ }
+{
+    let a = admission::judge_card(rules::state_ok(s), s.lengths, card);
+    if let Admission::Refused(why) = a {
+        return windows::refuse(s, why);
+    }
+    let ps = s.partitions;
+    if !partitions::partitions_ok(card, s.lengths.card / BLOCK_BYTES, ps) {
+        return windows::refuse(s, Refusal::Malformed);
+    }
+    let mut slots = [0u32; 2080];
+    if !read_lists(card, s, named, &mut slots) {
+        return windows::refuse(s, Refusal::Malformed);
+    }
+    if !batch_ok(named) {
+        return windows::refuse(s, Refusal::BadList);
+    }
+    let end = SLOT * named.len();
+    remove_listed(s, card, named, &slots[0..end])
+}
