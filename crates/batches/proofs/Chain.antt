@@ -23,7 +23,7 @@ use Rattle.flushes.specs.Targets.{Chosen, Aimed}
 use Rattle.sums.specs.Tally.{ofWindow, countsOf, listsRuled, windowFormed, listsFormed}
 use Rattle.removals.specs.Removal.{isLive, removalFormed, removalFlushes, removed, removing, removeOf}
 use Rattle.removals.proofs.Given.{namesOpen, notLive}
-use Rattle.batches.specs.Steps.{flushAfter, removalAfter}
+use Rattle.batches.specs.Steps.{roomOf, flushAfter, removalAfter}
 use Rattle.batches.proofs.Flushed.{finished-flushed, rule-flushed, level-flushed, blocks-flushed, parts-flushed, lists-flushed, inside-flushed, stored-flushed, free-flushed}
 use Rattle.batches.proofs.Removed.{buffered-removed, wide-removed, rule-removed, counts-removed, formed-removed}
 
@@ -38,10 +38,10 @@ pub record Reckoned (s : State) (card : List ℕ) (t : State) (after : List ℕ)
 
 -- it is refused as it is judged; or its counts are taken back, without a flush or after one
 pub data Judged (s : State) (card : List ℕ) (t : State) (after : List ℕ) (k w : ℕ) (counts : List Posting) : Type 0 where
-  barred : (n : ℕ) → removalAfter s (words card) (t .windows) (t .buffer) k w counts ≡ refuse n → removing t after w counts ≡ refuse n → Judged s card t after k w counts
-  plain : removalAfter s (words card) (t .windows) (t .buffer) k w counts ≡ leave done tt → namesOpen t w ≡ false → notLive t w counts ≡ false → removalFlushes t counts ≡ false
+  barred : (n : ℕ) → removalAfter (roomOf s) (s .taken) (words card) (t .windows) (t .buffer) k w counts ≡ refuse n → removing t after w counts ≡ refuse n → Judged s card t after k w counts
+  plain : removalAfter (roomOf s) (s .taken) (words card) (t .windows) (t .buffer) k w counts ≡ leave done tt → namesOpen t w ≡ false → notLive t w counts ≡ false → removalFlushes t counts ≡ false
       → removing t after w counts ≡ leave done (storeOf (removed t counts) after) → Judged s card t after k w counts
-  written : removalAfter s (words card) (t .windows) (t .buffer) k w counts ≡ leave done tt → namesOpen t w ≡ false → notLive t w counts ≡ false → removalFlushes t counts ≡ true
+  written : removalAfter (roomOf s) (s .taken) (words card) (t .windows) (t .buffer) k w counts ≡ leave done tt → namesOpen t w ≡ false → notLive t w counts ≡ false → removalFlushes t counts ≡ true
       → (b : ℕ) → Chosen t (words after) b → removing t after w counts ≡ leave done (storeOf (removed (flushedTo t b) counts) (bytes (flushedCard t (words after) b))) → Judged s card t after k w counts
 
 module _ (s : State) (card : List ℕ) (t : State) (after : List ℕ) (k w : ℕ) (counts : List Posting) (r : Reckoned s card t after k) where

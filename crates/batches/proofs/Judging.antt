@@ -27,7 +27,7 @@ use Rattle.removals.specs.Taking.{Takeable, Removable}
 use Rattle.removals.proofs.Given.{namesOpen, notLive, some-live}
 use Rattle.removals.proofs.Takeables.{takeable-plain, takeable-flushed}
 use Rattle.batches.specs.Batch.{batchFormed}
-use Rattle.batches.specs.Steps.{Ready, removalAfter}
+use Rattle.batches.specs.Steps.{Ready, roomOf, removalAfter}
 use Rattle.batches.proofs.Chain.{Reckoned, Judged, barred, plain, written, judged-of, reckoned-none, reckoned-plain, reckoned-flushed, Standing, card-words, standing-formed, standing-few, standing-flushed, Reached, reached-end, standing-here, reached-barred, reached-plain, reached-written}
 
 -- a window's counts at the beginning
@@ -130,10 +130,10 @@ module _ (s : State) (card ws : List ℕ) (once : different ws ≡ true) (i k : 
   judged = judged-of s card t (g .after) k at cs (g .reckoned) (standing-few t (g .after) at (drop (suc i) ws) (countsAt s card) (standing-here (storeOf s card) ws (countsAt s card) once t (g .after) i (g .reached) here))
 
   -- a removal that is refused refuses the list
-  pub going-refused : (m : ℕ) → answerOf (removalAfter s (words card) v b k at cs) ≡ refused m → refused m ≡ answerOf (inTurn removeOf (storeOf s card) ws)
+  pub going-refused : (m : ℕ) → answerOf (removalAfter (roomOf s) (s .taken) (words card) v b k at cs) ≡ refused m → refused m ≡ answerOf (inTurn removeOf (storeOf s card) ws)
   going-refused m e = go judged (rw (← g .windows, ← g .buffer) at e)
     where
-      go : Judged s card t (g .after) k at cs → answerOf (removalAfter s (words card) (t .windows) (t .buffer) k at cs) ≡ refused m → refused m ≡ answerOf (inTurn removeOf (storeOf s card) ws)
+      go : Judged s card t (g .after) k at cs → answerOf (removalAfter (roomOf s) (s .taken) (words card) (t .windows) (t .buffer) k at cs) ≡ refused m → refused m ≡ answerOf (inTurn removeOf (storeOf s card) ws)
       go (barred n x y) f = sym f ∙ ap answerOf x ∙ sym (ap answerOf (reached-barred (storeOf s card) ws (countsAt s card) once t (g .after) i (g .reached) here n y))
       go (plain x _ _ _ _) f = let z : done ≡ refused m = sym (ap answerOf x) ∙ f in let o : _≡_ {A = ℕ} 0 1 = cc in absurd (omega arith)
       go (written x _ _ _ _ _ _) f = let z : done ≡ refused m = sym (ap answerOf x) ∙ f in let o : _≡_ {A = ℕ} 0 1 = cc in absurd (omega arith)
@@ -148,7 +148,7 @@ module _ (s : State) (card ws : List ℕ) (once : different ws ≡ true) (i k : 
     removable : Removable t (g .after) at c
     removable = reached-removable (storeOf s card) ws (countsAt s card) once t (g .after) i (g .reached) here c neat counts
 
-    pub going-on : (flush : Bool) → flush ≡ ltb 128 (length (buffered b) + length (countsIn c)) → answerOf (removalAfter s (words card) v b k at (countsIn c)) ≡ done → Onward flush c
+    pub going-on : (flush : Bool) → flush ≡ ltb 128 (length (buffered b) + length (countsIn c)) → answerOf (removalAfter (roomOf s) (s .taken) (words card) v b k at (countsIn c)) ≡ done → Onward flush c
     going-on flush f e = go judged (rw (← g .windows, ← g .buffer, counts) at e)
       where
         after-plain : namesOpen t at ≡ false → notLive t at cs ≡ false → removalFlushes t cs ≡ false → removing t (g .after) at cs ≡ leave done (storeOf (removed t cs) (g .after)) → Onward false c
@@ -188,7 +188,7 @@ module _ (s : State) (card ws : List ℕ) (once : different ws ≡ true) (i k : 
         same-flush : removalFlushes t cs ≡ flush
         same-flush = unfold removalFlushes in (rw (g .buffer, ← counts) (sym f))
 
-        go : Judged s card t (g .after) k at cs → answerOf (removalAfter s (words card) (t .windows) (t .buffer) k at cs) ≡ done → Onward flush c
+        go : Judged s card t (g .after) k at cs → answerOf (removalAfter (roomOf s) (s .taken) (words card) (t .windows) (t .buffer) k at cs) ≡ done → Onward flush c
         go (barred n x y) z = let q : refused n ≡ done = sym (ap answerOf x) ∙ z in let o : _≡_ {A = ℕ} 0 1 = cc in absurd (omega arith)
         go (plain x a l h y) z = rw (sym same-flush ∙ h) (after-plain a l h y)
         go (written x a l h d ch y) z = rw (sym same-flush ∙ h) (after-flush a l d ch y)

@@ -4,65 +4,59 @@ use Rattle.postings.specs.declared.Posting.{Posting}
 use Rattle.answers.specs.Answers.{refuse, leave, done, refuseIf, choose}
 use Rattle.state.specs.declared.Windows.{Windows}
 use Rattle.state.specs.declared.Buffer.{Buffer}
-use Rattle.state.specs.declared.Partition.{Partition}
-use Rattle.state.specs.declared.State.{State}
-use Rattle.state.specs.Views.{blocks, buffered, finished}
-use Rattle.state.specs.Levels.{ofLevel}
+use Rattle.state.specs.Views.{buffered}
 use Rattle.card.specs.Blocks.{freeBlocks}
-use Rattle.flushes.specs.Flush.{finishedBlocks}
 use Rattle.removals.specs.Removal.{isLive}
 use Rattle.sums.specs.Views.{firstPlace}
 use Rattle.sums.proofs.Slots.{place-elem, place-missing}
+use Rattle.batches.specs.declared.Room.{Room}
 use Rattle.batches.specs.Batch.{batchRule}
 use Rattle.batches.specs.Steps.{flushAfter, removalAfter}
 
-module _ (s : State) (W : List ℕ) (k : ℕ) where
-  abbrev low : ℕ
-  low = ofLevel (λ (p : Partition). p .level) 0 (finished (s .partitions))
-
+module _ (r : Room) (taken : ℕ) (W : List ℕ) (k : ℕ) where
   abbrev free : ℕ
-  free = length (freeBlocks W (blocks s) (s .taken))
+  free = length (freeBlocks W (r .blocks) taken)
 
-  pub level-full : 16 ≤ low + k → flushAfter s W k ≡ refuse 10
+  pub level-full : 16 ≤ r .low + k → flushAfter r taken W k ≡ refuse 10
   unfolding flushAfter refuseIf
-  level-full h = rw (le-leb 16 (low + k) h)
+  level-full h = rw (le-leb 16 (r .low + k) h)
 
-  module _ (room : low + k < 16) where
-    pub half-full : blocks s < 2 * suc (finishedBlocks s + k) → flushAfter s W k ≡ refuse 11
+  module _ (room : r .low + k < 16) where
+    pub half-full : r .blocks < 2 * suc (r .used + k) → flushAfter r taken W k ≡ refuse 11
     unfolding flushAfter refuseIf
-    half-full h = rw (lt-leb 16 (low + k) room, lt-ltb (blocks s) (2 * suc (finishedBlocks s + k)) h)
+    half-full h = rw (lt-leb 16 (r .low + k) room, lt-ltb (r .blocks) (2 * suc (r .used + k)) h)
 
-    module _ (half : 2 * suc (finishedBlocks s + k) ≤ blocks s) where
-      pub too-few : leb (suc k) free ≡ false → flushAfter s W k ≡ refuse 12
+    module _ (half : 2 * suc (r .used + k) ≤ r .blocks) where
+      pub too-few : leb (suc k) free ≡ false → flushAfter r taken W k ≡ refuse 12
       unfolding flushAfter refuseIf
-      too-few h = rw (lt-leb 16 (low + k) room, le-ltb (blocks s) (2 * suc (finishedBlocks s + k)) half, h)
+      too-few h = rw (lt-leb 16 (r .low + k) room, le-ltb (r .blocks) (2 * suc (r .used + k)) half, h)
 
-      pub flush-fits : leb (suc k) free ≡ true → flushAfter s W k ≡ leave done tt
+      pub flush-fits : leb (suc k) free ≡ true → flushAfter r taken W k ≡ leave done tt
       unfolding flushAfter refuseIf
-      flush-fits h = rw (lt-leb 16 (low + k) room, le-ltb (blocks s) (2 * suc (finishedBlocks s + k)) half, h)
+      flush-fits h = rw (lt-leb 16 (r .low + k) room, le-ltb (r .blocks) (2 * suc (r .used + k)) half, h)
 
-module _ (s : State) (W : List ℕ) (v : Windows) (b : Buffer) (k w : ℕ) (counts : List Posting) where
+module _ (r : Room) (taken : ℕ) (W : List ℕ) (v : Windows) (b : Buffer) (k w : ℕ) (counts : List Posting) where
   abbrev named : Bool
   named = not (eqb (v .current) 0) && eqb w (v .current)
 
   abbrev dead : Bool
   dead = not (isLive counts) || (ltb (v .last) w || eqb (v .live) 0)
 
-  pub names-open : named ≡ true → removalAfter s W v b k w counts ≡ refuse 5
+  pub names-open : named ≡ true → removalAfter r taken W v b k w counts ≡ refuse 5
   unfolding removalAfter refuseIf
   names-open e = rw e
 
   module _ (shut : named ≡ false) where
-    pub not-live : dead ≡ true → removalAfter s W v b k w counts ≡ refuse 7
+    pub not-live : dead ≡ true → removalAfter r taken W v b k w counts ≡ refuse 7
     unfolding removalAfter refuseIf
     not-live e = rw (shut, e)
 
     module _ (live : dead ≡ false) where
-      pub fits-plain : ltb 128 (length (buffered b) + length counts) ≡ false → removalAfter s W v b k w counts ≡ leave done tt
+      pub fits-plain : ltb 128 (length (buffered b) + length counts) ≡ false → removalAfter r taken W v b k w counts ≡ leave done tt
       unfolding removalAfter refuseIf choose
       fits-plain e = rw (shut, live, e)
 
-      pub needs-flush : ltb 128 (length (buffered b) + length counts) ≡ true → removalAfter s W v b k w counts ≡ flushAfter s W k
+      pub needs-flush : ltb 128 (length (buffered b) + length counts) ≡ true → removalAfter r taken W v b k w counts ≡ flushAfter r taken W k
       unfolding removalAfter refuseIf choose
       needs-flush e = rw (shut, live, e)
 

@@ -26,6 +26,7 @@ use Rattle.flushes.specs.Flush.{finishedBlocks}
 use Rattle.sums.specs.Views.{heldIn, Tidy}
 use Rattle.sums.specs.Tally.{countsOf, listsRuled, windowFormed, ReadAll}
 use Rattle.removals.specs.Removal.{isLive}
+use Rattle.batches.specs.declared.Room.{Room}
 use Rattle.batches.specs.Batch.{batchFormed}
 
 -- refusals 1 to 3 and 16 have no cause, and the counts of each window are in its slot
@@ -46,19 +47,28 @@ pub record ReadLists (W : List ℕ) (s : State) (ws : List ℕ) (r : Bool) (T : 
   pub long : length T ≡ 2080
   pub all : length ws ≤ 32 → ReadAll W s ws r (take (65 * length ws - 0) T)
 
+-- what a flush is judged by besides its free block, as a state has it
+abbrev pub roomOf : State → Room
+roomOf s = record { low = ofLevel (λ (p : Partition). p .level) 0 (finished (s .partitions)); used = finishedBlocks s; blocks = blocks s }
+
+-- numbers that fit, of a card with these words, and a block of it
+pub record Roomy (r : Room) (last : ℕ) (W : List ℕ) : Type 0 where
+  pub low : r .low ≤ 65535
+  pub used : r .used ≤ 219043332045
+  pub long : length W ≡ 1024 * r .blocks
+  pub most : r .blocks ≤ 4096
+  pub taken : last < r .blocks
+
 -- a flush after k others of the same list, none of which is written yet: each takes one place of level 0, one block of those for finished partitions and one free block
-unfoldable pub flushAfter : State → List ℕ → ℕ → Outcome (Unit {0})
-flushAfter s W k =
+unfoldable pub flushAfter : Room → ℕ → List ℕ → ℕ → Outcome (Unit {0})
+flushAfter r taken W k =
     admit order.writing
-    (leb 16 (ofLevel (λ (p : Partition). p .level) 0 (finished (s .partitions)) + k)
-    ∷ ltb (blocks s) (2 * suc (finishedBlocks s + k))
-    ∷ not (leb (suc k) (length (freeBlocks W (blocks s) (s .taken))))
-    ∷ [])
+    (leb 16 (r .low + k) ∷ ltb (r .blocks) (2 * suc (r .used + k)) ∷ not (leb (suc k) (length (freeBlocks W (r .blocks) taken))) ∷ [])
     (leave done tt)
 
 -- a removal after others of the same list: v and b are what they leave of window numbers and buffer, and k how many flushes they make
-unfoldable pub removalAfter : State → List ℕ → Windows → Buffer → ℕ → ℕ → List Posting → Outcome (Unit {0})
-removalAfter s W v b k w counts =
+unfoldable pub removalAfter : Room → ℕ → List ℕ → Windows → Buffer → ℕ → ℕ → List Posting → Outcome (Unit {0})
+removalAfter r taken W v b k w counts =
     admit (past 3 order.removal)
     ((not (eqb (v .current) 0) && eqb w (v .current)) ∷ (not (isLive counts) || (ltb (v .last) w || eqb (v .live) 0)) ∷ [])
-    (choose (ltb 128 (length (buffered b) + length counts)) (flushAfter s W k) (leave done tt))
+    (choose (ltb 128 (length (buffered b) + length counts)) (flushAfter r taken W k) (leave done tt))

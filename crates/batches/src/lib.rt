@@ -27,7 +27,7 @@ ghost use Rattle.windows.specs.Promises.{Gives, storeOf};
 ghost use Rattle.removals.specs.Removal.{removeOf};
 ghost use Rattle.removals.specs.Taking.{Takeable};
 ghost use Rattle.batches.specs.Batch.{batchRule, RemovesAll};
-ghost use Rattle.batches.specs.Steps.{Ready, ReadLists, flushAfter, removalAfter};
+ghost use Rattle.batches.specs.Steps.{Ready, ReadLists, roomOf, Roomy, flushAfter, removalAfter};
 
 // How many of the windows left one pass takes.
 fn portion(left: usize) -> usize
@@ -82,19 +82,39 @@ fn batch_ok(named: &[u32]) -> bool
     true
 }
 
-// Judges a flush that comes after others of the list.
-fn judge_flush(s: State, card: &[u8], before: u32) -> Reply
-    requires { ⌜ (stateRule s ≡ true) × (length (now card) ≡ s .lengths .card) × (before ≤ 32) ⌝ }
-    ensures { λ r. ⌜ replied r ≡ answerOf (flushAfter s (wordsOf (now (card .entry))) before) ⌝ }
+// What a flush is judged by besides its free block: partitions of level 0, blocks of finished partitions, blocks of the card.
+struct Room {
+    pub low: u32,
+    pub used: u64,
+    pub blocks: u32,
+}
+
+// As it is before the first removal.
+fn room_of(s: State) -> Room
+    requires { ⌜ stateRule s ≡ true ⌝ }
+    ensures { λ r. ⌜ (r ≡ roomOf s) × (r .low ≤ 65535) × (r .used ≤ 219043332045) ⌝ }
 {
-    if levels::of_level(s.partitions, 0) as u32 + before >= 16 {
+    let low = levels::of_level(s.partitions, 0);
+    let used = flushes::finished_blocks(s.partitions);
+    Room {
+        low: low as u32,
+        used: used,
+        blocks: s.lengths.card / BLOCK_BYTES,
+    }
+}
+
+// Judges a flush that comes after others of the list.
+fn judge_flush(card: &[u8], room: Room, taken: u16, before: u32) -> Reply
+    requires { ⌜ Roomy room taken (wordsOf (now card)) × (before ≤ 32) ⌝ }
+    ensures { λ r. ⌜ replied r ≡ answerOf (flushAfter room taken (wordsOf (now (card .entry))) before) ⌝ }
+{
+    if room.low + before >= 16 {
         return Reply::Refused(Refusal::LevelFull);
     }
-    let blocks = s.lengths.card / BLOCK_BYTES;
-    if 2 * (flushes::finished_blocks(s.partitions) + before as u64) + 2 > blocks as u64 {
+    if 2 * (room.used + before as u64) + 2 > room.blocks as u64 {
         return Reply::Refused(Refusal::HalfFull);
     }
-    if !blocks::enough_free(card, blocks, s.taken, before + 1) {
+    if !blocks::enough_free(card, room.blocks, taken, before + 1) {
         return Reply::Refused(Refusal::TooFewFree);
     }
     Reply::Done
@@ -102,16 +122,17 @@ fn judge_flush(s: State, card: &[u8], before: u32) -> Reply
 
 // Judges a removal that comes after others of the list, by what they leave of window numbers and buffer and the flushes that they make.
 fn judge_removal(
-    s: State,
     card: &[u8],
+    room: Room,
+    taken: u16,
     v: Windows,
     b: Buffer,
     before: u32,
     window: u32,
     c: Counts,
 ) -> Reply
-    requires { ⌜ (stateRule s ≡ true) × (length (now card) ≡ s .lengths .card) × (before ≤ 32) × (b .used ≤ 128) × (c .used ≤ 64) ⌝ }
-    ensures { λ r. ⌜ replied r ≡ answerOf (removalAfter s (wordsOf (now (card .entry))) v b before window (countsIn c)) ⌝ }
+    requires { ⌜ Roomy room taken (wordsOf (now card)) × (before ≤ 32) × (b .used ≤ 128) × (c .used ≤ 64) ⌝ }
+    ensures { λ r. ⌜ replied r ≡ answerOf (removalAfter room taken (wordsOf (now (card .entry))) v b before window (countsIn c)) ⌝ }
 {
     if removals::names_open(v, window) {
         return Reply::Refused(Refusal::OutOfTurn);
@@ -122,7 +143,7 @@ fn judge_removal(
     if !removals::must_flush(b, c) {
         return Reply::Done;
     }
-    judge_flush(s, card, before)
+    judge_flush(card, room, taken, before)
 }
 
 // The window numbers after a removal: N is one less.
@@ -159,6 +180,7 @@ fn judge_all(s: State, card: &[u8], named: &[u32], slots: &[u32]) -> Reply
     ensures { λ r. ⌜ replied r ≡ answerOf (inTurn removeOf (storeOf s (now (card .entry))) (now (named .entry))) ⌝ }
 {
     let n = named.len();
+    let room = room_of(s);
     let mut v = s.windows;
     let mut b = s.buffer;
     let mut flushed: u32 = 0;
@@ -167,7 +189,7 @@ fn judge_all(s: State, card: &[u8], named: &[u32], slots: &[u32]) -> Reply
         let from = SLOT * i;
         let to = from + SLOT;
         let c = sums::counts_of(&slots[from..to], named[i]);
-        let verdict = judge_removal(s, card, v, b, flushed, named[i], c);
+        let verdict = judge_removal(card, room, s.taken, v, b, flushed, named[i], c);
         if let Reply::Refused(why) = verdict {
             return Reply::Refused(why);
         }

@@ -6,7 +6,7 @@ use state::MOST_LISTED;
 use state::State;
 ghost use mathlib.Core.Bool.{true, cond};
 ghost use mathlib.Core.Path.{_≡_};
-ghost use mathlib.Core.List.{[], _∷_, _++_};
+ghost use mathlib.Core.List.{[]};
 ghost use Prim.Native.Nat.{_+_, _*_, _≤_, _<_};
 ghost use lib.Dec.{eqb};
 ghost use lib.IntN.{pos};
@@ -198,18 +198,6 @@ pub fn read_all(card: &[u8], s: State, windows: &[u32], slots: &mut [u32]) -> bo
     walk(card, &mut heads, start, s, s.buffer, windows, slots)
 }
 
-// One count more.
-fn append(c: Counts, p: Posting) -> Counts
-    requires { ⌜ c .used < 64 ⌝ }
-    ensures { λ r. ⌜ (countsIn r ≡ countsIn c ++ (p ∷ [])) × Neat r ⌝ }
-{
-    let mut next = c;
-    let n = c.used as usize;
-    next.postings[n] = p;
-    next.used = c.used + 1;
-    next
-}
-
 // A window's counts, taken from its slot.
 pub fn counts_of(slot: &[u32], window: u32) -> Counts
     requires { ⌜ Tidy window (now slot) ⌝ }
@@ -225,9 +213,10 @@ pub fn counts_of(slot: &[u32], window: u32) -> Counts
             window: window as u16,
             count: q.count,
         };
-        c = append(c, p);
+        c.postings[i] = p;
         i += 1;
     }
+    c.used = n as u16;
     c
 }
 

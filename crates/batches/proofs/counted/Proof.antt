@@ -1,9 +1,9 @@
-use Rattle.lists.proofs.Prelude.{needs}
+use Rattle.lists.proofs.Prelude.{arith, needs}
 use Rattle.batches.proofs.counted.Statement.{statement}
 use Rattle.batches.proofs.counted.Tie as tie
 
 returns : tie.Need-returns
-returns c = rw (c .if1 .taken)
+returns c = rw (c .if1 .taken) (omega arith)
 
 returns-2 : tie.Need-returns-2
 returns-2 c = rw (c .if1 .left)

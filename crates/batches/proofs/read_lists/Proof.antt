@@ -36,7 +36,7 @@ returns-2 c =
     let n = c .before .before .before .before .before .before .before .portion in
     let r = c .before .before .before .before .read-all in
     let e : l .from + n .result - l .from ≡ n .result = omega arith in
-    passing-end (words (s .args .card .now)) (s .args .s) (s .args .named .now) (l .from) (l .slots) (l .inv) (n .result) (n .ensures) (r .result) _ (rw e at (r .ensures)) (not-false _ (c .before .if1 .left)) (c .if2 .taken)
+    passing-end (words (s .args .card .now)) (s .args .s) (s .args .named .now) (l .from) (l .slots) (l .inv) (n .result) (n .ensures) (r .result) _ (rw e at (r .ensures)) (not-false _ (c .before .if1 .left)) (omega (arith, c .if2 .taken, n .ensures, l .inv .within))
 
 loop-again : tie.Need-loop-again Inv-loop μ-loop
 loop-again c =
@@ -45,7 +45,7 @@ loop-again c =
     let n = c .before .before .before .before .before .before .before .portion in
     let r = c .before .before .before .before .read-all in
     let e : l .from + n .result - l .from ≡ n .result = omega arith in
-    passing-more (words (s .args .card .now)) (s .args .s) (s .args .named .now) (l .from) (l .slots) (l .inv) (n .result) (n .ensures) (r .result) _ (rw e at (r .ensures)) (not-false _ (c .before .if1 .left)) (c .if2 .left)
+    passing-more (words (s .args .card .now)) (s .args .s) (s .args .named .now) (l .from) (l .slots) (l .inv) (n .result) (n .ensures) (r .result) _ (rw e at (r .ensures)) (not-false _ (c .before .if1 .left)) (λ q. absurd (c .if2 .left (omega (arith, q))))
 
 pub read-lists-spec : {M : Type 1} → statement M
 read-lists-spec = tie.close (tie.spec Inv-loop μ-loop (λ c. passing-none _ _ _ _ (search needs)) (λ c. search needs) (λ c κs. search needs) (λ c. search needs) (λ c. search needs) (λ c. search needs) (λ c. search needs) (λ c. search needs) (λ c. search needs) (λ c. search needs) (λ c. search needs) (λ c. search needs) read-all-requires (λ c. search needs) returns (λ c. search needs) returns-2 (λ c. omega arith) loop-again)
