@@ -1,5 +1,5 @@
 -- Removals one after another: what each leaves for those after it.
-use Rattle.lists.proofs.Prelude.{Bool, true, false, _&&_, _||_, not, ⊎-elim, List, [], _∷_, _++_, _≡_, refl, sym, ap, ap₂, _∙_, subst, ℕ, zero, suc, _+_, _-_, _*_, _<_, _≤_, add-one, arith, eqb, leb, ltb, length, getD, drop, drop-cons, drop-of-length-le, leb-true, leb-false, le-leb, lt-leb, eqb-true, eqb-false, eq-eqb, ne-eqb, ltb-true, ltb-false, lt-ltb, le-ltb, every, empty, elem, different, by-test, and-left, and-right, and-both, or-none, never, not-true, not-false, empty-is, empty-not, every-at}
+use Rattle.lists.proofs.Prelude.{Bool, true, false, _||_, not, List, [], _∷_, _≡_, refl, sym, ap, _∙_, ℕ, zero, suc, _+_, _-_, _*_, _<_, _≤_, add-one, arith, eqb, leb, ltb, length, getD, drop, drop-cons, drop-of-length-le, leb-true, leb-false, le-leb, lt-leb, eq-eqb, ltb-true, ltb-false, every, empty, elem, different, by-test, and-left, and-right, and-both, never, not-true, empty-is, empty-not, every-elem}
 use Rattle.words.specs.Words.{words, bytes}
 use Rattle.words.proofs.Views.{length-words, length-bytes, words-bytes}
 use Rattle.postings.specs.declared.Posting.{Posting}
@@ -17,15 +17,15 @@ use Rattle.partitions.specs.Layout.{encode}
 use Rattle.partitions.specs.Reading.{inPartitions, stored}
 use Rattle.partitions.specs.Formed.{partitionsFormed, sumsInRange}
 use Rattle.scans.specs.Keys.{isKeyed}
-use Rattle.flushes.specs.declared.Target.{Target}
 use Rattle.flushes.specs.Flush.{finishedBlocks, nextFree, flushedTo, flushedCard, flushing, flushingIf}
-use Rattle.flushes.specs.Targets.{Chosen, Aimed}
+use Rattle.flushes.specs.Targets.{Chosen}
 use Rattle.sums.specs.Tally.{ofWindow, countsOf, listsRuled, windowFormed, listsFormed}
-use Rattle.removals.specs.Removal.{isLive, removalFormed, removalFlushes, removed, removing, removeOf}
+use Rattle.removals.specs.Removal.{removalFormed, removalFlushes, removed, removing, removeOf}
 use Rattle.removals.proofs.Given.{namesOpen, notLive}
+use Rattle.batches.specs.Batch.{batchFormed}
 use Rattle.batches.specs.Steps.{roomOf, flushAfter, removalAfter}
-use Rattle.batches.proofs.Flushed.{finished-flushed, rule-flushed, level-flushed, blocks-flushed, parts-flushed, lists-flushed, inside-flushed, stored-flushed, free-flushed}
-use Rattle.batches.proofs.Removed.{buffered-removed, wide-removed, rule-removed, counts-removed, formed-removed}
+use Rattle.batches.proofs.Flushed.{rule-flushed, level-flushed, blocks-flushed, parts-flushed, lists-flushed, inside-flushed, stored-flushed, free-flushed}
+use Rattle.batches.proofs.Removed.{wide-removed, rule-removed, counts-removed, formed-removed}
 
 -- ---- what one removal comes to
 
@@ -36,9 +36,13 @@ pub record Reckoned (s : State) (card : List ℕ) (t : State) (after : List ℕ)
   pub used : finishedBlocks t ≡ finishedBlocks s + k
   pub free : length (freeBlocks (words after) (blocks t) (t .taken)) + k ≡ length (freeBlocks (words card) (blocks s) (s .taken))
 
+-- the numbers that a removal is refused with after 1 to 3
+abbrev pub late : ℕ → Bool
+late n = elem n (5 ∷ 7 ∷ 10 ∷ 11 ∷ 12 ∷ [])
+
 -- it is refused as it is judged; or its counts are taken back, without a flush or after one
 pub data Judged (s : State) (card : List ℕ) (t : State) (after : List ℕ) (k w : ℕ) (counts : List Posting) : Type 0 where
-  barred : (n : ℕ) → removalAfter (roomOf s) (s .taken) (words card) (t .windows) (t .buffer) k w counts ≡ refuse n → removing t after w counts ≡ refuse n → Judged s card t after k w counts
+  barred : (n : ℕ) → late n ≡ true → removalAfter (roomOf s) (s .taken) (words card) (t .windows) (t .buffer) k w counts ≡ refuse n → removing t after w counts ≡ refuse n → Judged s card t after k w counts
   plain : removalAfter (roomOf s) (s .taken) (words card) (t .windows) (t .buffer) k w counts ≡ leave done tt → namesOpen t w ≡ false → notLive t w counts ≡ false → removalFlushes t counts ≡ false
       → removing t after w counts ≡ leave done (storeOf (removed t counts) after) → Judged s card t after k w counts
   written : removalAfter (roomOf s) (s .taken) (words card) (t .windows) (t .buffer) k w counts ≡ leave done tt → namesOpen t w ≡ false → notLive t w counts ≡ false → removalFlushes t counts ≡ true
@@ -77,13 +81,13 @@ module _ (s : State) (card : List ℕ) (t : State) (after : List ℕ) (k w : ℕ
   pub judged-of : length counts ≤ 64 → Judged s card t after k w counts
   unfolding removing removalAfter flushAfter removalFlushes flushingIf flushing choose refuseIf
   judged-of few =
-      by-test (namesOpen t w) (λ y. barred 5 (rw y) (rw y)) (λ a.
-      by-test (notLive t w counts) (λ y. barred 7 (rw (a, y)) (rw (a, y))) (λ b.
+      by-test (namesOpen t w) (λ y. barred 5 refl (rw y) (rw y)) (λ a.
+      by-test (notLive t w counts) (λ y. barred 7 refl (rw (a, y)) (rw (a, y))) (λ b.
       by-test (ltb 128 (length (buffered (t .buffer)) + length counts))
       (λ f. let some = wanted few f in
-      by-test full (λ y. barred 10 (rw (a, b, f, full-same, y)) (rw (a, b, f, some, y))) (λ c.
-      by-test half (λ y. barred 11 (rw (a, b, f, full-same, c, half-same, y)) (rw (a, b, f, some, c, y))) (λ d.
-      by-test none (λ y. barred 12 (rw (a, b, f, full-same, c, half-same, d, none-same, y)) (rw (a, b, f, some, c, d, y))) (λ e.
+      by-test full (λ y. barred 10 refl (rw (a, b, f, full-same, y)) (rw (a, b, f, some, y))) (λ c.
+      by-test half (λ y. barred 11 refl (rw (a, b, f, full-same, c, half-same, y)) (rw (a, b, f, some, c, y))) (λ d.
+      by-test none (λ y. barred 12 refl (rw (a, b, f, full-same, c, half-same, d, none-same, y)) (rw (a, b, f, some, c, d, y))) (λ e.
       written (rw (a, b, f, full-same, c, half-same, d, none-same, e)) a b f (nextFree t (words after))
       (record { some = empty-not (buffered (t .buffer)) some; room = leb-false 16 _ c; half = ltb-false (blocks t) _ d; there = empty-not (freeBlocks (words after) (blocks t) (t .taken)) e; block = refl })
       (rw (a, b, f, some, c, d, e))))))
@@ -124,6 +128,27 @@ pub record Standing (t : State) (card ws : List ℕ) (c : ℕ → List Posting) 
   pub formed : (w : ℕ) → elem w ws ≡ true → windowFormed (words card) t w ≡ true
   pub counts : (w : ℕ) → elem w ws ≡ true → countsOf w (stored (words card) t) ≡ c w
   pub keyed : (w : ℕ) → elem w ws ≡ true → every isKeyed (c w) ≡ true
+
+-- a window's counts
+abbrev pub countsAt : State → List ℕ → ℕ → List Posting
+countsAt s card w = countsOf w (stored (words card) s)
+
+-- where refusals 1 to 3 have no cause for a list
+pub standing-of : (s : State) (card ws : List ℕ) → stateRule s ≡ true → length card ≡ s .lengths .card → length (s .buffer .postings) ≡ 128 → batchFormed (words card) s ws ≡ true
+    → ((w : ℕ) → every isKeyed (countsAt s card w) ≡ true) → Standing s card ws (countsAt s card)
+unfolding batchFormed
+standing-of s card ws rule size wide formed keyed =
+    let rest = and-right (partitionsFormed (words card) (blocks s) (finished (s .partitions))) _ formed in
+    record {
+      rule = rule;
+      size = size;
+      wide = wide;
+      parts = and-left (partitionsFormed (words card) (blocks s) (finished (s .partitions))) _ formed;
+      lists = and-left (listsRuled (words card) s) _ rest;
+      formed = λ w e. every-elem (windowFormed (words card) s) ws w (and-right (listsRuled (words card) s) _ rest) e;
+      counts = λ w e. refl;
+      keyed = λ w e. keyed w;
+    }
 
 -- the card's words
 pub card-words : (t : State) (card : List ℕ) → stateRule t ≡ true → length card ≡ t .lengths .card → length (words card) ≡ 1024 * blocks t

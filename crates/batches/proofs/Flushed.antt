@@ -1,11 +1,10 @@
 -- After a flush the rules hold that held before it, the same is stored, and one block less is free.
-use Rattle.lists.proofs.Prelude.{Bool, true, false, _&&_, not, List, [], _∷_, _++_, append-nil, append-assoc, _≡_, refl, sym, ap, ap₂, _∙_, subst, ℕ, suc, _+_, _*_, _<_, _≤_, arith, eqb, leb, ltb, length, length-append, length-take-le, leb-true, le-leb, lt-ltb, ltb-true, le-ltb, eqb-true, eqb-false, eq-eqb, ne-eqb, AllOf, keep, every, empty, elem, different, totalBy, upTo, total-more, by-test, and-left, and-right, and-both, every-append, every-elem, keep-rising, keep-less, different-rising, elem-rising, empty-not, not-true, not-false}
+use Rattle.lists.proofs.Prelude.{true, false, _&&_, List, [], _∷_, _++_, append-nil, _≡_, refl, sym, ap, ap₂, _∙_, ℕ, suc, _+_, _*_, _<_, _≤_, arith, eqb, leb, ltb, length, length-append, length-take-le, leb-true, le-leb, lt-ltb, eqb-true, eqb-false, eq-eqb, ne-eqb, AllOf, keep, every, empty, elem, upTo, total-more, by-test, and-left, and-right, and-both, every-append, keep-less, different-rising, elem-rising}
 use Rattle.words.specs.Words.{allOnes}
 use Rattle.postings.specs.declared.Posting.{Posting}
 use Rattle.state.specs.declared.Partition.{Partition}
-use Rattle.state.specs.declared.Partitions.{Partitions}
 use Rattle.state.specs.declared.State.{State}
-use Rattle.state.specs.Views.{noPartition, blocks, buffered, finished, bufferOf, partitionsOf}
+use Rattle.state.specs.Views.{noPartition, blocks, buffered, finished, partitionsOf}
 use Rattle.state.specs.Levels.{dueAt, levels, ofLevel, dueLevels}
 use Rattle.state.specs.Rules.{recordRule, neverRise, mergeRule, stateRule}
 use Rattle.state.proofs.Rows.{held}

@@ -1,38 +1,29 @@
 -- The removals of a list judged one after another, and made one after another.
-use Rattle.lists.proofs.Prelude.{Bool, true, false, cond, not, _||_, List, [], _∷_, foldr, _≡_, refl, sym, ap, ap₂, _∙_, subst, ℕ, suc, _+_, _-_, _<_, _≤_, arith, ltb, length, getD, drop, every, elem, different, by-test, and-left, and-right, and-both, every-elem, never, eq-eqb, _&&_}
+use Rattle.lists.proofs.Prelude.{Bool, true, false, cond, not, List, [], _∷_, foldr, _≡_, refl, sym, ap, ap₂, _∙_, subst, ℕ, suc, _+_, _-_, _<_, _≤_, arith, ltb, length, getD, drop, different, eq-eqb}
 use Rattle.words.specs.Words.{words, bytes}
 use Rattle.postings.specs.declared.Posting.{Posting}
 use Rattle.postings.specs.Merge.{put, nonzero, negated}
 use Rattle.answers.specs.declared.Refusal.{Refusal}
 use Rattle.answers.specs.declared.Reply.{Reply}
-use Rattle.answers.specs.Answers.{Answer, Outcome, refuse, leave, done, refused, answerOf, stateOf, inTurn}
+use Rattle.answers.specs.Answers.{Answer, leave, done, refused, answerOf, stateOf, inTurn}
 use Rattle.answers.proofs.Kept.{unchanged-turn}
 use Rattle.state.specs.declared.Windows.{Windows}
 use Rattle.state.specs.declared.Buffer.{Buffer}
 use Rattle.state.specs.declared.State.{State}
-use Rattle.state.specs.Views.{blocks, buffered, finished, bufferOf}
+use Rattle.state.specs.Views.{buffered, bufferOf}
 use Rattle.state.specs.Probe.{Store, storeOf}
-use Rattle.partitions.specs.Reading.{stored}
-use Rattle.partitions.specs.Formed.{partitionsFormed}
-use Rattle.flushes.specs.declared.Target.{Target}
 use Rattle.flushes.specs.Flush.{flushedTo, flushedCard}
 use Rattle.flushes.specs.Targets.{Chosen}
 use Rattle.flushes.proofs.Targets.{idle}
 use Rattle.windows.specs.Promises.{Gives}
 use Rattle.sums.specs.declared.Counts.{Counts}
 use Rattle.sums.specs.Views.{countsIn, Neat}
-use Rattle.sums.specs.Tally.{countsOf, listsRuled, windowFormed}
 use Rattle.removals.specs.Removal.{removalFlushes, removed, removing, removeOf}
 use Rattle.removals.specs.Taking.{Takeable, Removable}
 use Rattle.removals.proofs.Given.{namesOpen, notLive, some-live}
 use Rattle.removals.proofs.Takeables.{takeable-plain, takeable-flushed}
-use Rattle.batches.specs.Batch.{batchFormed}
 use Rattle.batches.specs.Steps.{Ready, roomOf, removalAfter}
-use Rattle.batches.proofs.Chain.{Reckoned, Judged, barred, plain, written, judged-of, reckoned-none, reckoned-plain, reckoned-flushed, Standing, card-words, standing-formed, standing-few, standing-flushed, Reached, reached-end, standing-here, reached-barred, reached-plain, reached-written}
-
--- a window's counts at the beginning
-abbrev pub countsAt : State → List ℕ → ℕ → List Posting
-countsAt s card w = countsOf w (stored (words card) s)
+use Rattle.batches.proofs.Chain.{Reckoned, Judged, barred, plain, written, judged-of, reckoned-none, reckoned-plain, reckoned-flushed, Standing, countsAt, standing-of, card-words, standing-formed, standing-few, Reached, standing-here, reached-barred, reached-plain, reached-written}
 
 -- the window numbers after a removal
 abbrev pub oneLess : Windows → Windows
@@ -43,27 +34,8 @@ abbrev pub takenFrom : Buffer → List Posting → Buffer
 takenFrom b counts = bufferOf (nonzero (foldr put (buffered b) (negated counts)))
 
 -- at the beginning
-module _ (s : State) (card ws T : List ℕ) (r : Ready s card ws T) (wide : length (s .buffer .postings) ≡ 128) where
-  ready-standing : Standing s card ws (countsAt s card)
-  ready-standing = record {
-    rule = r .rule;
-    size = r .size;
-    wide = wide;
-    parts = and-left (partitionsFormed (words card) (blocks s) (finished (s .partitions))) _ whole;
-    lists = and-left (listsRuled (words card) s) _ rest;
-    formed = λ w e. every-elem (windowFormed (words card) s) ws w (and-right (listsRuled (words card) s) _ rest) e;
-    counts = λ w e. refl;
-    keyed = λ w e. r .keyed w;
-  }
-    where
-      whole : (partitionsFormed (words card) (blocks s) (finished (s .partitions)) && (listsRuled (words card) s && every (windowFormed (words card) s) ws)) ≡ true
-      whole = unfold batchFormed in r .formed
-
-      rest : (listsRuled (words card) s && every (windowFormed (words card) s) ws) ≡ true
-      rest = and-right (partitionsFormed (words card) (blocks s) (finished (s .partitions))) _ whole
-
-  pub reached-none : Reached (storeOf s card) ws (countsAt s card) s card 0
-  reached-none = record { standing = ready-standing; lengths = refl; on = refl }
+pub reached-none : (s : State) (card ws T : List ℕ) → Ready s card ws T → length (s .buffer .postings) ≡ 128 → Reached (storeOf s card) ws (countsAt s card) s card 0
+reached-none s card ws T r wide = record { standing = standing-of s card ws (r .rule) (r .size) wide (r .formed) (r .keyed); lengths = refl; on = refl }
 
 -- a reply that is no refusal, as its kind tells
 pub reply-done : (tag : Reply → ℕ) → ((why : Refusal) → tag (Reply.Refused why) ≡ 1) → (r : Reply) → tag r ≡ 0 → r ≡ Reply.Done
@@ -100,7 +72,7 @@ module _ (p : Store) (ws : List ℕ) (c : ℕ → List Posting) (once : differen
           subst (λ (y : Store). Reached p ws c (y .state) (y .card) (i + 1)) (sym same) q
 
       go : Judged t after t after 0 w (c w) → Reached p ws c t′ after′ (i + 1)
-      go (barred n x e) = let z : refused n ≡ done = sym (ap answerOf (reached-barred p ws c once t after i r here n e)) ∙ granted in let o : _≡_ {A = ℕ} 0 1 = cc in absurd (omega arith)
+      go (barred n l x e) = let z : refused n ≡ done = sym (ap answerOf (reached-barred p ws c once t after i r here n e)) ∙ granted in let o : _≡_ {A = ℕ} 0 1 = cc in absurd (omega arith)
       go (plain x a b f e) = left _ _ e (reached-plain p ws c once t after i r here a b f e)
       go (written x a b f k ch e) = left _ _ e (reached-written p ws c once t after i r here a b k ch e)
 
@@ -134,7 +106,7 @@ module _ (s : State) (card ws : List ℕ) (once : different ws ≡ true) (i k : 
   going-refused m e = go judged (rw (← g .windows, ← g .buffer) at e)
     where
       go : Judged s card t (g .after) k at cs → answerOf (removalAfter (roomOf s) (s .taken) (words card) (t .windows) (t .buffer) k at cs) ≡ refused m → refused m ≡ answerOf (inTurn removeOf (storeOf s card) ws)
-      go (barred n x y) f = sym f ∙ ap answerOf x ∙ sym (ap answerOf (reached-barred (storeOf s card) ws (countsAt s card) once t (g .after) i (g .reached) here n y))
+      go (barred n l x y) f = sym f ∙ ap answerOf x ∙ sym (ap answerOf (reached-barred (storeOf s card) ws (countsAt s card) once t (g .after) i (g .reached) here n y))
       go (plain x _ _ _ _) f = let z : done ≡ refused m = sym (ap answerOf x) ∙ f in let o : _≡_ {A = ℕ} 0 1 = cc in absurd (omega arith)
       go (written x _ _ _ _ _ _) f = let z : done ≡ refused m = sym (ap answerOf x) ∙ f in let o : _≡_ {A = ℕ} 0 1 = cc in absurd (omega arith)
 
@@ -189,7 +161,7 @@ module _ (s : State) (card ws : List ℕ) (once : different ws ≡ true) (i k : 
         same-flush = unfold removalFlushes in (rw (g .buffer, ← counts) (sym f))
 
         go : Judged s card t (g .after) k at cs → answerOf (removalAfter (roomOf s) (s .taken) (words card) (t .windows) (t .buffer) k at cs) ≡ done → Onward flush c
-        go (barred n x y) z = let q : refused n ≡ done = sym (ap answerOf x) ∙ z in let o : _≡_ {A = ℕ} 0 1 = cc in absurd (omega arith)
+        go (barred n l x y) z = let q : refused n ≡ done = sym (ap answerOf x) ∙ z in let o : _≡_ {A = ℕ} 0 1 = cc in absurd (omega arith)
         go (plain x a l h y) z = rw (sym same-flush ∙ h) (after-plain a l h y)
         go (written x a l h d ch y) z = rw (sym same-flush ∙ h) (after-flush a l d ch y)
 

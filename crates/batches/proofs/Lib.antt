@@ -6,3 +6,4 @@ pub mod Judging
 pub mod Verdicts
 pub mod Passes
 pub mod Turns
+pub mod Later

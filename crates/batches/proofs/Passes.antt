@@ -1,5 +1,5 @@
 -- The windows named, read in passes of at most 32.
-use Rattle.lists.proofs.Prelude.{Bool, true, false, _&&_, List, _++_, _≡_, refl, sym, ap, _∙_, ℕ, _+_, _-_, _*_, _<_, _≤_, min, arith, length, length-append, length-drop, length-take-le, take, take-at, take-all, take-append-drop, drop, drop-drop, drop-of-length-le, every, every-append, and-left, and-right}
+use Rattle.lists.proofs.Prelude.{Bool, true, false, _&&_, List, _++_, _≡_, refl, sym, ap, _∙_, ℕ, _+_, _-_, _*_, _≤_, min, arith, length, length-append, length-drop, length-take-le, take, take-at, take-all, take-append-drop, drop, drop-drop, drop-of-length-le, every, every-append, and-left, and-right}
 use Rattle.state.specs.declared.State.{State}
 use Rattle.sums.specs.Tally.{listsRuled, windowFormed, ReadAll}
 use Rattle.batches.specs.Steps.{ReadLists}

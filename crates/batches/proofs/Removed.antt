@@ -1,16 +1,15 @@
 -- After a removal the rules hold that held before it, and nothing has moved for any other window.
-use Rattle.lists.proofs.Prelude.{Bool, true, false, _&&_, _||_, not, ⊎-elim, inl, inr, List, [], _∷_, _++_, map, foldr, List·Memᴰ, List·Memᴰ·head, List·Memᴰ·tail, _≡_, refl, sym, ap, ap₂, _∙_, subst, ℕ, suc, _+_, _-_, _<_, _≤_, arith, eqb, leb, ltb, ℤ, pos, natAbs, negℤ, _+ℤ_, +ℤ-idl, +ℤ-idr, length, length-append, length-map, replicate, length-replicate, leb-true, le-leb, eqb-true, eqb-false, eq-eqb, ne-eqb, ltb-false, keep, every, any, joined, true≢false, every-keep, by-test, and-left, and-right, and-both, or-none, every-append, every-from, every-mem, every-member, every-kept, length-keep, never, not-true, not-false}
+use Rattle.lists.proofs.Prelude.{Bool, true, false, _&&_, not, ⊎-elim, inl, inr, List, [], _∷_, _++_, map, foldr, List·Memᴰ, List·Memᴰ·head, List·Memᴰ·tail, _≡_, refl, sym, ap, _∙_, ℕ, _+_, _-_, _≤_, arith, eqb, leb, ltb, ℤ, pos, negℤ, _+ℤ_, +ℤ-idl, +ℤ-idr, length, length-append, length-map, replicate, length-replicate, leb-true, le-leb, eqb-true, eqb-false, eq-eqb, ne-eqb, ltb-false, keep, every, any, joined, true≢false, every-keep, by-test, and-left, and-right, and-both, or-none, every-append, every-from, every-mem, every-member, every-kept, length-keep, never, not-true}
 use Rattle.postings.specs.declared.Posting.{Posting}
 use Rattle.postings.specs.Order.{precedes, ordered}
 use Rattle.postings.specs.Merge.{counting, isZero, put, isCounted, pairs, nonzero, negated}
-use Rattle.postings.specs.Sums.{sum, isAbove}
+use Rattle.postings.specs.Sums.{sum}
 use Rattle.postings.proofs.Order.{any-before}
 use Rattle.postings.proofs.Sums.{sum-append, sum-puts, sum-pairs, sum-nonzero, sum-negated}
 use Rattle.postings.proofs.Merge.{every-puts, puts-ordered, pairs-ordered, nonzero-ordered, nonzero-counts, length-puts, sum-none, ordered-sum, same-sums}
-use Rattle.state.specs.declared.Windows.{Windows}
 use Rattle.state.specs.declared.Partition.{Partition}
 use Rattle.state.specs.declared.State.{State}
-use Rattle.state.specs.Views.{noPosting, blocks, buffered, finished, bufferOf}
+use Rattle.state.specs.Views.{noPosting, buffered, finished}
 use Rattle.state.specs.Rules.{listedRule, postingRule, stateRule}
 use Rattle.state.proofs.Rows.{held}
 use Rattle.state.proofs.Forms.{buffer-rule}
@@ -19,7 +18,7 @@ use Rattle.partitions.specs.Reading.{postingsOf, inPartitions, stored}
 use Rattle.partitions.specs.Formed.{listRule, inRange, sumsInRange}
 use Rattle.scans.specs.Keys.{isKeyed}
 use Rattle.sums.specs.Tally.{ofWindow, countsOf, listsRuled, windowFormed}
-use Rattle.sums.proofs.Windowed.{window-sum, window-fits, counts-ordered, counts-some, counts-own, counts-other, counts-pass, count-there}
+use Rattle.sums.proofs.Windowed.{window-sum, window-fits, counts-ordered, counts-some, counts-own, counts-other, counts-pass}
 use Rattle.removals.specs.Removal.{isLive, removed}
 use Rattle.removals.proofs.Given.{namesOpen, notLive}
 use Rattle.removals.proofs.Takeables.{natAbs-neg, back}

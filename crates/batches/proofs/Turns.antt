@@ -1,5 +1,5 @@
 -- Refusals 1 to 3 and 16 of a removal of several windows, and what goes on after them.
-use Rattle.lists.proofs.Prelude.{Bool, true, false, _&&_, not, List, [], _∷_, _≡_, refl, sym, ap, _∙_, ℕ, zero, suc, _-_, _*_, _<_, _≤_, arith, eqb, leb, length, getD, take, leb-true, eqb-true, eqb-false, eq-eqb, ne-eqb, every, empty, elem, different, by-test, and-left, and-right, never, not-true}
+use Rattle.lists.proofs.Prelude.{Bool, true, false, not, List, [], _∷_, _≡_, refl, sym, ap, _∙_, ℕ, zero, suc, _-_, _*_, _<_, _≤_, arith, eqb, leb, length, getD, take, leb-true, eq-eqb, ne-eqb, empty, elem, different, and-left, and-right, never, not-true}
 use Rattle.lists.proofs.Places.{any-at}
 use Rattle.words.specs.Words.{words}
 use Rattle.answers.specs.declared.Refusal.{Refusal}
@@ -16,7 +16,7 @@ use Rattle.windows.specs.Promises.{Gives, storeOf}
 use Rattle.windows.proofs.Outcomes.{stopped, passed}
 use Rattle.flushes.proofs.Flushes.{gives-by, refuses}
 use Rattle.sums.specs.Views.{firstPlace}
-use Rattle.sums.specs.Tally.{listsRuled, windowFormed, ReadAll}
+use Rattle.sums.specs.Tally.{ReadAll}
 use Rattle.removals.specs.Removal.{removeOf}
 use Rattle.batches.specs.Batch.{batchRule, batchFormed, removeAllOf}
 use Rattle.batches.specs.Steps.{Ready, ReadLists}

@@ -1,5 +1,5 @@
 -- After a step that does not end the merge, state and card hold what the account holds after it: the same partitions, and one step more.
-use Rattle.lists.proofs.Prelude.{Bool, true, false, _||_, _&&_, not, cond, true≢false, List, [], _∷_, _++_, map, _≡_, refl, sym, ap, ap₂, _∙_, ℕ, zero, suc, _+_, _*_, _<_, _≤_, arith, eqb, length, getD, take, replicate, length-append, length-map, length-replicate, eq-eqb, ne-eqb, not-true, AllOf, every, empty, elem, different, same, by-test, and-both, eq-same, every-elem, elem-left, elem-append}
+use Rattle.lists.proofs.Prelude.{Bool, true, false, _||_, _&&_, not, cond, List, [], _∷_, _++_, map, _≡_, refl, sym, ap, ap₂, _∙_, ℕ, zero, suc, _+_, _*_, _<_, _≤_, arith, eqb, length, getD, take, replicate, length-append, length-map, length-replicate, eq-eqb, ne-eqb, AllOf, every, empty, elem, different, same, by-test, and-both, eq-same, elem-left, elem-append}
 use Rattle.words.specs.Words.{allOnes}
 use Rattle.postings.specs.declared.Posting.{Posting}
 use Rattle.postings.specs.Merge.{isCounted, nonzero}
@@ -13,7 +13,7 @@ use Rattle.card.specs.Chains.{blocksFor, chain, chainRule, content}
 use Rattle.blocks.specs.Writes.{store}
 use Rattle.blocks.proofs.Stores.{length-store}
 use Rattle.blocks.proofs.Stored.{chain-stored, rule-stored, content-stored}
-use Rattle.blocks.proofs.FreeBlocks.{store-other, chain-taken, written-taken}
+use Rattle.blocks.proofs.FreeBlocks.{store-other, written-taken}
 use Rattle.partitions.specs.Layout.{termCount, lengthOf, wordOf}
 use Rattle.partitions.specs.Reading.{postingsOf}
 use Rattle.partitions.specs.Formed.{chainsOf}

@@ -58,7 +58,7 @@ use Rattle.demands.specs.Words.{Fit, Listing, Divided, Together, probeAf
 use Rattle.demands.specs.Promises.{Starts, Opens, Counts, Closes, Removes, RemovesAll, Flushes, Steps, Asks, AsksValue, Averages, Begun}
 use Rattle.demands.proofs.Granted.{event-bad, query-bad, mean-bad, event-noted, query-answered, answered-listing, open-unlisted, mean-answered}
 use Rattle.demands.proofs.Rows.{start-fresh, start-refuses, all-unstarted, begun-run}
-use Rattle.demands.proofs.Removals.{removals-together, list-bad}
+use Rattle.demands.proofs.Removals.{removals-together, removals-late, list-bad}
 use Rattle.demands.proofs.Single.{one-state, one-store, one-probe, one-opening, one-list, one-found, one-averaged}
 use Rattle.demands.proofs.After.{listing-by-ledger, hits-kept, mean-told, mean-by-ledger, list-bad-after, together-left, count-removed, live-removed, none-removed, free-left, byte-left, past-left, output-left}
 
@@ -166,6 +166,13 @@ bad-list = list-bad
 pub together : (p : Probe) (ws : List ℕ) → stateRule (p .state) ≡ true → sameLength (p .card) (p .state .lengths .card) ≡ true → batchFormed (words (p .card)) (p .state) ws ≡ true
     → batchRule ws ≡ true → Together p ws (probeCall p (RemoveAll ws))
 together = removals-together
+
+-- None of them finds a cause for 1 to 3 that was not there before: whatever bytes the card has, and with a buffer of 128 places and window numbers of 16 bits, as the code's state has them, such a
+-- list is refused with 5, 7, 10, 11 or 12 or not at all.
+pub list-numbers : (p : Probe) (ws : List ℕ) → stateRule (p .state) ≡ true → sameLength (p .card) (p .state .lengths .card) ≡ true → batchFormed (words (p .card)) (p .state) ws ≡ true
+    → Below 256 (p .card) → length (p .state .buffer .postings) ≡ 128 → p .state .windows .last ≤ 65535 → batchRule ws ≡ true
+    → (n : ℕ) → answerOf (probeCall p (RemoveAll ws)) ≡ refused n → elem n (5 ∷ 7 ∷ 10 ∷ 11 ∷ 12 ∷ []) ≡ true
+list-numbers = removals-late
 
 -- An identifier is never shortened: after a counted event the register's identifiers are those before, with this one included whole.
 pub counted-whole : (p : Probe) (n : Name) → answerOf (eventOf p n) ≡ done

@@ -1,6 +1,6 @@
 -- Removal of several windows: what it comes to by single removals one after another, and what the ledger is after it.
-use Rattle.lists.proofs.Prelude.{Bool, true, false, _||_, cond, List, [], _∷_, map, _≡_, refl, sym, ap, _∙_, subst, ℕ, suc, _≤_, arith, eqb, take, elem, by-test}
-use Rattle.words.specs.Words.{words}
+use Rattle.lists.proofs.Prelude.{Bool, true, false, _||_, cond, List, [], _∷_, map, _≡_, refl, sym, ap, _∙_, subst, ℕ, suc, _≤_, arith, eqb, leb, length, take, eqb-true, not, empty, elem, by-test, and-right}
+use Rattle.words.specs.Words.{words, Below}
 use Rattle.answers.specs.Answers.{Answer, done, refused, Outcome, refuse, leave, refuseIf, choose, next, inTurn, answerOf, stateOf, carry}
 use Rattle.answers.specs.Unchanged.{Unchanged}
 use Rattle.answers.proofs.Kept.{unchanged-if, unchanged-turn}
@@ -10,6 +10,8 @@ use Rattle.state.specs.Probe.{Store, Probe, sameLength}
 use Rattle.identifiers.specs.Names.{Name}
 use Rattle.flushes.specs.Flush.{flushing, flushingIf}
 use Rattle.removals.specs.Removal.{removing, removeOf}
+use Rattle.batches.proofs.Chain.{late}
+use Rattle.batches.proofs.Later.{batch-later}
 use Rattle.batches.specs.Batch.{batchRule, batchFormed, removeAllOf}
 use Rattle.engine.specs.Calls.{Remove, RemoveAll, storeIn, withStore, probeCall, run, afterwards}
 use Rattle.accounts.specs.Account as account
@@ -98,11 +100,24 @@ turn-together (w ∷ ws) p = next-together p w ws _ (turn-together ws) _ refl (r
 -- ---- the call
 
 module _ (p : Probe) (ws : List ℕ) (one : stateRule (p .state) ≡ true) (two : sameLength (p .card) (p .state .lengths .card) ≡ true) (three : batchFormed (words (p .card)) (p .state) ws ≡ true) where
+  -- it comes to the removals
+  passed : batchRule ws ≡ true → probeCall p (RemoveAll ws) ≡ carry (withStore p) (inTurn removeOf (storeIn p) ws)
+  unfolding probeCall removeAllOf refuseIf
+  passed sixteen = rw (one, two, three, sixteen)
+
   pub removals-together : batchRule ws ≡ true → Together p ws (probeCall p (RemoveAll ws))
-  removals-together sixteen = subst (Together p ws) (sym passed) (turn-together ws p)
+  removals-together sixteen = subst (Together p ws) (sym (passed sixteen)) (turn-together ws p)
+
+  -- and to none of 1 to 3
+  pub removals-late : Below 256 (p .card) → length (p .state .buffer .postings) ≡ 128 → p .state .windows .last ≤ 65535 → batchRule ws ≡ true
+      → (n : ℕ) → answerOf (probeCall p (RemoveAll ws)) ≡ refused n → late n ≡ true
+  removals-late bytes wide last sixteen n e =
+      batch-later (p .state) (p .card) ws bytes wide last one (eqb-true _ _ two) three (and-right (leb (length ws) 32) _ (and-right (not (empty ws)) _ sixteen)) n
+      (sym (carried (inTurn removeOf (storeIn p) ws)) ∙ sym (ap answerOf (passed sixteen)) ∙ e)
     where
-      passed : probeCall p (RemoveAll ws) ≡ carry (withStore p) (inTurn removeOf (storeIn p) ws)
-      passed = unfold probeCall removeAllOf refuseIf in rw (one, two, three, sixteen)
+      carried : (o : Outcome Store) → answerOf (carry (withStore p) o) ≡ answerOf o
+      carried (refuse m) = refl
+      carried (leave x q) = refl
 
   pub list-bad : batchRule ws ≡ false → answerOf (probeCall p (RemoveAll ws)) ≡ refused 16
   unfolding probeCall removeAllOf refuseIf

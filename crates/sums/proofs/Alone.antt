@@ -1,10 +1,10 @@
 -- One window read as a list of one.
-use Rattle.lists.proofs.Prelude.{Bool, true, false, _&&_, and-true, List, [], _∷_, _≡_, refl, sym, ap, _∙_, ℕ, arith, length, take, take-all, eq-eqb, never}
+use Rattle.lists.proofs.Prelude.{Bool, true, false, and-true, List, [], _∷_, _≡_, refl, sym, _∙_, ℕ, arith, take-all, eq-eqb, never}
 use Rattle.state.specs.declared.State.{State}
 use Rattle.kway.specs.Parts.{part}
 use Rattle.sums.specs.declared.Counts.{Counts}
 use Rattle.sums.specs.Views.{countsIn, Neat, heldIn, Tidy, firstPlace}
-use Rattle.sums.specs.Tally.{listsRuled, windowFormed, listsFormed, ReadOf, ReadAll}
+use Rattle.sums.specs.Tally.{windowFormed, listsFormed, ReadOf, ReadAll}
 
 module _ (W : List ℕ) (s : State) (w : ℕ) (r : Bool) (T : List ℕ) (a : ReadAll W s (w ∷ []) r T) where
   -- the one slot is all

@@ -1,5 +1,5 @@
 -- One key more: what is told of the counts.
-use Rattle.lists.proofs.Prelude.{Bool, true, false, cond, _&&_, _||_, not, List, [], _∷_, _++_, map, map-append, _≡_, refl, sym, ap, _∙_, ℕ, suc, _+_, _*_, _<_, _≤_, add-one, arith, ltb, ℤ, natAbs, eqb, eqb-true, eqb-false, length, length-append, length-drop, getD, take, drop, set, length-set, take-suc-set, eq-eqb, ne-eqb, le-leb, lt-leb, leb-true, le-ltb, elem, by-test, and-left, and-right, never, append-nil}
+use Rattle.lists.proofs.Prelude.{Bool, true, false, cond, _&&_, _||_, not, List, [], _∷_, _++_, map, map-append, _≡_, refl, sym, ap, _∙_, ℕ, _+_, _*_, _<_, _≤_, add-one, arith, ltb, ℤ, natAbs, eqb, eqb-true, eqb-false, length, length-append, getD, take, set, length-set, take-suc-set, eq-eqb, ne-eqb, le-leb, lt-leb, leb-true, le-ltb, elem, by-test, and-left, and-right, never, append-nil}
 use mir.Syntax.{w16, w32}
 use mir.Val.{SFits, toZ, ofZ}
 use mir.Facts.{toZ-ofZ}

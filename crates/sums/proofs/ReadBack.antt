@@ -1,5 +1,5 @@
 -- What the walk over partitions and buffer tells is what a removal reads.
-use Rattle.lists.proofs.Prelude.{Bool, true, false, cond, _&&_, _||_, not, List, [], _∷_, _++_, map, _≡_, refl, sym, ap, _∙_, ℕ, _*_, _<_, _≤_, arith, eqb, leb, ltb, length, getD, le-leb, lt-leb, leb-true, ltb-true, ne-eqb, every, elem, joined, AllOf, by-test, and-left, and-right, and-both, every-from, every-map, every-elem, elem-every, none-from, keep-none, never, and-false}
+use Rattle.lists.proofs.Prelude.{Bool, true, false, cond, _&&_, not, List, [], _∷_, _++_, map, _≡_, refl, sym, ap, _∙_, ℕ, _*_, _<_, _≤_, arith, eqb, leb, length, getD, le-leb, leb-true, ltb-true, ne-eqb, every, elem, joined, AllOf, by-test, and-right, and-both, every-from, every-map, every-elem, elem-every, none-from, keep-none, never}
 use Rattle.keyed.specs.Groups.{Group}
 use Rattle.words.specs.Words.{Below}
 use Rattle.postings.specs.declared.Posting.{Posting}

@@ -1,6 +1,5 @@
 -- The places at which windows are named, and the slots that hold their counts.
-use Rattle.lists.proofs.Prelude.{Bool, true, false, cond, _||_, List, [], _∷_, map, _≡_, refl, sym, ap, _∙_, ℕ, suc, _+_, _-_, _*_, _<_, _≤_, add-one, add-zero, arith, eqb, ltb, length, length-map, length-drop, length-take-le, getD, getD-take, getD-drop, getD-set-same, getD-set-other, set, length-set, take, drop, drop-cons, drop-of-length-le, take-nil, eqb-true, eqb-false, eq-eqb, ne-eqb, ltb-true, ltb-false, elem, by-test, never}
-use Rattle.postings.specs.declared.Posting.{Posting}
+use Rattle.lists.proofs.Prelude.{true, false, List, [], _∷_, _≡_, sym, ap, _∙_, ℕ, suc, _+_, _-_, _*_, _<_, _≤_, add-one, add-zero, arith, eqb, ltb, length, length-map, length-drop, length-take-le, getD, getD-take, getD-drop, getD-set-same, getD-set-other, set, length-set, take, drop, drop-cons, drop-of-length-le, eqb-true, eqb-false, eq-eqb, ne-eqb, ltb-true, ltb-false, elem, by-test, never}
 use Rattle.kway.specs.Parts.{part}
 use Rattle.kway.proofs.Parts.{putIn, put-length, put-here, put-before, put-later}
 use Rattle.sums.specs.Views.{heldIn, Tidy, Cleared, firstPlace, heldFor}

@@ -1,5 +1,5 @@
 -- The walk's invariant, and its turns.
-use Rattle.lists.proofs.Prelude.{Bool, true, false, cond, _&&_, _||_, not, List, [], _∷_, _++_, map, _≡_, refl, sym, ap, ap₂, _∙_, ℕ, suc, _+_, _*_, _<_, _≤_, arith, eqb, ltb, ℤ, _+ℤ_, length, getD, AllOf, elem, by-test}
+use Rattle.lists.proofs.Prelude.{Bool, true, false, cond, _&&_, _||_, not, List, [], _∷_, _++_, map, _≡_, refl, sym, ap, ap₂, _∙_, ℕ, suc, _+_, _*_, _<_, _≤_, arith, eqb, ℤ, _+ℤ_, length, getD, AllOf, elem, by-test}
 use Rattle.keyed.specs.Keys.{Item, reach, larger, topFrom, rest, headVal, headVals, headsFine}
 use Rattle.keyed.specs.Groups.{Group, topAll, headsFineAll}
 use Rattle.postings.specs.declared.Posting.{Posting}

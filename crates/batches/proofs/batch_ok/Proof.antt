@@ -1,4 +1,4 @@
-use Rattle.lists.proofs.Prelude.{List, _≡_, refl, sym, ap, _∙_, ℕ, _≤_, _+_, _-_, arith, length, getD, drop, drop-of-length-le, different, needs}
+use Rattle.lists.proofs.Prelude.{_≡_, refl, sym, _∙_, _≤_, _-_, arith, drop, drop-of-length-le, different, needs}
 use Rattle.batches.proofs.Verdicts.{batch-size, batch-once, named-again, named-once}
 use Rattle.batches.proofs.batch_ok.Statement.{statement}
 use Rattle.batches.proofs.batch_ok.Tie as tie

@@ -1,5 +1,5 @@
 use denote.Enum.Declared.{tagOf}
-use Rattle.lists.proofs.Prelude.{Bool, _≡_, refl, sym, ap, _∙_, ℕ, _+_, _≤_, _-_, arith, ltb, length, getD, needs, unmapped}
+use Rattle.lists.proofs.Prelude.{Bool, _≡_, refl, sym, ap, _∙_, _+_, _≤_, _-_, arith, ltb, length, getD, needs, unmapped}
 use Rattle.words.specs.Words.{words}
 use Rattle.answers.specs.Answers.{answerOf}
 use Rattle.answers.specs.Numbers.{replied}
@@ -10,8 +10,8 @@ use Rattle.state.proofs.Kept.{state-kept}
 use Rattle.kway.proofs.Parts.{width}
 use Rattle.sums.specs.Views.{countsIn}
 use Rattle.batches.specs.Steps.{roomOf, Roomy, removalAfter}
-use Rattle.batches.proofs.Chain.{reckoned-none, card-words, reached-end}
-use Rattle.batches.proofs.Judging.{countsAt, reached-none, reply-done, Going, going-refused, Onward, going-on}
+use Rattle.batches.proofs.Chain.{countsAt, reckoned-none, card-words, reached-end}
+use Rattle.batches.proofs.Judging.{reached-none, reply-done, Going, going-refused, Onward, going-on}
 use Rattle.batches.proofs.judge_all.Statement.{statement}
 use Rattle.batches.proofs.judge_all.Tie as tie
 

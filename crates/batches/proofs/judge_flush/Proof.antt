@@ -1,4 +1,4 @@
-use Rattle.lists.proofs.Prelude.{_≡_, sym, ap, _∙_, suc, _+_, _*_, _<_, _≤_, add-one, arith, not-true, not-false, needs}
+use Rattle.lists.proofs.Prelude.{sym, ap, _∙_, add-one, arith, not-true, not-false, needs}
 use Rattle.words.specs.Words.{words}
 use Rattle.answers.specs.Answers.{answerOf}
 use Rattle.batches.proofs.Verdicts.{level-full, half-full, too-few, flush-fits}

@@ -1,6 +1,5 @@
-use Rattle.lists.proofs.Prelude.{true, _&&_, List, _≡_, refl, sym, ap, _∙_, ℕ, _≤_, _+_, _-_, _*_, arith, length, length-drop, length-take-le, take, drop, not-true, not-false, needs}
+use Rattle.lists.proofs.Prelude.{_≡_, _+_, _-_, _*_, arith, length, length-drop, length-take-le, take, drop, not-true, not-false, needs}
 use Rattle.words.specs.Words.{words}
-use Rattle.sums.specs.Tally.{listsRuled, windowFormed}
 use Rattle.batches.proofs.Passes.{Passing, passing-none, passing-more, passing-bad, passing-end}
 use Rattle.batches.proofs.read_lists.Statement.{statement}
 use Rattle.batches.proofs.read_lists.Tie as tie

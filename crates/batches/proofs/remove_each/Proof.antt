@@ -1,11 +1,9 @@
-use Rattle.lists.proofs.Prelude.{List, _≡_, refl, sym, ap, _∙_, ℕ, _<_, _≤_, _-_, arith, length, getD, needs, unmapped}
-use Rattle.words.specs.Words.{words}
+use Rattle.lists.proofs.Prelude.{_≡_, sym, ap, _∙_, _<_, _≤_, _-_, arith, length, needs, unmapped}
 use Rattle.state.specs.declared.Lengths.{Lengths}
 use Rattle.state.specs.Probe.{storeOf}
 use Rattle.kway.proofs.Parts.{width}
-use Rattle.sums.specs.Views.{countsIn}
-use Rattle.batches.proofs.Chain.{Reached, reached-end}
-use Rattle.batches.proofs.Judging.{countsAt, reached-none, reached-removable, reached-next}
+use Rattle.batches.proofs.Chain.{countsAt, Reached, reached-end}
+use Rattle.batches.proofs.Judging.{reached-none, reached-removable, reached-next}
 use Rattle.batches.proofs.remove_each.Statement.{statement}
 use Rattle.batches.proofs.remove_each.Tie as tie
 

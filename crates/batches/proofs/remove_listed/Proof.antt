@@ -1,10 +1,8 @@
 use denote.Enum.Declared.{tagOf}
-use Rattle.lists.proofs.Prelude.{_≡_, refl, sym, ap, _∙_, needs}
-use Rattle.answers.specs.Answers.{answerOf, done, inTurn}
+use Rattle.lists.proofs.Prelude.{refl, sym, ap, _∙_, needs}
+use Rattle.answers.specs.Answers.{done}
 use Rattle.answers.specs.Numbers.{replied}
 use Rattle.answers.proofs.Reply.{the-type}
-use Rattle.state.specs.Probe.{storeOf}
-use Rattle.removals.specs.Removal.{removeOf}
 use Rattle.batches.proofs.Judging.{reply-done, gives-refused, gives-done}
 use Rattle.batches.proofs.remove_listed.Statement.{statement}
 use Rattle.batches.proofs.remove_listed.Tie as tie

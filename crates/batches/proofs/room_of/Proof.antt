@@ -1,4 +1,4 @@
-use Rattle.lists.proofs.Prelude.{refl, arith, needs}
+use Rattle.lists.proofs.Prelude.{arith, needs}
 use mir.Syntax.{w16}
 use mir.Val.{Fits}
 use Rattle.state.proofs.Kept.{state-kept}

@@ -1,4 +1,4 @@
-use Rattle.lists.proofs.Prelude.{_≡_, refl, sym, _∙_, _≤_, _+_, _-_, _*_, arith, length, needs}
+use Rattle.lists.proofs.Prelude.{_≤_, _-_, arith, needs}
 use Rattle.sums.proofs.Slots.{ClearedTo, cleared-more}
 use Rattle.sums.proofs.clear.Statement.{statement}
 use Rattle.sums.proofs.clear.Tie as tie

@@ -1,9 +1,9 @@
-use Rattle.lists.proofs.Prelude.{List, [], _∷_, _++_, map, map-append, _≡_, refl, sym, ap, ap₂, _∙_, ℕ, _≤_, _+_, _-_, add-one, arith, length, length-map, length-drop, length-take-le, take, take-suc, take-suc-set, set, length-set, drop, getD, getD-drop, unmapped, needs}
+use Rattle.lists.proofs.Prelude.{List, [], _∷_, _++_, map, map-append, _≡_, refl, sym, ap, ap₂, _∙_, ℕ, _≤_, _+_, _-_, add-one, arith, length, length-drop, length-take-le, take, take-suc, take-suc-set, set, length-set, drop, getD, getD-drop, unmapped, needs}
 use mir.Syntax.{w16}
 use mir.Val.{SFits}
 use mir.Facts.{toZ-ofZ}
 use Rattle.postings.specs.declared.Posting.{Posting}
-use Rattle.sums.specs.Views.{countsIn, Neat, countIn, heldIn, Tidy}
+use Rattle.sums.specs.Views.{countIn, Tidy}
 use Rattle.sums.proofs.counts_of.Statement.{statement}
 use Rattle.sums.proofs.counts_of.Tie as tie
 

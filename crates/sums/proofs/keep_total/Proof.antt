@@ -1,4 +1,4 @@
-use Rattle.lists.proofs.Prelude.{Bool, _&&_, _≡_, sym, _∙_, arith, getD, natAbs, not-true, not-false, needs}
+use Rattle.lists.proofs.Prelude.{_&&_, _≡_, sym, _∙_, not-true, not-false, needs}
 use mir.Facts.{toZ-ofZ}
 use Rattle.postings.specs.Pack.{packed}
 use Rattle.partitions.specs.Formed.{inRange}

@@ -1,4 +1,4 @@
-use Rattle.lists.proofs.Prelude.{_≡_, refl, sym, _∙_, _≤_, _+_, _-_, arith, length, drop, drop-of-length-le, needs}
+use Rattle.lists.proofs.Prelude.{_≡_, _≤_, _+_, _-_, arith, drop, drop-of-length-le, needs}
 use Rattle.sums.specs.Views.{firstPlace}
 use Rattle.sums.proofs.Slots.{place-here, place-on}
 use Rattle.sums.proofs.place_of.Statement.{statement}

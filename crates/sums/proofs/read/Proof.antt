@@ -1,4 +1,4 @@
-use Rattle.lists.proofs.Prelude.{refl, arith, not-true, not-false, needs}
+use Rattle.lists.proofs.Prelude.{not-true, not-false, needs}
 use Rattle.words.specs.Words.{words}
 use Rattle.sums.proofs.Alone.{alone-tidy, alone-read, alone-bad}
 use Rattle.sums.proofs.read.Statement.{statement}

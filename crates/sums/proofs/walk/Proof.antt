@@ -1,4 +1,4 @@
-use Rattle.lists.proofs.Prelude.{⊎-elim, List, _≡_, refl, sym, ap, subst, _∙_, ℕ, suc, _-_, _+_, _*_, arith, _+ℤ_, length, needs, not-true, not-false, unmapped}
+use Rattle.lists.proofs.Prelude.{⊎-elim, List, _≡_, sym, ap, subst, _∙_, ℕ, suc, _-_, _+_, arith, _+ℤ_, length, needs, not-true, not-false, unmapped}
 use mir.Syntax.{w16, w32}
 use mir.Val.{Fits, SFits}
 use mir.Facts.{toZ-ofZ}
