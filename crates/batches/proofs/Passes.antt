@@ -42,11 +42,11 @@ module _ (W : List ℕ) (s : State) (ws : List ℕ) (from : ℕ) (T : List ℕ) 
       ∙ ap (λ (l : List ℕ). every (windowFormed W s) (take n (drop from ws)) && every (windowFormed W s) l) (drop-drop n from ws)
 
   -- one pass is enough for a short list
-  short : length ws ≤ 32 → ReadAll W s ws r (take (65 * length ws - 0) T′)
+  short : length ws ≤ 32 → ReadAll W s ws r (take (65 * length ws) T′)
   short h =
       let z = p .first h in
       let q : n ≡ length ws = omega arith in
-      let slots : take (65 * length ws - 0) T′ ≡ P = rw (← q) (take-at P (drop (65 * n - 0) T) (65 * n - 0) (omega (arith, wide))) in
+      let slots : take (65 * length ws) T′ ≡ P = rw (← q) (take-at P (drop (65 * n - 0) T) (65 * n) wide) in
       let windows : take n (drop from ws) ≡ ws = rw z (take-all n ws (omega arith)) in
       rw slots (rw windows at a)
 

@@ -73,7 +73,7 @@ module _ (s : State) (card ws : List ℕ) where
           once : different ws ≡ true
           once = and-right (leb (length ws) 32) _ (and-right (not (empty ws)) _ ok)
 
-          -- else the windows' counts are read
+          -- else the windows' counts are read; what is handed on of the slots ends where theirs do
           pub ready : Ready s card ws (take (65 * length ws - 0) T)
           ready = record {
             rule = rule;
@@ -88,7 +88,7 @@ module _ (s : State) (card ws : List ℕ) where
           }
             where
               all : ReadAll (words card) s ws r (take (65 * length ws - 0) T)
-              all = read .all few
+              all = let z : 65 * length ws - 0 ≡ 65 * length ws = omega arith in rw z (read .all few)
 
           -- and the removals decide
           pub goes-on : {x : Answer} {after : Store} → Gives (storeOf s card) (inTurn removeOf (storeOf s card) ws) x after → Gives (storeOf s card) (removeAllOf (storeOf s card) ws) x after

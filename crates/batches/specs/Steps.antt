@@ -2,7 +2,7 @@
 use mathlib.Core.Bool.{Bool, true, not, _||_, _&&_}
 use mathlib.Core.List.{List, [], _∷_}
 use mathlib.Core.Path.{_≡_}
-use Prim.Native.Nat.{ℕ, suc, _+_, _-_, _*_, _≤_, _<_}
+use Prim.Native.Nat.{ℕ, suc, _+_, _*_, _≤_, _<_}
 use lib.Dec.{eqb, ltb, leb}
 use lib.ListN.{length, getD, take}
 use Rattle.lists.specs.Lists.{every, different}
@@ -45,7 +45,7 @@ pub record Ready (s : State) (card ws T : List ℕ) : Type 0 where
 pub record ReadLists (W : List ℕ) (s : State) (ws : List ℕ) (r : Bool) (T : List ℕ) : Type 0 where
   pub fine : r ≡ (listsRuled W s && every (windowFormed W s) ws)
   pub long : length T ≡ 2080
-  pub all : length ws ≤ 32 → ReadAll W s ws r (take (65 * length ws - 0) T)
+  pub all : length ws ≤ 32 → ReadAll W s ws r (take (65 * length ws) T)
 
 -- what a flush is judged by besides its free block, as a state has it
 abbrev pub roomOf : State → Room

@@ -27,6 +27,9 @@ ghost use Rattle.removals.specs.Removal.{removeOf};
 ghost use Rattle.batches.specs.Batch.{batchRule, RemovesAll};
 ghost use Rattle.batches.specs.Steps.{Ready, ReadLists, roomOf, Roomy, flushAfter, removalAfter};
 
+// The numbers of 32 slots.
+const SLOTS: usize = 2080;
+
 // How many of the windows left one pass takes.
 fn portion(left: usize) -> usize
     ensures { λ r. ⌜ r ≡ min left 32 ⌝ }
@@ -244,7 +247,7 @@ pub fn remove_all(s: State, card: &mut [u8], named: &[u32]) -> Replied
     if !partitions::partitions_ok(card, s.lengths.card / BLOCK_BYTES, ps) {
         return windows::refuse(s, Refusal::Malformed);
     }
-    let mut slots = [0u32; 2080];
+    let mut slots = [0u32; SLOTS];
     if !read_lists(card, s, named, &mut slots) {
         return windows::refuse(s, Refusal::Malformed);
     }

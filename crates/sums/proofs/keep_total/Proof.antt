@@ -1,4 +1,4 @@
-use Rattle.lists.proofs.Prelude.{_&&_, _≡_, sym, _∙_, not-true, not-false, needs}
+use Rattle.lists.proofs.Prelude.{_&&_, _≡_, sym, _∙_, arith, not-true, not-false, needs}
 use mir.Facts.{toZ-ofZ}
 use Rattle.postings.specs.Pack.{packed}
 use Rattle.partitions.specs.Formed.{inRange}
@@ -29,7 +29,7 @@ returns-3 : tie.Need-returns-3
 returns-3 c =
     let b = c .before .before .before .before in
     let s = b .before .before .before .before in
-    kept-full (s .args .slot .now) (s .args .key) (s .args .sum) (s .args .total) (s .pre .0) (sym (tested b) ∙ not-false _ (c .before .before .before .if1 .left)) (nonzero-word (s .args .total) (c .before .before .if2 .left)) (c .if3 .taken)
+    kept-full (s .args .slot .now) (s .args .key) (s .args .sum) (s .args .total) (s .pre .0) (sym (tested b) ∙ not-false _ (c .before .before .before .if1 .left)) (nonzero-word (s .args .total) (c .before .before .if2 .left)) (omega (arith, c .if3 .taken))
 
 cast-pack : tie.Need-cast-pack
 cast-pack c =
@@ -53,7 +53,7 @@ returns-4 c =
     let r = sym (tested b) ∙ not-false _ (c .before .before .before .before .before .if1 .left) in
     let x : c .pack .result ≡ packed t (keyId (s .args .key)) =
     c .pack .ensures ∙ rw (c .before .key-id .ensures, toZ-ofZ (s .fits .total), toZ-ofZ (total-fits l (s .args .key) (s .args .sum) t (s .pre .0) r)) in
-    rw x (kept-more l (s .args .key) (s .args .sum) t (s .pre .0) r (nonzero-word t (c .before .before .before .before .if2 .left)) (c .before .before .if3 .left))
+    rw x (kept-more l (s .args .key) (s .args .sum) t (s .pre .0) r (nonzero-word t (c .before .before .before .before .if2 .left)) (λ e. c .before .before .if3 .left (omega (arith, e))))
 
 pub keep-total-spec : {M : Type 1} → statement M
 keep-total-spec = tie.close (tie.spec (λ c κs. search needs) (λ c κs. search needs) (λ c κs. search needs) returns returns-2 (λ c. search needs) returns-3 cast-pack (λ c κs. search needs) pack-requires (λ c. search needs) (λ c. search needs) (λ c. search needs) (λ c. search needs) (λ c. search needs) (λ c. search needs) (λ c. search needs) returns-4)
