@@ -1,7 +1,7 @@
 -- Removals one after another: what each leaves for those after it.
 use Rattle.lists.proofs.Prelude.{Bool, true, false, _||_, not, List, [], _∷_, _≡_, refl, sym, ap, _∙_, ℕ, zero, suc, _+_, _-_, _*_, _<_, _≤_, add-one, arith, eqb, leb, ltb, length, getD, drop, drop-cons, drop-of-length-le, leb-true, leb-false, le-leb, lt-leb, eq-eqb, ltb-true, ltb-false, every, empty, elem, different, by-test, and-left, and-right, and-both, never, not-true, empty-is, empty-not, every-elem}
 use Rattle.words.specs.Words.{words, bytes}
-use Rattle.words.proofs.Views.{length-words, length-bytes, words-bytes}
+use Rattle.words.proofs.Views.{length-bytes, words-bytes}
 use Rattle.postings.specs.declared.Posting.{Posting}
 use Rattle.answers.specs.Answers.{Outcome, refuse, leave, done, refuseIf, choose, next, inTurn}
 use Rattle.state.specs.declared.Partition.{Partition}
@@ -21,6 +21,7 @@ use Rattle.flushes.specs.Flush.{finishedBlocks, nextFree, flushedTo, flushedCar
 use Rattle.flushes.specs.Targets.{Chosen}
 use Rattle.sums.specs.Tally.{ofWindow, countsOf, listsRuled, windowFormed, listsFormed}
 use Rattle.removals.specs.Removal.{removalFormed, removalFlushes, removed, removing, removeOf}
+use Rattle.removals.proofs.Turns.{card-words}
 use Rattle.removals.proofs.Given.{namesOpen, notLive}
 use Rattle.batches.specs.Batch.{batchFormed}
 use Rattle.batches.specs.Steps.{roomOf, flushAfter, removalAfter}
@@ -149,10 +150,6 @@ standing-of s card ws rule size wide formed keyed =
       counts = λ w e. refl;
       keyed = λ w e. keyed w;
     }
-
--- the card's words
-pub card-words : (t : State) (card : List ℕ) → stateRule t ≡ true → length card ≡ t .lengths .card → length (words card) ≡ 1024 * blocks t
-card-words t card rule size = omega (arith, state-kept t rule .lengths .card, length-words card)
 
 module _ (t : State) (card : List ℕ) (w : ℕ) (ws : List ℕ) (c : ℕ → List Posting) (h : Standing t card (w ∷ ws) c) where
   first : elem w (w ∷ ws) ≡ true

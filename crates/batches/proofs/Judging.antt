@@ -20,10 +20,11 @@ use Rattle.sums.specs.declared.Counts.{Counts}
 use Rattle.sums.specs.Views.{countsIn, Neat}
 use Rattle.removals.specs.Removal.{removalFlushes, removed, removing, removeOf}
 use Rattle.removals.specs.Taking.{Takeable, Removable}
+use Rattle.removals.proofs.Turns.{card-words}
 use Rattle.removals.proofs.Given.{namesOpen, notLive, some-live}
 use Rattle.removals.proofs.Takeables.{takeable-plain, takeable-flushed}
 use Rattle.batches.specs.Steps.{Ready, roomOf, removalAfter}
-use Rattle.batches.proofs.Chain.{Reckoned, Judged, barred, plain, written, judged-of, reckoned-none, reckoned-plain, reckoned-flushed, Standing, countsAt, standing-of, card-words, standing-formed, standing-few, Reached, standing-here, reached-barred, reached-plain, reached-written}
+use Rattle.batches.proofs.Chain.{Reckoned, Judged, barred, plain, written, judged-of, reckoned-none, reckoned-plain, reckoned-flushed, Standing, countsAt, standing-of, standing-formed, standing-few, Reached, standing-here, reached-barred, reached-plain, reached-written}
 
 -- the window numbers after a removal
 abbrev pub oneLess : Windows → Windows

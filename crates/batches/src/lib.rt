@@ -167,7 +167,7 @@ fn begun(b: Buffer, flush: bool) -> Buffer
     if flush { windows::empty_buffer() } else { b }
 }
 
-// One more where it holds.
+// One flush more where a removal needs it.
 fn counted(n: u32, flush: bool) -> u32
     requires { ⌜ n ≤ 32 ⌝ }
     ensures { λ r. ⌜ r ≡ cond flush (n + 1) n ⌝ }

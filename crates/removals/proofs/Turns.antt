@@ -28,6 +28,10 @@ pub formed-parts : (W : List ℕ) (s : State) (w : ℕ) → removalFormed W s w 
 unfolding removalFormed
 formed-parts W s w = refl
 
+-- the card's words
+pub card-words : (s : State) (card : List ℕ) → stateRule s ≡ true → length card ≡ s .lengths .card → length (words card) ≡ 1024 * blocks s
+card-words s card rule size = omega (arith, state-kept s rule .lengths .card, length-words card)
+
 module _ (s : State) (card : List ℕ) (w : ℕ) where
   -- refused by what is judged first
   pub removal-barred : (why : Refusal) → refusalNumber why ≡ firstOf (1 ∷ 2 ∷ []) (cardTests (stateRule s) (s .lengths) card)
@@ -39,10 +43,6 @@ module _ (s : State) (card : List ℕ) (w : ℕ) where
       (refuses (refusalNumber why))
 
   module _ (rule : stateRule s ≡ true) (size : length card ≡ s .lengths .card) where
-    -- the card's words
-    pub card-words : length (words card) ≡ 1024 * blocks s
-    card-words = let k = state-kept s rule .lengths .card in omega (arith, length-words card)
-
     ill-formed : removalFormed (words card) s w ≡ false → Gives (storeOf s card) (removeOf (storeOf s card) w) (refused 3) (storeOf s card)
     unfolding removeOf
     ill-formed e = passed _ 1 _ (ap not rule) (passed _ 2 _ (ap not (eq-eqb _ _ size)) (stopped _ 3 _ (ap not e)))

@@ -10,7 +10,8 @@ use Rattle.state.proofs.Kept.{state-kept}
 use Rattle.kway.proofs.Parts.{width}
 use Rattle.sums.specs.Views.{countsIn}
 use Rattle.batches.specs.Steps.{roomOf, Roomy, removalAfter}
-use Rattle.batches.proofs.Chain.{countsAt, reckoned-none, card-words, reached-end}
+use Rattle.removals.proofs.Turns.{card-words}
+use Rattle.batches.proofs.Chain.{countsAt, reckoned-none, reached-end}
 use Rattle.batches.proofs.Judging.{reached-none, reply-done, Going, going-refused, Onward, going-on}
 use Rattle.batches.proofs.judge_all.Statement.{statement}
 use Rattle.batches.proofs.judge_all.Tie as tie

@@ -9,7 +9,7 @@ use Rattle.state.proofs.Kept.{state-kept}
 use Rattle.partitions.specs.Formed.{partitionsFormed}
 use Rattle.admission.proofs.Admission.{the-type}
 use Rattle.admission.proofs.Laws.{goes-on as granted, CardSound, card-sound}
-use Rattle.batches.proofs.Chain.{card-words}
+use Rattle.removals.proofs.Turns.{card-words}
 use Rattle.batches.proofs.Turns.{batch-barred, bad-partitions, bad-lists, bad-batch, few, ready, goes-on}
 use Rattle.batches.proofs.remove_all.Statement.{statement}
 use Rattle.batches.proofs.remove_all.Tie as tie

@@ -53,7 +53,7 @@ partitions-ok-requires : tie.Need-partitions-ok-requires
 partitions-ok-requires c κs =
     let i = c .before .before .before .before in
     let k = state-kept (state i) (sound i .rule) in
-    (card-words (state i) (card i) (window i) (sound i .rule) (sound i .size), k .lengths .mostBlocks, k .partitions .used, k .partitions .rules)
+    (card-words (state i) (card i) (sound i .rule) (sound i .size), k .lengths .mostBlocks, k .partitions .used, k .partitions .rules)
 
 returns-2 : tie.Need-returns-2
 returns-2 c =
@@ -63,7 +63,7 @@ returns-2 c =
 read-requires : tie.Need-read-requires
 read-requires c κs =
     let i = first (c .before) in
-    (sound i .rule, card-words (state i) (card i) (window i) (sound i .rule) (sound i .size), formed (c .before))
+    (sound i .rule, card-words (state i) (card i) (sound i .rule) (sound i .size), formed (c .before))
 
 returns-3 : tie.Need-returns-3
 returns-3 c =
