@@ -143,7 +143,12 @@ uint32_t gemsilver_step(uint8_t *image, size_t image_length, uint8_t *card, size
 
 /* Finds the closed windows that match the identifiers best; the open one is no hit and moves no score, wherever its counts lie. hits has
  * GEMSILVER_HIT bytes for each place; bytes past the last whole place, and places past the last hit, stay as they are. What it gives is taken apart by
- * the functions below. */
+ * the functions below.
+ *
+ * A window's score is the sum of S(count + 1) x (S(N) - S(F)) over the identifiers that count in it. S(n) is the largest a with 2^a <= n^16, N the
+ * number of closed windows, and F the number of those in which the identifier counts; where F exceeds N, S(N) - S(F) is taken as 0. So a count of 1
+ * weighs 16, and two windows of three weigh 25 - 16. A score is at most 5 x 240 x 255 = 306,000. Hits come by falling score, those of equal scores by
+ * falling window. */
 uint64_t gemsilver_query(const uint8_t *image, size_t image_length, const uint8_t *card, size_t card_length, const uint8_t *reg,
                          size_t reg_length, const struct gemsilver_bytes *identifiers, size_t identifier_count, uint8_t *hits,
                          size_t hits_length);
@@ -161,7 +166,7 @@ static inline uint64_t gemsilver_query_taken(uint64_t found) {
     return found / 65536;
 }
 
-/* Of a list of hits: the window and the score at a place, from 0. */
+/* Of a list of hits: the window and the score, at most 306,000, at a place, from 0. */
 static inline uint32_t gemsilver_word(const uint8_t *bytes) {
     return (uint32_t)bytes[0] | (uint32_t)bytes[1] << 8 | (uint32_t)bytes[2] << 16 | (uint32_t)bytes[3] << 24;
 }

@@ -1,7 +1,9 @@
 -- The three demands as theorems, each under a plain sentence. Who believes the definitions that they name, and the promises of the public functions,
 -- which equate result and lent buffers with those definitions, need read no further: every proof here cites a law.
-use Rattle.lists.proofs.Prelude.{true, false, _&&_, cond, List, [], _∷_, _++_, map, _≡_, sym, ap, _∙_, ℕ, _*_, _/_, _≤_, _<_, eqb, pos, length, getD, AllOf, any, elem, every, empty, different}
+use Rattle.lists.proofs.Prelude.{true, false, _&&_, cond, List, [], _∷_, _++_, map, _≡_, sym, ap, _∙_, ℕ, _+_, _-_, _*_, _/_, _^_, _≤_, _<_, eqb, leb, pos, length, getD, AllOf, any, elem, every, empty, different}
 use Rattle.words.specs.Words.{words, allOnes, Below}
+use Rattle.weights.specs.Weights.{sixteenths, tfWeight, idfWeight}
+use Rattle.weights.proofs.Laws.{sixteenths-highest, tf-proper, tf-grows, idf-none, idf-past, idf-proper}
 use Rattle.postings.specs.declared.Posting.{Posting}
 use Rattle.postings.specs.Merge.{pairs}
 use Rattle.postings.specs.Sums.{sum}
@@ -54,9 +56,9 @@ use Rattle.decoded.specs.Portions.{portionOn, outputOf, cleanPast}
 use Rattle.decoded.proofs.Simulated.{left-sums}
 use Rattle.histories.specs.Statement.{answers, SameAnswers}
 use Rattle.histories.proofs.Theorem.{entries-most, same-answers, none-malformed, history-left}
-use Rattle.demands.specs.Words.{Fit, Listing, Divided, Together, probeAfter, booksAfter, unused}
+use Rattle.demands.specs.Words.{Fit, Listing, mostScore, Divided, Together, probeAfter, booksAfter, unused}
 use Rattle.demands.specs.Promises.{Starts, Opens, Counts, Closes, Removes, RemovesAll, Flushes, Steps, Asks, AsksValue, Averages, Begun}
-use Rattle.demands.proofs.Granted.{event-bad, query-bad, mean-bad, event-noted, query-answered, answered-listing, open-unlisted, mean-answered}
+use Rattle.demands.proofs.Granted.{event-bad, query-bad, mean-bad, event-noted, query-answered, answered-listing, open-unlisted, scores-few, mean-answered}
 use Rattle.demands.proofs.Rows.{start-fresh, start-refuses, all-unstarted, begun-run}
 use Rattle.demands.proofs.Removals.{removals-together, removals-late, list-bad}
 use Rattle.demands.proofs.Single.{one-state, one-store, one-probe, one-opening, one-list, one-found, one-averaged}
@@ -181,6 +183,20 @@ counted-whole p n e = let w = event-noted p n e in (w .some, w .most, w .whole)
 
 -- ==== 2. Hits and means are exact, and what is written reads back
 
+-- The weights that scores are made of (`tfWeight`, `idfWeight`) are of binary logarithms in sixteenths, S. That of every n from 1 to 65,535 is the largest a with 2 ^ a at most n ^ 16.
+pub logarithm-exact : (n : ℕ) → 1 ≤ n → n ≤ 65535 → (2 ^ sixteenths n ≤ n ^ 16) × (n ^ 16 < 2 ^ (sixteenths n + 1))
+logarithm-exact n lo hi = let h = sixteenths-highest n lo hi in (h .reached, h .next)
+
+-- A count f weighs S(f + 1), a larger one no less; N and F weigh S(N) - S(F) where F is from 1 to N, and else nothing.
+pub count-weight : (f : ℕ) → tfWeight f ≡ sixteenths (f + 1)
+count-weight = tf-proper
+
+pub larger-count : (f g : ℕ) → f ≤ g → tfWeight f ≤ tfWeight g
+larger-count = tf-grows
+
+pub rarity-weight : (n f : ℕ) → ((1 ≤ f) × (f ≤ n) → idfWeight n f ≡ sixteenths n - sixteenths f) × (idfWeight n 0 ≡ 0) × (n < f → idfWeight n f ≡ 0)
+rarity-weight n f = ((λ h. idf-proper n f (h .0) (h .1)), idf-none n, (λ h. idf-past n f h))
+
 -- The hits that a query answers are of matching windows that show, with exactly the defined scores, in falling order, and cut only where the list is full.
 pub hits-exact : (p : Probe) (ns : List Name) (places found : List Hit) (taken : ℕ) → answerOf (queryOf p ns places) ≡ hits found taken
     → Listing (p .state .windows .live) (countIn (words (p .card)) (p .state)) (shown (p .state .windows)) (length places) (numbers (p .register) ns) found
@@ -190,6 +206,10 @@ hits-exact = answered-listing
 pub open-window-unlisted : (p : Probe) (ns : List Name) (places found : List Hit) (taken : ℕ) → answerOf (queryOf p ns places) ≡ hits found taken
     → every (λ h. shows (p .state .windows .current) (h .window)) found ≡ true
 open-window-unlisted = open-unlisted
+
+-- No score is above 306,000, whatever the card says: each of at most five identifiers adds at most 240 × 255.
+pub scores-most : (p : Probe) (ns : List Name) (places found : List Hit) (taken : ℕ) → answerOf (queryOf p ns places) ≡ hits found taken → every (λ h. leb (h .score) mostScore) found ≡ true
+scores-most = scores-few
 
 -- After every history they are so by the ledger: its N, its counts by name, and its closed windows.
 pub hits-by-ledger : (c r : ℕ) → cardLength c ≡ true → registerLength r ≡ true → (cs : List Call) (ns : List Name) (places found : List Hit) (taken : ℕ)

@@ -1,5 +1,5 @@
 -- What a call that is not refused has found and left.
-use Rattle.lists.proofs.Prelude.{Bool, true, false, _&&_, not, cond, List, [], _∷_, _++_, _≡_, refl, sym, ap, _∙_, subst, ℕ, _+_, _*_, _/_, _%_, _≤_, arith, leb, length, eqb-true, eqb-false, leb-false, not-true, not-false, any, every, keep, elem, different, down, by-test, and-left, and-right, and-both, every-from, every-keep, every-kept, every-elem, different-keep, eqb}
+use Rattle.lists.proofs.Prelude.{Bool, true, false, _&&_, not, cond, List, [], _∷_, _++_, _≡_, refl, sym, ap, _∙_, subst, ℕ, _+_, _*_, _/_, _%_, _≤_, arith, leb, length, eqb-true, eqb-false, leb-false, le-leb, le-trans, lit≤, ltb, ltb-false, not-true, not-false, or-none, any, empty, every, keep, elem, different, down, by-test, and-left, and-right, and-both, every-from, every-keep, every-kept, every-elem, different-keep, eqb}
 use Rattle.lists.proofs.TopK.{different-down}
 use Rattle.words.specs.Words.{words}
 use Rattle.answers.specs.Answers.{Answer, done, number, hits, mean, refused, Outcome, leave, refuseIf, choose, answerOf, stateOf}
@@ -13,14 +13,16 @@ use Rattle.identifiers.specs.Register.{names, registerRule, added}
 use Rattle.identifiers.proofs.Added.{good-length, names-added}
 use Rattle.flushes.specs.Flush.{flushing, flushingIf}
 use Rattle.events.specs.Event.{isNew, eventOf}
-use Rattle.ranking.specs.Hits.{matching, ranked}
+use Rattle.ranking.specs.Hits.{score, matching, ranked}
+use Rattle.ranking.specs.Asked.{badQuery}
 use Rattle.queries.specs.Query.{countIn, numbers, takenUp, queryFormed, hitsOf, fill, querying, queryOf}
+use Rattle.queries.proofs.Bounds.{formed-score}
 use Rattle.averages.specs.Average.{averaged}
 use Rattle.averages.proofs.Division.{whole, left-below}
 use Rattle.means.specs.Mean.{frequencyIn, totalIn, meaning, meanOf}
 use Rattle.accounts.specs.Ledger.{including}
 use Rattle.accounts.proofs.Numbers.{new-is}
-use Rattle.demands.specs.Words.{Fit, scored, Listing, Divided}
+use Rattle.demands.specs.Words.{Fit, scored, Listing, mostScore, Divided}
 use Rattle.demands.proofs.Listing.{listed-scores, listed-falls, left-out-only-when-full}
 
 -- where a is answered, what is left is as G says
@@ -100,11 +102,13 @@ event-noted p n e = event-where p n .holds e
 
 -- ---- queries
 
--- the hits answered, the postings taken, and the lent list
+-- the hits answered, the postings taken, and the lent list; what was read is well formed, and no more than five identifiers were asked for
 pub record Answered (p : Probe) (ns : List Name) (places found : List Hit) (taken : ℕ) (left : List Hit) : Type 0 where
   pub hitsAre : hitsOf (words (p .card)) (p .state) (length places) (numbers (p .register) ns) ≡ found
   pub takenIs : takenUp (words (p .card)) (p .state) (numbers (p .register) ns) ≡ taken
   pub leftIs : left ≡ fill found places
+  pub formed : queryFormed (words (p .card)) (p .state) (p .register) (numbers (p .register) ns) ≡ true
+  pub few : length ns ≤ 5
 
 -- the hits of an answer, and the postings taken
 abbrev pub listOf : Answer → List Hit
@@ -121,20 +125,26 @@ takenOf (hits hs k) = k
 takenOf (mean q r f) = 0
 takenOf (refused n) = 0
 
+-- a query that is not refused with 14
+asked-few : (k : ℕ) (ns : List Name) → badQuery k ns ≡ false → length ns ≤ 5
+unfolding badQuery
+asked-few k ns e = ltb-false 5 (length ns) (or-none (ltb 5 (length ns)) _ (or-none (empty ns) _ e .1) .0)
+
 -- an answer with these hits and postings taken
 query-last : (p : Probe) (ns : List Name) (places found : List Hit) (taken : ℕ) (hs : List Hit) (k : ℕ)
     → hitsOf (words (p .card)) (p .state) (length places) (numbers (p .register) ns) ≡ hs → takenUp (words (p .card)) (p .state) (numbers (p .register) ns) ≡ k
+    → queryFormed (words (p .card)) (p .state) (p .register) (numbers (p .register) ns) ≡ true → length ns ≤ 5
     → Where places (hits found taken) (Answered p ns places found taken) (leave (hits hs k) (fill hs places))
-query-last p ns places found taken hs k a b = record {
-  holds = λ e. record { hitsAre = a ∙ ap listOf e; takenIs = b ∙ ap takenOf e; leftIs = ap (λ (l : List Hit). fill l places) (ap listOf e) };
+query-last p ns places found taken hs k a b formed few = record {
+  holds = λ e. record { hitsAre = a ∙ ap listOf e; takenIs = b ∙ ap takenOf e; leftIs = ap (λ (l : List Hit). fill l places) (ap listOf e); formed = formed; few = few };
 }
 
 query-where : (p : Probe) (ns : List Name) (places found : List Hit) (taken : ℕ) → Where places (hits found taken) (Answered p ns places found taken) (queryOf p ns places)
 unfolding queryOf querying
 query-where p ns places found taken =
-    where-if (hits-granted found taken) _ 1 _ λ _. where-if (hits-granted found taken) _ 2 _ λ _. where-if (hits-granted found taken) _ 3 _ λ _.
-    where-if (hits-granted found taken) _ 4 _ λ _. where-if (hits-granted found taken) _ 14 _ λ _.
-    query-last p ns places found taken _ _ refl refl
+    where-if (hits-granted found taken) _ 1 _ λ _. where-if (hits-granted found taken) _ 2 _ λ _. where-if (hits-granted found taken) _ 3 _ λ three.
+    where-if (hits-granted found taken) _ 4 _ λ _. where-if (hits-granted found taken) _ 14 _ λ fourteen.
+    query-last p ns places found taken _ _ refl refl (not-false _ three) (asked-few (length places) ns fourteen)
 
 pub query-answered : (p : Probe) (ns : List Name) (places found : List Hit) (taken : ℕ) → answerOf (queryOf p ns places) ≡ hits found taken
     → Answered p ns places found taken (stateOf places (queryOf p ns places))
@@ -162,36 +172,49 @@ answered-listing p ns places found taken e =
     once : different (shown (p .state .windows)) ≡ true
     once = unfold shown in different-keep (shows (p .state .windows .current)) (down 65535) (different-down 65535)
 
+-- what holds of each window that matches, with its score, holds of every hit
+hits-each : (p : Probe) (ns : List Name) (places found : List Hit) (taken : ℕ) → answerOf (queryOf p ns places) ≡ hits found taken → (t : Hit → Bool)
+    → ((h : Hit) → elem (h .window) (matching (p .state .windows .live) (countIn (words (p .card)) (p .state)) (shown (p .state .windows)) (numbers (p .register) ns)) ≡ true
+    → h .score ≡ score (p .state .windows .live) (countIn (words (p .card)) (p .state)) (shown (p .state .windows)) (numbers (p .register) ns) (h .window) → t h ≡ true) → every t found ≡ true
+hits-each p ns places found taken e t f =
+    let N = p .state .windows .live in
+    let count = countIn (words (p .card)) (p .state) in
+    let windows = shown (p .state .windows) in
+    let is = numbers (p .register) ns in
+    let exact = answered-listing p ns places found taken e .exact in
+    every-from
+    (λ h. elem (h .window) (matching N count windows is) && eqb (h .score) (scored N count windows is (h .window) .score))
+    (λ h. elem (h .window) (matching N count windows is) && eqb (h .score) (scored N count windows is (h .window) .score))
+    t
+    (λ h a b. f h (and-left _ _ a) (eqb-true _ _ (and-right (elem (h .window) (matching N count windows is)) _ a)))
+    found
+    exact
+    exact
+
 -- none of them is of the open window
 pub open-unlisted : (p : Probe) (ns : List Name) (places found : List Hit) (taken : ℕ) → answerOf (queryOf p ns places) ≡ hits found taken
     → every (λ h. shows (p .state .windows .current) (h .window)) found ≡ true
 open-unlisted p ns places found taken e =
-    every-from matched matched (λ h. shows o (h .window)) (λ h a b. shown-only (h .window) (and-left _ _ a)) found exact exact
+    hits-each p ns places found taken e (λ h. shows o (h .window)) (λ h m q. every-elem (shows o) matched (h .window) all m)
   where
     o : ℕ
     o = p .state .windows .current
 
-    N : ℕ
-    N = p .state .windows .live
-
-    is : List ℕ
-    is = numbers (p .register) ns
-
-    count : ℕ → ℕ → ℕ
-    count = countIn (words (p .card)) (p .state)
-
-    matched : Hit → Bool
-    matched h = elem (h .window) (matching N count (shown (p .state .windows)) is) && eqb (h .score) (scored N count (shown (p .state .windows)) is (h .window) .score)
-
-    exact : every matched found ≡ true
-    exact = answered-listing p ns places found taken e .exact
+    matched : List ℕ
+    matched = matching (p .state .windows .live) (countIn (words (p .card)) (p .state)) (shown (p .state .windows)) (numbers (p .register) ns)
 
     -- a window that matches shows
-    shown-only : (w : ℕ) → elem w (matching N count (shown (p .state .windows)) is) ≡ true → shows o w ≡ true
-    shown-only w m = every-elem (shows o) (matching N count (shown (p .state .windows)) is) w all m
-      where
-        all : every (shows o) (matching N count (shown (p .state .windows)) is) ≡ true
-        all = unfold matching shown in every-keep _ (shows o) (keep (shows o) (down 65535)) (every-kept (shows o) (down 65535))
+    all : every (shows o) matched ≡ true
+    all = unfold matching shown in every-keep _ (shows o) (keep (shows o) (down 65535)) (every-kept (shows o) (down 65535))
+
+-- nor is a score above that of five identifiers
+pub scores-few : (p : Probe) (ns : List Name) (places found : List Hit) (taken : ℕ) → answerOf (queryOf p ns places) ≡ hits found taken → every (λ h. leb (h .score) mostScore) found ≡ true
+scores-few p ns places found taken e =
+    let a = query-answered p ns places found taken e in
+    hits-each p ns places found taken e (λ h. leb (h .score) mostScore)
+    (λ h m q.
+    let most = formed-score (words (p .card)) (p .state) (p .register) ns (p .state .windows .live) (shown (p .state .windows)) (h .window) (a .formed) (a .few) in
+    rw q (le-leb _ mostScore (le-trans most (lit≤ tt))))
 
 -- ---- means
 

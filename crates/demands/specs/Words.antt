@@ -46,6 +46,10 @@ pub record Listing {I : Type 0} (N : ℕ) (count : I → ℕ → ℕ) (windows :
   pub full : (w : ℕ) → elem w (matching N count windows is) ≡ true → any (λ h. eqb (h .window) w) found ≡ false
       → (length found ≡ k) × (every (λ h. outranks h (scored N count windows is w)) found ≡ true)
 
+-- what a window scores at most: five identifiers, of which the count weighs at most 240, and N and F at most 255
+abbrev pub mostScore : ℕ
+mostScore = 5 * (240 * 255)
+
 -- what a mean's quotient, remainder and divisor are, where an identifier counts t in all, in f windows
 pub record Divided (f t quotient remainder divisor : ℕ) : Type 0 where
   -- nothing of the sum is lost

@@ -1,6 +1,6 @@
 -- The table of worked cases: one computation on ledger and account, which the history theorem carries over to the engine's bytes.
 use Rattle.lists.proofs.Prelude.{Bool, true, _≡_, refl, ap, ap₂, _∙_, List, [], _∷_, map, ℕ, _*_, every, down, rising, and-left, and-right}
-use Rattle.weights.specs.Weights.{largest, tfWeight, idfWeight}
+use Rattle.weights.specs.Weights.{largest, sixteenths, tfWeight, idfWeight}
 use Rattle.postings.specs.Merge.{nonzero, pairs}
 use Rattle.answers.specs.Answers.{Answer, refuseIf, choose, next, inTurn}
 use Rattle.state.specs.Rules.{cardLength, registerLength}
@@ -20,7 +20,7 @@ use Rattle.histories.proofs.Theorem.{same-answers}
 
 -- on ledger and account
 pub table-expected : TableHolds onBooks
-unfolding TableHolds worked table onBooks down rising largest tfWeight idfWeight nonzero pairs refuseIf choose next inTurn badLength numbersOf names registerRule added lengthOf frequency score matching ranked badQuery total run emptyAccount takenFrom blocksOf blocksIn inputsOf merged blocksAhead completed furthered steppedAccount flushedAccount overflows exceeds addedTo stepping flushing flushingIf emptyLedger live shown existing opens closes counts removes takenBack books expected
+unfolding TableHolds worked table onBooks down rising largest sixteenths tfWeight idfWeight nonzero pairs refuseIf choose next inTurn badLength numbersOf names registerRule added lengthOf frequency score matching ranked badQuery total run emptyAccount takenFrom blocksOf blocksIn inputsOf merged blocksAhead completed furthered steppedAccount flushedAccount overflows exceeds addedTo stepping flushing flushingIf emptyLedger live shown existing opens closes counts removes takenBack books expected
 table-expected = refl
 
 -- the card of a case has a length within the limits

@@ -104,9 +104,9 @@ worked answered (History n cs told) = History n cs (latest told (answered n cs))
 unfoldable pub table : List Case
 table =
     -- the weights of counts
-    Tf 1 4 ∷ Tf 2 6 ∷ Tf 3 8 ∷ Tf 7 12 ∷ Tf 32767 60
-    -- the weights of N and F; none where F is 0 or exceeds N
-    ∷ Idf 8 1 12 ∷ Idf 3 2 2 ∷ Idf 3 3 0 ∷ Idf 65535 1 63 ∷ Idf 5 0 0 ∷ Idf 3 4 0
+    Tf 1 16 ∷ Tf 2 25 ∷ Tf 3 32 ∷ Tf 7 48 ∷ Tf 32767 240
+    -- the weights of N and F; 5 and 3 weigh 37 - 25, where the logarithm of 5/3 would be 11; none where F is 0 or exceeds N
+    ∷ Idf 8 1 48 ∷ Idf 3 2 9 ∷ Idf 5 3 12 ∷ Idf 3 3 0 ∷ Idf 65535 1 255 ∷ Idf 5 0 0 ∷ Idf 3 4 0
     -- 64 bytes accepted, 65 refused with 4, and so is an empty identifier; in a history, too
     ∷ Sized 64 false ∷ Sized 65 true ∷ Sized 0 true
     ∷ History 4 (Open ∷ Event (As 64) ∷ Event (As 65) ∷ Event [] ∷ []) (number 1 ∷ done ∷ refused 4 ∷ refused 4 ∷ [])
@@ -114,26 +114,29 @@ table =
     ∷ Registered (AsB ∷ AsC ∷ []) true ∷ Numbered (AsB ∷ AsC ∷ []) AsB 0 ∷ Numbered (AsB ∷ AsC ∷ []) AsC 1 ∷ Numbered (AsB ∷ AsC ∷ []) (As 16) 2
     -- so each is worked, found and taken up apart from the other
     ∷ History 4 (Open ∷ Event AsB ∷ Event AsB ∷ Close ∷ Open ∷ Event AsC ∷ Close ∷ Query 32 (AsB ∷ []) ∷ Query 32 (AsC ∷ []) ∷ Query 32 (As 16 ∷ []) ∷ [])
-    (hits (hit 1 24 ∷ []) 1 ∷ hits (hit 2 16 ∷ []) 1 ∷ hits [] 0 ∷ [])
-    -- the query gives 1 (24), 3 (8), 2 (8), with 4 postings taken
-    ∷ History 4 (three ++ (asked ∷ [])) (hits (hit 1 24 ∷ hit 3 8 ∷ hit 2 8 ∷ []) 4 ∷ [])
+    (hits (hit 1 400 ∷ []) 1 ∷ hits (hit 2 256 ∷ []) 1 ∷ hits [] 0 ∷ [])
+    -- the query gives 1 (432), 3 (144), 2 (144), with 4 postings taken: counts of 3 and 1 weigh 32 and 16, and two of N = 3 windows 9
+    ∷ History 4 (three ++ (asked ∷ [])) (hits (hit 1 432 ∷ hit 3 144 ∷ hit 2 144 ∷ []) 4 ∷ [])
     -- window 1 removed while all is buffered: its postings are gone from the buffer
-    ∷ History 4 (three ++ (Remove 1 ∷ asked ∷ [])) (done ∷ hits (hit 3 16 ∷ hit 2 16 ∷ []) 2 ∷ [])
+    ∷ History 4 (three ++ (Remove 1 ∷ asked ∷ [])) (done ∷ hits (hit 3 256 ∷ hit 2 256 ∷ []) 2 ∷ [])
     -- flushed and then removed: its postings are on the card and their negation is buffered, and the hits do not change
-    ∷ History 4 (three ++ (Flush ∷ Remove 1 ∷ asked ∷ [])) (done ∷ done ∷ hits (hit 3 16 ∷ hit 2 16 ∷ []) 6 ∷ [])
-    -- DOOR worked 2 before a flush and 1 after, in one window: count 3, which weighs 8, and F adds 1, which of N = 2 weighs 4
-    ∷ History 4 (Open ∷ Event TILT ∷ Close ∷ Open ∷ Event DOOR ∷ Event DOOR ∷ Flush ∷ Event DOOR ∷ Close ∷ Query 32 (DOOR ∷ []) ∷ []) (hits (hit 2 32 ∷ []) 2 ∷ [])
+    ∷ History 4 (three ++ (Flush ∷ Remove 1 ∷ asked ∷ [])) (done ∷ done ∷ hits (hit 3 256 ∷ hit 2 256 ∷ []) 6 ∷ [])
+    -- DOOR worked 2 before a flush and 1 after, in one window: count 3, which weighs 32, and F adds 1, which of N = 2 weighs 16
+    ∷ History 4 (Open ∷ Event TILT ∷ Close ∷ Open ∷ Event DOOR ∷ Event DOOR ∷ Flush ∷ Event DOOR ∷ Close ∷ Query 32 (DOOR ∷ []) ∷ []) (hits (hit 2 512 ∷ []) 2 ∷ [])
     -- on the smallest card two partitions are half of it
     ∷ History 4 (Open ∷ Event DOOR ∷ Flush ∷ Event DOOR ∷ Flush ∷ Event DOOR ∷ Flush ∷ []) (done ∷ done ∷ done ∷ done ∷ done ∷ refused 11 ∷ [])
-    -- eight flushes of one pair make a merge of one step; then none is due, and one posting of count 8 is left
+    -- eight flushes of one pair make a merge of one step; then none is due, and one posting of count 8 is left, which weighs 50
     ∷ History 64 (Open ∷ times 8 (Event DOOR ∷ Flush ∷ []) ++ (Step ∷ Step ∷ Close ∷ Open ∷ Event TILT ∷ Close ∷ Query 3 (DOOR ∷ []) ∷ []))
-    (done ∷ refused 13 ∷ done ∷ number 2 ∷ done ∷ done ∷ hits (hit 1 48 ∷ []) 1 ∷ [])
-    -- window 3 is under way: TILT is in one of N = 2 windows, which weighs 4, though a posting of window 3 is taken. Once it is closed, TILT is in two of N = 3, which weighs 2
+    (done ∷ refused 13 ∷ done ∷ number 2 ∷ done ∷ done ∷ hits (hit 1 800 ∷ []) 1 ∷ [])
+    -- window 3 is under way: TILT is in one of N = 2 windows, which weighs 16, though a posting of window 3 is taken. Once it is closed, TILT is in two of N = 3, which weighs 9
     ∷ History 4 (twoClosed ++ (Open ∷ Event TILT ∷ Query 32 (TILT ∷ []) ∷ Close ∷ Query 32 (TILT ∷ []) ∷ []))
-    (hits (hit 1 16 ∷ []) 2 ∷ done ∷ hits (hit 3 8 ∷ hit 1 8 ∷ []) 2 ∷ [])
-    -- the same where its counts came to the card in eight partitions, which are merged into one: 8 of TILT weigh 12
+    (hits (hit 1 256 ∷ []) 2 ∷ done ∷ hits (hit 3 144 ∷ hit 1 144 ∷ []) 2 ∷ [])
+    -- the same where its counts came to the card in eight partitions, which are merged into one: 8 of TILT weigh 50
     ∷ History 64 (twoClosed ++ (Open ∷ times 8 (Event TILT ∷ Flush ∷ []) ++ (Step ∷ Query 32 (TILT ∷ []) ∷ Close ∷ Query 32 (TILT ∷ []) ∷ [])))
-    (done ∷ hits (hit 1 16 ∷ []) 2 ∷ done ∷ hits (hit 3 24 ∷ hit 1 8 ∷ []) 2 ∷ [])
+    (done ∷ hits (hit 1 256 ∷ []) 2 ∷ done ∷ hits (hit 3 450 ∷ hit 1 144 ∷ []) 2 ∷ [])
+    -- 8 of DOOR weigh 50 and 7 weigh 48: the window with more of them stands first, though the other has the higher number
+    ∷ History 4 (Open ∷ times 8 (Event DOOR ∷ []) ++ (Close ∷ Open ∷ times 7 (Event DOOR ∷ []) ++ (Close ∷ Open ∷ Event TILT ∷ Close ∷ Query 32 (DOOR ∷ []) ∷ [])))
+    (hits (hit 1 450 ∷ hit 2 432 ∷ []) 2 ∷ [])
     -- means: 3 and 1 of LUCKY are 2 in each of two windows; window 4, under way, adds its 1 with its close, and 5 in three windows are 1 with 2 left over. Without
     -- window 1 the mean is 1. DOOR, whose only window is removed, and an identifier never counted are refused with 15, and an empty one with 4
     ∷ History 4 (three ++ (Flush ∷ Open ∷ Event LUCKY ∷ Mean LUCKY ∷ Close ∷ Mean LUCKY ∷ Remove 1 ∷ Mean LUCKY ∷ Remove 3 ∷ Mean DOOR ∷ Mean (As 16) ∷ Mean [] ∷ []))
@@ -141,10 +144,10 @@ table =
     -- windows removed together: no window, or one named twice, is refused with 16; window 9, never given, with 7 though window 1 stands before it, and window 4, under way,
     -- with 5; each time nothing moves. 3 and 1 go together, and LUCKY is in window 2 alone, the only one, which weighs 0
     ∷ History 4 (three ++ (RemoveAll [] ∷ RemoveAll (1 ∷ 2 ∷ 1 ∷ []) ∷ RemoveAll (1 ∷ 9 ∷ []) ∷ asked ∷ Open ∷ Event DOOR ∷ RemoveAll (1 ∷ 4 ∷ []) ∷ asked ∷ RemoveAll (3 ∷ 1 ∷ []) ∷ asked ∷ []))
-    (refused 16 ∷ refused 16 ∷ refused 7 ∷ hits (hit 1 24 ∷ hit 3 8 ∷ hit 2 8 ∷ []) 4 ∷ number 4 ∷ done ∷ refused 5 ∷ hits (hit 1 24 ∷ hit 3 8 ∷ hit 2 8 ∷ []) 4 ∷ done ∷ hits (hit 2 0 ∷ []) 1 ∷ [])
+    (refused 16 ∷ refused 16 ∷ refused 7 ∷ hits (hit 1 432 ∷ hit 3 144 ∷ hit 2 144 ∷ []) 4 ∷ number 4 ∷ done ∷ refused 5 ∷ hits (hit 1 432 ∷ hit 3 144 ∷ hit 2 144 ∷ []) 4 ∷ done ∷ hits (hit 2 0 ∷ []) 1 ∷ [])
     -- the command program's example
     ∷ History 16 (Open ∷ Event LUCKY ∷ Event LUCKY ∷ Event LUCKY ∷ Event TILT ∷ Close ∷ Open ∷ Event LUCKY ∷ Close ∷ Query 2 (LUCKY ∷ TILT ∷ []) ∷ [])
-    (number 1 ∷ done ∷ done ∷ done ∷ done ∷ done ∷ number 2 ∷ done ∷ done ∷ hits (hit 1 16 ∷ hit 2 0 ∷ []) 3 ∷ [])
+    (number 1 ∷ done ∷ done ∷ done ∷ done ∷ done ∷ number 2 ∷ done ∷ done ∷ hits (hit 1 256 ∷ hit 2 0 ∷ []) 3 ∷ [])
     ∷ []
 
 -- the table holds: in every case the definitions give what is told

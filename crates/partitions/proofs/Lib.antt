@@ -11,3 +11,4 @@ pub mod Readers
 pub mod Starts
 pub mod Apart
 pub mod Counts
+pub mod Ranges

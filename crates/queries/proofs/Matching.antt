@@ -2,7 +2,8 @@
 use Rattle.lists.proofs.Prelude.{Bool, true, false, cond, _&&_, _||_, List, [], _∷_, foldr, map, _≡_, refl, ap, ap₂, _∙_, ℕ, zero, suc, _+_, _*_, arith, ltb, ℤ, take, ltb-false, keep, any, every, totalBy, down, by-test, and-both, keep-both}
 use Rattle.keyed.specs.Keys.{sums, allFall, overKeys}
 use Rattle.keyed.specs.Groups.{allFallAll}
-use Rattle.weights.specs.Weights.{tfWeight, idfWeight, largest}
+use Rattle.weights.specs.Weights.{tfWeight, idfWeight}
+use Rattle.weights.proofs.Laws.{tf-none}
 use Rattle.postings.specs.Sums.{sum, above, isAbove}
 use Rattle.postings.specs.Sums as S
 use Rattle.answers.specs.declared.Hit.{Hit}
@@ -18,10 +19,6 @@ use Rattle.queries.specs.Walks.{foundAt, foundBy, foundIn}
 use Rattle.queries.specs.Gathered.{Serving, none, more}
 
 -- a count of 0 weighs nothing
-tf-none : tfWeight 0 ≡ 0
-unfolding tfWeight largest
-tf-none = refl
-
 weighed-or-none : (c x : ℕ) → tfWeight c * x ≡ cond (ltb 0 c) (tfWeight c * x) 0
 weighed-or-none c x = by-test (ltb 0 c) (λ y. rw y) (λ n. let h = ltb-false 0 c n in let e : c ≡ 0 = omega arith in rw (n, e, tf-none) (omega arith))
 

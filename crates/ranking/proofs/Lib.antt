@@ -2,3 +2,4 @@ pub mod Ranking
 pub mod Tops
 pub mod Sorting
 pub mod Asked
+pub mod Scores

@@ -1,11 +1,10 @@
 -- The turns of the loop over a query's terms.
-use Rattle.lists.proofs.Prelude.{Bool, true, false, _||_, or-false, or-assoc, List, [], _∷_, _++_, map, _≡_, refl, sym, ap, ap₂, _∙_, ℕ, _+_, _-_, _*_, _≤_, mul-le-mul, arith, length, getD, drop, set, length-drop, length-set, getD-take, getD-drop, any, every, AllOf, and-left, and-right}
+use Rattle.lists.proofs.Prelude.{Bool, true, false, _||_, or-false, or-assoc, List, [], _∷_, _++_, map, _≡_, refl, sym, ap, ap₂, _∙_, ℕ, _+_, _-_, _*_, _≤_, arith, length, getD, drop, set, length-drop, length-set, getD-take, getD-drop, any, every, AllOf, and-left, and-right}
 use borrow.Rule.Slice.PartMut.{putMid}
 use Rattle.keyed.specs.Keys.{rest, larger, topFrom, headVals}
 use Rattle.keyed.specs.Groups.{Group, topAll, moveAll}
 use Rattle.keyed.proofs.Walk.{larger-left, larger-right}
-use Rattle.weights.specs.Weights.{tfWeight, largest}
-use Rattle.weights.proofs.Laws.{tf-most}
+use Rattle.weights.proofs.Laws.{tf-none}
 use Rattle.postings.specs.Sums.{isAbove}
 use Rattle.partitions.specs.Formed.{inRange}
 use Rattle.kway.specs.Parts.{part, parts}
@@ -18,10 +17,6 @@ use Rattle.scores.proofs.Counts.{Headed, topped, put-behind-long}
 use Rattle.heads.proofs.Leads.{still-at}
 
 -- ---- a term that is not at the window
-
-tf-none : tfWeight 0 ≡ 0
-unfolding tfWeight largest
-tf-none = refl
 
 module _ (W R : List ℕ) (m k : ℕ) (G : List ℕ) (kept : KeptGroup W R m G) where
   abbrev lists : Group
@@ -63,10 +58,6 @@ module _ (W R : List ℕ) (m k : ℕ) (G : List ℕ) (kept : KeptGroup W R m G) 
     pub after-top : next ≡ topFrom 0 (views W R m (drop 4 after))
     after-top = top ∙ ap (λ (x : List ℕ). topFrom 0 (views W R m x)) (sym (now .others))
 
--- no identifier adds more to the score of a window
-pub score-most : (count w : ℕ) → count ≤ 32767 → w ≤ 63 → tfWeight count * w ≤ 3780
-score-most count w h g = mul-le-mul (tf-most count h) g
-
 -- ---- one term more
 
 module _ (k : ℕ) where
@@ -106,7 +97,7 @@ due-all W R m k t (P ∷ ps) h e =
 
 pub record Joined (W R : List ℕ) (m k : ℕ) (H₀ : List ℕ) (j : ℕ) (H : List ℕ) (score : ℕ) (counts : Bool) (next : ℕ) : Type 0 where
   pub heads : Moved (termOf W R m) (KeptGroup W R m) (moved k) (4 * m + 4) H₀ j H
-  pub few : score ≤ 3780 * j
+  pub few : score ≤ 61200 * j
   pub total : score ≡ scoreAt k (termsOf W R m j H₀)
   pub some : counts ≡ any isAbove (map (headVals k) (groupsIn (termsOf W R m j H₀)))
   pub top : next ≡ topAll 0 (groupsIn (termsOf W R m j H))
@@ -118,7 +109,7 @@ module _ (W R : List ℕ) (m k : ℕ) (H₀ : List ℕ) where
 
   pub joined-more : (j : ℕ) (H : List ℕ) (score : ℕ) (counts : Bool) (next : ℕ) → Joined W R m k H₀ j H score counts next → (4 * m + 4) * j + (4 * m + 4) ≤ length H₀
       → (P : List ℕ) (a : ℕ) (b : Bool) (r : ℕ) → KeptGroup W R m P → termOf W R m P ≡ moved k (termOf W R m (part (4 * m + 4) j H))
-      → a ≡ weigh k (termOf W R m (part (4 * m + 4) j H)) → a ≤ 3780 → b ≡ isAbove (headVals k (views W R m (drop 4 (part (4 * m + 4) j H)))) → r ≡ topFrom 0 (views W R m (drop 4 P))
+      → a ≡ weigh k (termOf W R m (part (4 * m + 4) j H)) → a ≤ 61200 → b ≡ isAbove (headVals k (views W R m (drop 4 (part (4 * m + 4) j H)))) → r ≡ topFrom 0 (views W R m (drop 4 P))
       → Joined W R m k H₀ (j + 1) (putIn (4 * m + 4) H P j) (score + a) (counts || b) (larger next r)
   joined-more j H score counts next t fits P a b r g ev ea small eb er =
       let v = t .heads in

@@ -35,7 +35,7 @@ termOf W R m P = record { lists = views W R m (drop 4 P); weight = getD P 1 0 }
 pub record KeptGroup (W R : List ℕ) (m : ℕ) (P : List ℕ) : Type 0 where
   pub long : length P ≡ 4 * m + 4
   pub top : getD P 0 0 ≡ topFrom 0 (views W R m (drop 4 P))
-  pub light : getD P 1 0 ≤ 63
+  pub light : getD P 1 0 ≤ 255
   pub heads : AllOf (Kept W R) (parts 4 m (drop 4 P))
   pub lead : Leads (views W R m (drop 4 P)) (getD P 2 0) (getD P 3 0)
 

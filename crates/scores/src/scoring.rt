@@ -38,7 +38,7 @@ fn take_term(card: &[u8], run: &[u32], group: &mut [u32], m: usize, key: u32) ->
     ensures group { λ r. ⌜ KeptGroup (wordsOf (now (card .entry))) (now (run .entry)) m (now (group .exit))
         × (termOf (wordsOf (now (card .entry))) (now (run .entry)) m (now (group .exit))
         ≡ moved key (termOf (wordsOf (now (card .entry))) (now (run .entry)) m (now (group .entry)))) ⌝ }
-    ensures scored { λ r. ⌜ (r .score ≡ weigh key (termOf (wordsOf (now (card .entry))) (now (run .entry)) m (now (group .entry)))) × (r .score ≤ 3780)
+    ensures scored { λ r. ⌜ (r .score ≡ weigh key (termOf (wordsOf (now (card .entry))) (now (run .entry)) m (now (group .entry)))) × (r .score ≤ 61200)
         × (r .counts ≡ isAbove (headVals key (views (wordsOf (now (card .entry))) (now (run .entry)) m (drop 4 (now (group .entry))))))
         × (r .next ≡ topFrom 0 (views (wordsOf (now (card .entry))) (now (run .entry)) m (drop 4 (now (group .exit))))) ⌝ }
 {

@@ -1,13 +1,13 @@
 -- A window's sums, and its counts read from them.
-use Rattle.lists.proofs.Prelude.{Bool, true, _&&_, List, [], _∷_, List·Memᴰ, _≡_, refl, sym, _∙_, ℕ, _≤_, arith, eqb, ℤ, pos, natAbs, _+ℤ_, +ℤ-idl, +ℤ-idr, leb-true, eqb-true, every, by-test, and-left, and-right, every-kept, every-keep, every-mem, and-false}
+use Rattle.lists.proofs.Prelude.{Bool, true, List, [], _∷_, List·Memᴰ, _≡_, refl, sym, _∙_, ℕ, _≤_, eqb, ℤ, pos, natAbs, _+ℤ_, +ℤ-idl, eqb-true, every, by-test, every-kept, every-keep, every-mem, and-false}
 use Rattle.postings.specs.declared.Posting.{Posting}
-use Rattle.postings.specs.Order.{precedes, ordered}
+use Rattle.postings.specs.Order.{ordered}
 use Rattle.postings.specs.Merge.{counting, isCounted, pairs, nonzero}
 use Rattle.postings.specs.Sums.{sum}
-use Rattle.postings.proofs.Order.{any-before}
-use Rattle.postings.proofs.Sums.{sum-pairs, sum-merge}
-use Rattle.postings.proofs.Merge.{every-puts, pairs-ordered, nonzero-ordered, nonzero-counts, ordered-sum, sum-none}
-use Rattle.partitions.specs.Formed.{inRange, sumsInRange}
+use Rattle.postings.proofs.Sums.{sum-merge}
+use Rattle.postings.proofs.Merge.{every-puts, pairs-ordered, nonzero-ordered, nonzero-counts, ordered-sum}
+use Rattle.partitions.specs.Formed.{sumsInRange}
+use Rattle.partitions.proofs.Ranges.{sums-fit}
 use Rattle.sums.specs.Tally.{ofWindow, countsOf}
 
 -- ---- sums of a window's postings
@@ -28,22 +28,9 @@ module _ (w i : ℕ) where
       (λ n. rw (y, n, and-false (eqb (p .id) i), other-sum v h l) refl))
       (λ n. rw (n, other-sum v h l))
 
--- where every pair's count fits, every sum does
-fits-sum : (i w : ℕ) (l : List Posting) → ordered l ≡ true → every (λ p. inRange (p .count)) l ≡ true → natAbs (sum l i w) ≤ 32767
-fits-sum i w [] o e = omega arith
-fits-sum i w (p ∷ l) o e =
-    by-test (eqb (p .id) i && eqb (p .window) w)
-    (λ y. let a : p .id ≡ i = eqb-true _ _ (and-left (eqb (p .id) i) _ y) in
-    let b : p .window ≡ w = eqb-true _ _ (and-right (eqb (p .id) i) _ y) in
-    let z : sum l i w ≡ pos 0 = rw (a, b) at (sum-none p l (any-before p l (and-left (every (precedes p) l) _ o))) in
-    rw (y, z, +ℤ-idr (p .count)) (leb-true _ _ (and-left (inRange (p .count)) _ e)))
-    (λ n. rw (n, +ℤ-idl (sum l i w)) (fits-sum i w l (and-right (every (precedes p) l) _ o) (and-right (inRange (p .count)) _ e)))
-
--- so a window whose sums are judged has sums that fit
+-- a window whose sums are judged has sums that fit
 pub window-fits : (w i : ℕ) (l : List Posting) → sumsInRange (ofWindow w l) ≡ true → natAbs (sum l i w) ≤ 32767
-unfolding sumsInRange
-window-fits w i l e =
-    rw (← window-sum w i l, ← sum-pairs i w (ofWindow w l)) (fits-sum i w (pairs (ofWindow w l)) (pairs-ordered (ofWindow w l)) e)
+window-fits w i l e = rw (← window-sum w i l) (sums-fit i w (ofWindow w l) e)
 
 -- ---- its counts
 

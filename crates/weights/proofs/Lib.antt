@@ -1,3 +1,4 @@
 pub mod Largest
 pub mod Powers
+pub mod Table
 pub mod Laws

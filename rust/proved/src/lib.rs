@@ -6,7 +6,7 @@
 /// Bytes of a state's image: 614 little-endian words.
 pub const IMAGE: usize = 2_456;
 
-/// Bytes of a place in a list of hits: the window and the score, a little-endian word each.
+/// Bytes of a place in a list of hits: the window and the score, a little-endian word each. A score is at most 306,000.
 pub const HIT: usize = 8;
 
 /// A number above every window: an open's refusals are told from there on.
@@ -240,6 +240,10 @@ pub fn step(image: &mut [u8], card: &mut [u8]) -> Result<(), u32> {
 }
 
 /// Fills the list, of [`HIT`] bytes a place, with the closed windows that score highest on the identifiers.
+///
+/// A window's score is the sum of S(count + 1) x (S(N) - S(F)) over the identifiers that count in it. S(n) is the largest a with
+/// 2^a <= n^16, N the number of closed windows, and F the number of those in which the identifier counts; where F exceeds N,
+/// S(N) - S(F) is taken as 0.
 pub fn query(
     image: &[u8],
     card: &[u8],

@@ -111,7 +111,7 @@ pub struct State {
 pub struct Hit {
     /// The window.
     pub window: u16,
-    /// Its score.
+    /// Its score, at most 306,000: five identifiers, of 240 times 255 each.
     pub score: u32,
 }
 

@@ -1,11 +1,31 @@
-//! The weights of a score: binary logarithms, cut to quarters.
+//! The weights of a score: binary logarithms in sixteenths, cut to whole ones.
 //!
-//! A quarter of a logarithm is the whole logarithm of the fourth power, so both
-//! weights are places of a highest set bit.
+//! Sixteen times the logarithm of a number is the logarithm of its sixteenth
+//! power, so every weight comes from the place of a highest set bit. That power
+//! has up to 256 bits: it is the square of the eighth, which has at most 128.
 
-/// The weight of a count: four times the logarithm of the count plus one.
+/// The logarithm of a number above 0 in sixteenths: the largest a with 2^a at
+/// most number^16.
+pub fn sixteenths(number: u16) -> u32 {
+    let (high, low) = square(u128::from(number).pow(8));
+    match high {
+        0 => low.ilog2(),
+        _ => 128 + high.ilog2(),
+    }
+}
+
+/// The square of a number: its high 128 bits and its low ones.
+fn square(number: u128) -> (u128, u128) {
+    let (high, low) = (number >> 64, number & u128::from(u64::MAX));
+    // Twice high * low, 64 bits up: once, 65 bits up.
+    let cross = high * low;
+    let (bottom, is_carried) = (low * low).overflowing_add(cross << 65);
+    (high * high + (cross >> 63) + u128::from(is_carried), bottom)
+}
+
+/// The weight of a count, of at most 32,767.
 pub fn count_weight(count: u16) -> u32 {
-    (u128::from(count) + 1).pow(4).ilog2()
+    sixteenths(count + 1)
 }
 
 /// The weight of an identifier that `with` of `live` closed windows contain.
@@ -16,6 +36,6 @@ pub fn rarity_weight(live: u16, with: u16) -> u32 {
     if with == 0 || with > live {
         return 0;
     }
-    // The powers are divided, not the numbers: rounding first would lose bits.
-    (u64::from(live).pow(4) / u64::from(with).pow(4)).ilog2()
+    // Each logarithm is cut by itself: that of the quotient may be one less.
+    sixteenths(live) - sixteenths(with)
 }

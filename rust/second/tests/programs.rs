@@ -169,6 +169,21 @@ fn both_programs_print_the_same() {
     }
 }
 
+/// One window with 1,023 of each of five identifiers, and 255 with one of another:
+/// 1,024 is 2^10 and 256 is 2^8, so that the score is 5 * 160 * 128.
+#[test]
+fn both_programs_print_a_score_of_six_digits() {
+    let proved = Path::new(env!("CARGO_MANIFEST_DIR")).join("../../target/bin/probe");
+    let second = Path::new(env!("CARGO_BIN_EXE_second-probe"));
+    let events = |name: &str| format!("E {name}\n").repeat(1_023);
+    let counted: String = ["A", "B", "C", "D", "E"].map(events).concat();
+    let others = "O\nE DOOR\nC\n".repeat(255);
+    let lines = format!("O\n{counted}C\n{others}Q 1 A B C D E\n").into_bytes();
+    let told = printed(second, &lines);
+    assert!(told.ends_with(b"\n1 5\n1 102400\n"));
+    assert!(printed(&proved, &lines) == told);
+}
+
 #[test]
 fn an_empty_input_prints_nothing() {
     let proved = Path::new(env!("CARGO_MANIFEST_DIR")).join("../../target/bin/probe");

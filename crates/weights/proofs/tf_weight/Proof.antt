@@ -1,19 +1,15 @@
--- `weights::tf_weight` meets its contract: the highest set bit of a fourth power is the weight.
-use Rattle.lists.proofs.Prelude.{refl, _≤_, arith, needs}
-use Rattle.weights.proofs.Laws.{tf-bit, tf-highest}
-use Rattle.weights.proofs.Powers.{fourth-fits, fourth-positive, leading-fits}
+-- `weights::tf_weight` meets its contract: it is the logarithm of the count and one.
+use Rattle.lists.proofs.Prelude.{_≡_, sym, ap, _∙_, _+_, arith, needs}
+use Rattle.weights.specs.Weights.{sixteenths}
+use Rattle.weights.proofs.Laws.{tf-proper, sixteenths-highest}
 use Rattle.weights.proofs.tf_weight.Statement.{statement}
 use Rattle.weights.proofs.tf_weight.Tie as tie
-
-sub-result : tie.Need-sub-result
-sub-result c =
-    rw (c .fourth .ensures) (leading-fits _ (fourth-positive _ (omega arith)) (fourth-fits _ (omega arith)))
 
 returns : tie.Need-returns
 returns c =
     let f = c .before .args .f in
-    let h : f ≤ 65534 = omega arith in
-    rw (c .fourth .ensures, tf-bit f h) (refl, tf-highest f h)
+    let e : c .sixteenths .result ≡ sixteenths (f + 1) = c .sixteenths .ensures ∙ ap sixteenths (omega arith) in
+    (e ∙ sym (tf-proper f), rw e (sixteenths-highest (f + 1) (omega arith) (omega arith)))
 
 pub tf-weight-spec : {M : Type 1} → statement M
-tf-weight-spec = tie.close (tie.spec (λ c. search needs) (λ c κs. search needs) sub-result returns)
+tf-weight-spec = tie.close (tie.spec (λ c. search needs) (λ c κs. (omega arith, omega arith)) returns)

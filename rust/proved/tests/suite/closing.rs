@@ -51,23 +51,23 @@ fn a_window_shows_from_its_close() {
     for flush in 0..8u8 {
         // Two pairs more each time, so that the merge takes several steps.
         count(&mut pair, &[LUCKY, &[flush], &[flush, flush]]);
-        // One window of two weighs 4; the open one's postings are taken up all the same.
+        // Count 3 weighs 32, one window of two 16; the open one's postings are taken up all the same.
         let taken = u64::from(flush) + 2;
-        assert_eq!(ask(&mut pair), (vec![(1, 8 * 4)], taken));
+        assert_eq!(ask(&mut pair), (vec![(1, 32 * 16)], taken));
         assert_eq!(mean(&mut pair), [3, 0, 1]);
         make(&mut pair, Call::Flush);
-        assert_eq!(ask(&mut pair), (vec![(1, 8 * 4)], taken));
+        assert_eq!(ask(&mut pair), (vec![(1, 32 * 16)], taken));
         assert_eq!(mean(&mut pair), [3, 0, 1]);
     }
     make(&mut pair, Call::Step);
-    assert_eq!(ask(&mut pair), (vec![(1, 8 * 4)], 9));
+    assert_eq!(ask(&mut pair), (vec![(1, 32 * 16)], 9));
     assert_eq!(mean(&mut pair), [3, 0, 1]);
     make(&mut pair, Call::Step);
-    assert_eq!(ask(&mut pair), (vec![(1, 8 * 4)], 2));
+    assert_eq!(ask(&mut pair), (vec![(1, 32 * 16)], 2));
     assert_eq!(mean(&mut pair), [3, 0, 1]);
     make(&mut pair, Call::Close);
-    // Count 8 weighs 12, two windows of three 2.
-    assert_eq!(ask(&mut pair), (vec![(3, 12 * 2), (1, 8 * 2)], 2));
+    // Count 8 weighs 50, two windows of three 25 - 16.
+    assert_eq!(ask(&mut pair), (vec![(3, 50 * 9), (1, 32 * 9)], 2));
     // 11 in two windows.
     assert_eq!(mean(&mut pair), [5, 1, 2]);
 }

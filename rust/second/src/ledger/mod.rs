@@ -226,7 +226,7 @@ impl Ledger {
 
     /// Every closed window with one of the identifiers, and its score.
     fn scores(&self, ids: &[&[u8]]) -> Vec<(u32, u32)> {
-        let closed = self.closed().count() as u128;
+        let closed = self.closed().count() as u32;
         let rarities: Vec<u32> = ids
             .iter()
             .map(|&id| rarity_weight(closed, self.windows_with(id)))
@@ -244,8 +244,8 @@ impl Ledger {
         scores
     }
 
-    fn windows_with(&self, id: &[u8]) -> u128 {
-        self.counts_of(id).count() as u128
+    fn windows_with(&self, id: &[u8]) -> u32 {
+        self.counts_of(id).count() as u32
     }
 
     /// The identifier's count in each closed window that has it.
@@ -259,17 +259,51 @@ fn is_identifier(bytes: &[u8]) -> bool {
     !bytes.is_empty() && bytes.len() <= 64
 }
 
-/// The largest a with 2^a at most (count + 1)^4.
+/// The weight of a count: the sixteenths of one more.
 pub fn count_weight(count: u32) -> u32 {
-    let power = (u128::from(count) + 1).pow(4);
-    (0..127).rfind(|&a| 1 << a <= power).unwrap_or(0)
+    sixteenths(count + 1)
 }
 
-/// The largest b with 2^b times with^4 at most live^4; 0 if `with` is 0 or above `live`.
-pub fn rarity_weight(live: u128, with: u128) -> u32 {
+/// The sixteenths of `live` less those of `with`; 0 if `with` is 0 or above `live`.
+pub fn rarity_weight(live: u32, with: u32) -> u32 {
     if with == 0 || with > live {
         return 0;
     }
-    let fits = |&b: &u32| (1 << b) * with.pow(4) <= live.pow(4);
-    (0..64).rfind(fits).unwrap_or(0)
+    sixteenths(live) - sixteenths(with)
+}
+
+/// The largest a with 2^a at most number^16, for a number above 0.
+pub fn sixteenths(number: u32) -> u32 {
+    let mut power = vec![1];
+    for _ in 0..16 {
+        multiply(&mut power, number);
+    }
+    let mut a = 0;
+    let mut next = vec![2];
+    while !is_above(&next, &power) {
+        a += 1;
+        multiply(&mut next, 2);
+    }
+    a
+}
+
+/// Multiplies a number of any length: its digits to base 2^32, the lowest first,
+/// the last not 0.
+fn multiply(digits: &mut Vec<u32>, factor: u32) {
+    let mut carry = 0;
+    for digit in digits.iter_mut() {
+        carry += u64::from(*digit) * u64::from(factor);
+        *digit = carry as u32;
+        carry >>= 32;
+    }
+    if carry > 0 {
+        digits.push(carry as u32);
+    }
+}
+
+/// Whether the first of two such numbers is the larger one.
+fn is_above(left: &[u32], right: &[u32]) -> bool {
+    let lengths = left.len().cmp(&right.len());
+    let digits = || left.iter().rev().cmp(right.iter().rev());
+    lengths.then_with(digits).is_gt()
 }

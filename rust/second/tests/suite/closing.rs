@@ -27,13 +27,13 @@ fn two_closed() -> Twin {
 
 /// Closes window 3, which has LUCKY 1 and TILT 1, between two queries that take up so many postings.
 fn close_between_queries(twin: &mut Twin, taken: usize) {
-    // One window of two weighs 4.
-    let before = vec![(1, 8 * 4)];
+    // Count 3 weighs 32, one window of two 16.
+    let before = vec![(1, 32 * 16)];
     assert_eq!(twin.query(&LUCKY_AND_TILT, 32), Ok((before, taken)));
     assert_eq!(twin.state.windows.live, 2);
     twin.close().unwrap();
-    // Two windows of three weigh 2, one of three 6.
-    let after = vec![(3, 4 * 2 + 4 * 6), (1, 8 * 2)];
+    // Two windows of three weigh 25 - 16, one of three 25.
+    let after = vec![(3, 16 * 9 + 16 * 25), (1, 32 * 9)];
     assert_eq!(twin.query(&LUCKY_AND_TILT, 32), Ok((after, taken)));
     assert_eq!(twin.state.windows.live, 3);
 }
@@ -72,7 +72,7 @@ fn counts_in_a_merged_partition_show_from_the_close() {
         count(&mut twin, &[LUCKY, &[flush], &[flush, flush]]);
         twin.flush().unwrap();
     }
-    let open = vec![(1, 8 * 4)];
+    let open = vec![(1, 32 * 16)];
     assert_eq!(twin.query(&[LUCKY], 32), Ok((open.clone(), 9)));
     twin.step().unwrap();
     assert_eq!(twin.state.merge.steps, 1);
@@ -82,11 +82,11 @@ fn counts_in_a_merged_partition_show_from_the_close() {
     assert_eq!(twin.state.partitions.records[0].level, 1);
     assert_eq!(twin.query(&[LUCKY], 32), Ok((open, 2)));
     twin.close().unwrap();
-    // Count 8 weighs 12.
-    let closed = vec![(3, 12 * 2), (1, 8 * 2)];
+    // Count 8 weighs 50.
+    let closed = vec![(3, 50 * 9), (1, 32 * 9)];
     assert_eq!(twin.query(&[LUCKY], 32), Ok((closed, 2)));
     twin.remove(3).unwrap();
-    assert_eq!(twin.query(&[LUCKY], 32), Ok((vec![(1, 8 * 4)], 3)));
+    assert_eq!(twin.query(&[LUCKY], 32), Ok((vec![(1, 32 * 16)], 3)));
 }
 
 /// The open window would score highest, and leaves its place to a closed one.
@@ -94,9 +94,10 @@ fn counts_in_a_merged_partition_show_from_the_close() {
 fn the_open_window_takes_no_place_in_the_list() {
     let mut twin = two_closed();
     count(&mut twin, &[LUCKY; 7]);
-    assert_eq!(twin.query(&[LUCKY], 1), Ok((vec![(1, 8 * 4)], 2)));
+    assert_eq!(twin.query(&[LUCKY], 1), Ok((vec![(1, 32 * 16)], 2)));
     twin.close().unwrap();
-    assert_eq!(twin.query(&[LUCKY], 1), Ok((vec![(3, 12 * 2)], 2)));
+    // Count 7 weighs 48.
+    assert_eq!(twin.query(&[LUCKY], 1), Ok((vec![(3, 48 * 9)], 2)));
 }
 
 #[test]

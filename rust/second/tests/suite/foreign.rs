@@ -1,11 +1,15 @@
 //! What the calls do with states and cards that no history of theirs made.
 
+use crate::build::build;
 use crate::calls::{Call, event, make, mean, outcome, query};
 use crate::image::BLOCK;
 use crate::malformed::{card_of, part};
+use crate::twin::Twin;
 use second::commands::Probe;
 use second::engine;
+use second::ledger::Ledger;
 use second::state::{Hit, Posting};
+use std::collections::BTreeMap;
 
 fn posting(id: u16, window: u16, count: i16) -> Posting {
     Posting { id, window, count }
@@ -76,7 +80,8 @@ fn more_windows_than_there_are_weigh_nothing() {
     // The open window has A as well, which is taken up and no more.
     assert_eq!(ask(2, &mut probe), (Ok((3, 4)), [0; 4]));
     assert_eq!(ask(3, &mut probe), (Ok((3, 4)), [0; 4]));
-    assert_eq!(ask(6, &mut probe), (Ok((3, 4)), [16, 16, 16, 0]));
+    // Three windows of six weigh 41 - 25.
+    assert_eq!(ask(6, &mut probe), (Ok((3, 4)), [256, 256, 256, 0]));
 }
 
 /// The windows and scores of A, and the postings taken.
@@ -98,13 +103,15 @@ fn windows_above_the_last_number_show_and_the_open_one_does_not() {
         part(0, vec![(0, 65_535, 3), (0, 2000, 5), (0, 1999, 7)]),
     ]);
     probe.state.windows.live = 6;
-    // Three windows of six weigh 4. The open one has two postings on the card and one buffered.
-    let closed = vec![(1999, 12 * 4), (65_535, 8 * 4), (2001, 4 * 4)];
+    // Three windows of six weigh 16. The open one has two postings on the card and one buffered.
+    let closed = vec![(1999, 48 * 16), (65_535, 32 * 16), (2001, 16 * 16)];
     assert_eq!(hits_of_a(&probe), (closed, 6));
-    // Its close brings its count of 11, and four windows of seven weigh 3.
+    // Its close brings its count of 11, which weighs 57, and four windows of seven weigh 44 - 32.
     make(&mut probe, &Call::Close).unwrap();
-    let scores = [(2000, 14), (1999, 12), (65_535, 8), (2001, 4)];
-    let all = scores.map(|(window, weight)| (window, weight * 3)).to_vec();
+    let scores = [(2000, 57), (1999, 48), (65_535, 32), (2001, 16)];
+    let all = scores
+        .map(|(window, weight)| (window, weight * 12))
+        .to_vec();
     assert_eq!(hits_of_a(&probe), (all, 6));
 }
 
@@ -116,7 +123,7 @@ fn an_open_window_without_events_may_have_counts_on_the_card() {
     probe.state.buffer = Default::default();
     probe.state.windows.events = 0;
     probe.state.windows.live = 2;
-    assert_eq!(hits_of_a(&probe), (vec![(1999, 12 * 4)], 2));
+    assert_eq!(hits_of_a(&probe), (vec![(1999, 48 * 16)], 2));
     make(&mut probe, &Call::Close).unwrap();
     let windows = probe.state.windows;
     assert_eq!((windows.last, windows.live), (1999, 2));
@@ -149,10 +156,40 @@ fn sums_below_0_are_passed_over() {
     let (card, register) = (&probe.card, &probe.register);
     let found = engine::query(&probe.state, card, register, &[b"B"], &mut hits);
     assert_eq!(found.map(|found| (found.hits, found.taken)), Ok((1, 2)));
-    assert_eq!((hits[0].window, hits[0].score), (5, 8 * 4));
+    assert_eq!((hits[0].window, hits[0].score), (5, 32 * 16));
     let found = engine::query(&probe.state, card, register, &[b"B", b"C"], &mut hits);
     assert_eq!(found.map(|found| (found.hits, found.taken)), Ok((2, 3)));
-    assert_eq!((hits[1].window, hits[1].score), (9, 4 * 4));
+    assert_eq!((hits[1].window, hits[1].score), (9, 16 * 16));
+}
+
+/// The largest count of five identifiers in one window of all there can be, and
+/// one less of one of them.
+#[test]
+fn the_largest_score_is_306000() {
+    let names = [b"A", b"B", b"C", b"D", b"E"].map(|id| id.to_vec());
+    let ids: Vec<&[u8]> = names.iter().map(|name| &name[..]).collect();
+    for last in [32_767, 32_766] {
+        let counts = [32_767, 32_767, 32_767, 32_767, last];
+        let mut ledger = Ledger::new(4, 5);
+        ledger.known = names.to_vec();
+        ledger.last = 65_535;
+        ledger.live = (1..=65_535)
+            .map(|window| (window, BTreeMap::new()))
+            .collect();
+        let of_nine = names.iter().cloned().zip(counts);
+        ledger.live.insert(9, of_nine.collect());
+        let entries = counts.iter().enumerate();
+        let entries = entries.map(|(id, &count)| (id, 9, count.into()));
+        ledger.account.parts = vec![part(0, entries.collect())];
+        let probe = build(&ledger);
+        let mut twin = Twin::of(probe.state, probe.card, probe.register, ledger);
+        // 32,768^16 is 2^240, and one window of 65,535 weighs 255.
+        let expected = match last {
+            32_767 => 306_000,
+            _ => 4 * 240 * 255 + 239 * 255,
+        };
+        assert_eq!(twin.query(&ids, 2), Ok((vec![(9, expected)], 5)));
+    }
 }
 
 #[test]

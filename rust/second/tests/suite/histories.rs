@@ -202,7 +202,7 @@ fn sweep(seed: u64) -> Twin {
 }
 
 /// What must have been seen, or a test would be empty.
-const SIGHTS: [&str; 31] = [
+const SIGHTS: [&str; 32] = [
     "blocks taken round the end",
     "closes that bring the first mean",
     "closes that change an answer",
@@ -233,6 +233,7 @@ const SIGHTS: [&str; 31] = [
     "queries of a window that skips a partition",
     "queries of an open window in a merged partition",
     "queries of an open window in a partition",
+    "queries with equal scores above 0",
     "removals that take the last mean",
 ];
 

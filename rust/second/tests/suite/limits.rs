@@ -16,11 +16,11 @@ fn a_window_has_at_most_32767_events() {
     twin.open().unwrap();
     twin.event(b"B").unwrap();
     twin.close().unwrap();
-    // The largest count weighs 60, one window of two 4.
-    assert_eq!(twin.query(&[b"A"], 1), Ok((vec![(1, 240)], 1)));
+    // The largest count weighs 240, one window of two 16.
+    assert_eq!(twin.query(&[b"A"], 1), Ok((vec![(1, 240 * 16)], 1)));
     assert_eq!(twin.mean(b"A"), Ok((32_767, 0, 1)));
     twin.flush().unwrap();
-    assert_eq!(twin.query(&[b"A"], 1), Ok((vec![(1, 240)], 1)));
+    assert_eq!(twin.query(&[b"A"], 1), Ok((vec![(1, 240 * 16)], 1)));
     twin.remove(1).unwrap();
     twin.flush().unwrap();
     assert_eq!(twin.query(&[b"A"], 1), Ok((vec![], 2)));

@@ -22,4 +22,5 @@ mod state_rules;
 mod tally;
 mod together;
 mod twin;
+mod weights;
 mod worked_cases;

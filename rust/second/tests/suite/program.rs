@@ -15,7 +15,7 @@ fn answers(text: &[u8]) -> String {
 #[test]
 fn the_sample_gives_its_output() {
     let sample = include_bytes!("../../samples/lucky.txt");
-    let expected = "1\n0\n0\n0\n0\n0\n2\n0\n0\n2 3\n1 16\n2 0\n";
+    let expected = "1\n0\n0\n0\n0\n0\n2\n0\n0\n2 3\n1 256\n2 0\n";
     assert_eq!(answers(sample), expected);
     assert_eq!(include_str!("../../samples/lucky.out"), expected);
 }
@@ -36,6 +36,22 @@ fn the_program_itself_gives_the_sample_output() {
     drop(input);
     let output = child.wait_with_output().unwrap();
     assert_eq!(output.stdout, include_bytes!("../../samples/lucky.out"));
+}
+
+/// One window with 1,023 of each of five identifiers, and 255 with one of another.
+#[test]
+fn a_score_of_six_digits_is_printed() {
+    let mut text = b"O\n".to_vec();
+    for identifier in ["A", "B", "C", "D", "E"] {
+        text.extend(format!("E {identifier}\n").repeat(1_023).into_bytes());
+    }
+    text.extend(b"C\n");
+    text.extend(b"O\nE DOOR\nC\n".repeat(255));
+    text.extend(b"Q 1 A B C D E\nQ 2 DOOR E\n");
+    // 1,024 is 2^10 and 256 is 2^8: 5 * 160 * 128, and 160 * 128 for E alone. DOOR
+    // is in 255 windows, and 255^16 lies between 2^127 and 2^128: 16 * (128 - 127).
+    let expected = "1 5\n1 102400\n2 256\n1 20480\n256 16\n";
+    assert!(answers(&text).ends_with(&format!("\n0\n{expected}")));
 }
 
 /// Each line on a fresh probe.

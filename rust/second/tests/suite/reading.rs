@@ -101,7 +101,7 @@ fn plain_query(probe: &Probe, ids: &BTreeSet<Vec<u8>>) -> (Vec<(u32, u32)>, usiz
     let mut scores: BTreeMap<u32, u32> = BTreeMap::new();
     for (&(id, Reverse(window)), &count) in &sums {
         let with = sums.keys().filter(|pair| pair.0 == id).count();
-        let weight = count_weight(count as u32) * rarity_weight(live, with as u128);
+        let weight = count_weight(count as u32) * rarity_weight(live, with as u32);
         *scores.entry(window).or_insert(0) += weight;
     }
     let mut ranked: Vec<(u32, u32)> = scores.into_iter().collect();

@@ -141,8 +141,12 @@ impl Twin {
         let engine = engine.map(|found| (list, found.taken as usize));
         let ledger = self.ledger.query(ids, places);
         let ledger = ledger.map(|reply| (reply.hits, reply.taken));
-        if ledger.is_ok() {
+        if let Ok((hits, _)) = &ledger {
             self.see_reading("queries", ids);
+            let mut pairs = hits.windows(2);
+            if pairs.any(|pair| pair[0].1 > 0 && pair[0].1 == pair[1].1) {
+                self.tally.see("queries with equal scores above 0");
+            }
         }
         self.compare("query", engine, ledger)
     }

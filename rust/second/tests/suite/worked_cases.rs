@@ -1,48 +1,6 @@
 //! The cases that were counted by hand.
 
-use crate::rng::Rng;
 use crate::twin::Twin;
-use second::ledger;
-use second::weights::{count_weight, rarity_weight};
-
-#[test]
-fn weights_of_counts() {
-    for (count, weight) in [(0, 0), (1, 4), (2, 6), (3, 8), (7, 12), (32_767, 60)] {
-        assert_eq!(count_weight(count), weight);
-        assert_eq!(ledger::count_weight(count.into()), weight);
-    }
-    for count in 0..=u16::MAX {
-        let power = (u128::from(count) + 1).pow(4);
-        let weight = count_weight(count);
-        assert!(1 << weight <= power && power < 1 << (weight + 1));
-    }
-}
-
-#[test]
-fn weights_of_rarity() {
-    let cases = [
-        (8, 1, 12),
-        (3, 2, 2),
-        (3, 3, 0),
-        (65_535, 1, 63),
-        (3, 0, 0),
-        (0, 0, 0),
-        (3, 4, 0),
-    ];
-    for (live, with, weight) in cases {
-        assert_eq!(rarity_weight(live, with), weight);
-        assert_eq!(ledger::rarity_weight(live.into(), with.into()), weight);
-    }
-    let mut rng = Rng(1);
-    for _ in 0..100_000 {
-        let live = 1 + rng.below(65_535) as u16;
-        let with = 1 + rng.below(live.into()) as u16;
-        let (left, right) = (u128::from(with).pow(4), u128::from(live).pow(4));
-        let weight = rarity_weight(live, with);
-        assert!(left << weight <= right && right < left << (weight + 1));
-        assert_eq!(ledger::rarity_weight(live.into(), with.into()), weight);
-    }
-}
 
 #[test]
 fn identifiers_have_at_most_64_bytes() {
@@ -82,7 +40,8 @@ fn three_windows() -> Twin {
     window(&mut twin, &[(b"LUCKY", 3), (b"TILT", 1)]);
     window(&mut twin, &[(b"LUCKY", 1)]);
     window(&mut twin, &[(b"TILT", 1), (b"DOOR", 1)]);
-    let hits = vec![(1, 24), (3, 8), (2, 8)];
+    // Counts 3 and 1 weigh 32 and 16, two windows of three 25 - 16.
+    let hits = vec![(1, 32 * 9 + 16 * 9), (3, 16 * 9), (2, 16 * 9)];
     assert_eq!(twin.query(&[b"LUCKY", b"TILT"], 32), Ok((hits, 4)));
     twin
 }
@@ -91,7 +50,8 @@ fn three_windows() -> Twin {
 fn removal_in_the_buffer() {
     let mut twin = three_windows();
     twin.remove(1).unwrap();
-    let hits = vec![(3, 16), (2, 16)];
+    // One window of two weighs 16.
+    let hits = vec![(3, 16 * 16), (2, 16 * 16)];
     assert_eq!(twin.query(&[b"LUCKY", b"TILT"], 32), Ok((hits, 2)));
 }
 
@@ -100,7 +60,7 @@ fn removal_after_a_flush() {
     let mut twin = three_windows();
     twin.flush().unwrap();
     twin.remove(1).unwrap();
-    let hits = vec![(3, 16), (2, 16)];
+    let hits = vec![(3, 16 * 16), (2, 16 * 16)];
     assert_eq!(twin.query(&[b"LUCKY", b"TILT"], 32), Ok((hits, 6)));
 }
 
@@ -110,7 +70,8 @@ fn removal_before_the_list_is_filled() {
     let mut twin = three_windows();
     twin.flush().unwrap();
     twin.remove(1).unwrap();
-    assert_eq!(twin.query(&[b"LUCKY", b"TILT"], 1), Ok((vec![(3, 16)], 6)));
+    let hits = vec![(3, 16 * 16)];
+    assert_eq!(twin.query(&[b"LUCKY", b"TILT"], 1), Ok((hits, 6)));
 }
 
 #[test]
@@ -124,8 +85,8 @@ fn a_window_split_by_a_flush_counts_once() {
     twin.close().unwrap();
     assert_eq!(twin.query(&[b"DOOR"], 3), Ok((vec![(1, 0)], 2)));
     window(&mut twin, &[(b"TILT", 1)]);
-    // Count 3 weighs 8; one window of two weighs 4.
-    assert_eq!(twin.query(&[b"DOOR"], 3), Ok((vec![(1, 32)], 2)));
+    // Count 3 weighs 32; one window of two weighs 16.
+    assert_eq!(twin.query(&[b"DOOR"], 3), Ok((vec![(1, 32 * 16)], 2)));
 }
 
 #[test]
@@ -138,12 +99,59 @@ fn a_card_of_four_blocks_takes_two_flushes() {
     }
 }
 
-/// The quotient is rounded after the fourth power, not before.
+/// The scores of DOOR in so many windows of so many, with a count of 1 in each.
+fn scores_of_door(live: usize, with: usize) -> Vec<u32> {
+    let mut twin = Twin::new(4, 4);
+    for window_number in 1..=live {
+        let is_with = window_number <= with;
+        let identifier: &[u8] = if is_with { b"DOOR" } else { b"TILT" };
+        window(&mut twin, &[(identifier, 1)]);
+    }
+    let (hits, _) = twin.query(&[b"DOOR"], 32).unwrap();
+    hits.into_iter().map(|(_, score)| score).collect()
+}
+
+/// Rarity is a difference of two logarithms, each rounded down: neither the
+/// numbers are divided before, nor is the logarithm of their quotient rounded.
 #[test]
 fn rarity_is_not_rounded_early() {
+    // 41 - 25, and 25 - 16; of whole quotients it would be 16 and 0.
+    assert_eq!(scores_of_door(6, 3), [16 * 16; 3]);
+    assert_eq!(scores_of_door(3, 2), [16 * 9; 2]);
+    // 37 - 25. The logarithm of 5/3 has between 11 and 12 sixteenths.
+    assert_eq!(scores_of_door(5, 3), [16 * 12; 3]);
+    // 60 - 53. That of 14/10 has between 7 and 8.
+    assert_eq!(scores_of_door(14, 10), [16 * 7; 10]);
+}
+
+/// A count, or a window with the identifier, more or less is enough to tell windows apart.
+#[test]
+fn neighbouring_counts_are_told_apart() {
     let mut twin = Twin::new(4, 4);
-    window(&mut twin, &[(b"DOOR", 1)]);
-    window(&mut twin, &[(b"DOOR", 1)]);
+    window(&mut twin, &[(b"LUCKY", 8)]);
+    window(&mut twin, &[(b"LUCKY", 7)]);
     window(&mut twin, &[(b"TILT", 1)]);
-    assert_eq!(twin.query(&[b"DOOR"], 3), Ok((vec![(2, 8), (1, 8)], 2)));
+    // Counts 8 and 7 weigh 50 and 48, two windows of three 25 - 16.
+    let hits = vec![(1, 50 * 9), (2, 48 * 9)];
+    assert_eq!(twin.query(&[b"LUCKY"], 3), Ok((hits, 2)));
+    // All windows but the last have DOOR, seven of eight: 48 - 44.
+    let mut twin = Twin::new(4, 4);
+    for _ in 0..7 {
+        window(&mut twin, &[(b"DOOR", 1), (b"TILT", 1)]);
+    }
+    window(&mut twin, &[(b"TILT", 1)]);
+    let mut hits: Vec<(u32, u32)> = (1..=7).rev().map(|window| (window, 16 * 4)).collect();
+    hits.push((8, 0));
+    assert_eq!(twin.query(&[b"DOOR", b"TILT"], 8), Ok((hits, 15)));
+}
+
+/// Counts 31 and 32 weigh 80 both, and the later window comes first.
+#[test]
+fn equal_scores_go_by_falling_number() {
+    let mut twin = Twin::new(4, 4);
+    window(&mut twin, &[(b"LUCKY", 32)]);
+    window(&mut twin, &[(b"LUCKY", 31)]);
+    window(&mut twin, &[(b"TILT", 1)]);
+    let hits = vec![(2, 80 * 9), (1, 80 * 9)];
+    assert_eq!(twin.query(&[b"LUCKY"], 3), Ok((hits, 2)));
 }

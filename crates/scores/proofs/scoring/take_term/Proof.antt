@@ -8,11 +8,12 @@ use Rattle.keyed.specs.Keys.{headVals}
 use Rattle.keyed.specs.Groups.{Group}
 use Rattle.words.specs.Words.{words}
 use Rattle.weights.specs.Weights.{tfWeight}
+use Rattle.weights.proofs.Laws.{product-most}
 use Rattle.postings.specs.Sums.{above}
 use Rattle.heads.specs.Heads.{views}
 use Rattle.terms.proofs.Steps.{above-most}
 use Rattle.scores.proofs.Counts.{put-behind-long}
-use Rattle.scores.proofs.Joined.{passed-over, after-kept, after-term, after-top, score-most}
+use Rattle.scores.proofs.Joined.{passed-over, after-kept, after-term, after-top}
 use Rattle.scores.proofs.scoring.take_term.Statement.{statement}
 use Rattle.scores.proofs.scoring.take_term.Tie as tie
 
@@ -73,7 +74,7 @@ cast-count c = omega (arith, counted c .1)
 mul-score : tie.Need-mul-score
 mul-score c =
     let a = c .before in
-    let z = score-most (a .above .result) (getD (begun a .args .group .now) 1 0) (counted a .1) (begun a .pre .0 .light) in
+    let z = product-most (a .above .result) (getD (begun a .args .group .now) 1 0) (counted a .1) (begun a .pre .0 .light) in
     rw (c .tf-weight .ensures .0) (omega (arith, z))
 
 returns-2 : tie.Need-returns-2
@@ -85,7 +86,7 @@ returns-2 c =
     let t = c .before .before .before .before .before .take-led in
     let u = rw (take-rest 4 G) at (t .ensures) in
     let n = counted (c .before) .0 in
-    let z = score-most (c .before .above .result) (getD G 1 0) (counted (c .before) .1) (s .pre .0 .light) in
+    let z = product-most (c .before .above .result) (getD G 1 0) (counted (c .before) .1) (s .pre .0 .light) in
     let X = t .last .1 .1 .0 in
     let r = t .result in
     let w = c .tf-weight .ensures .0 in (
