@@ -13,6 +13,7 @@ mod parts;
 mod registers;
 mod rng;
 mod rules;
+mod scores;
 mod starts;
 mod tally;
 mod together;

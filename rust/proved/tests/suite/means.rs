@@ -67,14 +67,14 @@ fn counts_of_closed_windows_have_a_mean() {
     assert_eq!(mean(&mut pair, &[b'X'; 64]), Err(UNCOUNTED));
 }
 
-/// A foreign probe with partitions of lists by falling window, all windows closed.
+/// A foreign probe with partitions of lists by falling window, of five identifiers, all windows closed.
 pub fn probe(partitions: &[&[(u16, Vec<(u16, i16)>)]]) -> Probe {
     let blocks = 80;
     let mut card = vec![255; blocks * BLOCK];
     let mut state = State {
         lengths: Lengths {
             card: card.len() as u32,
-            register: 4 * 65,
+            register: 6 * 65,
         },
         windows: Windows {
             last: 65_535,
@@ -107,7 +107,7 @@ pub fn probe(partitions: &[&[(u16, Vec<(u16, i16)>)]]) -> Probe {
     Probe {
         image: image::write(&state),
         card,
-        register: register(4, 3),
+        register: register(6, 5),
     }
 }
 
