@@ -117,26 +117,30 @@ static void fts5() {
     });
 }
 
-// The largest a with 2^a <= n^4.
-static long quarters(unsigned long n) {
-    unsigned __int128 power = (unsigned __int128)(n * n) * (n * n);
-    long a = -1;
-    for (; power != 0; power >>= 1) a++;
-    return a;
+using Wide = unsigned __int128;
+
+// The place of the highest set bit.
+static long highest(Wide n) {
+    unsigned long high = n >> 64, low = n;
+    return high != 0 ? 127 - __builtin_clzl(high) : 63 - __builtin_clzl(low);
+}
+
+// The largest a with 2^a <= n^16, for n from 1 to 65,535: the highest bit of the square of n^8, which is taken in halves.
+static long sixteenths(unsigned long n) {
+    Wide fourth = (Wide)(n * n) * (n * n), eighth = fourth * fourth;
+    Wide high = eighth >> 64, low = (unsigned long)eighth, cross = high * low;
+    Wide bottom = low * low + (cross << 65), carry = bottom < low * low, top = high * high + (cross >> 63) + carry;
+    return top != 0 ? 128 + highest(top) : highest(bottom);
 }
 
 // The weight of a count, for SQL.
 static void tf(sqlite3_context *context, int, sqlite3_value **values) {
-    sqlite3_result_int64(context, quarters(sqlite3_value_int64(values[0]) + 1));
+    sqlite3_result_int64(context, sixteenths(sqlite3_value_int64(values[0]) + 1));
 }
 
-// The largest b with 2^b * F^4 <= N^4.
+// The weight of a name that f of n windows have: a difference of logarithms, each rounded down.
 static long idf(unsigned long n, unsigned long f) {
-    if (f == 0 || f > n) return 0;
-    unsigned __int128 least = (unsigned __int128)(f * f) * (f * f), most = (unsigned __int128)(n * n) * (n * n);
-    long b = 0;
-    while (least * 2 <= most) least *= 2, b++;
-    return b;
+    return f == 0 || f > n ? 0 : sixteenths(n) - sixteenths(f);
 }
 
 static void table() {
