@@ -207,10 +207,6 @@ pub open-window-unlisted : (p : Probe) (ns : List Name) (places found : List Hit
     → every (λ h. shows (p .state .windows .current) (h .window)) found ≡ true
 open-window-unlisted = open-unlisted
 
--- No score is above 306,000, whatever the card says: each of at most five identifiers adds at most 240 × 255.
-pub scores-most : (p : Probe) (ns : List Name) (places found : List Hit) (taken : ℕ) → answerOf (queryOf p ns places) ≡ hits found taken → every (λ h. leb (h .score) mostScore) found ≡ true
-scores-most = scores-few
-
 -- After every history they are so by the ledger: its N, its counts by name, and its closed windows.
 pub hits-by-ledger : (c r : ℕ) → cardLength c ≡ true → registerLength r ≡ true → (cs : List Call) (ns : List Name) (places found : List Hit) (taken : ℕ)
     → answerOf (queryOf (probeAfter c r cs) ns places) ≡ hits found taken
@@ -222,6 +218,10 @@ pub only-closing-shows : (c r : ℕ) → cardLength c ≡ true → registerLengt
     → (ns : List Name) (places before after : List Hit) (m n : ℕ) → answerOf (queryOf (probeAfter c r cs) ns places) ≡ hits before m
     → answerOf (queryOf (probeAfter c r (cs ++ (q ∷ []))) ns places) ≡ hits after n → after ≡ before
 only-closing-shows = hits-kept
+
+-- No score is above 306,000, whatever the card says: each of at most five identifiers adds at most 240 × 255.
+pub scores-most : (p : Probe) (ns : List Name) (places found : List Hit) (taken : ℕ) → answerOf (queryOf p ns places) ≡ hits found taken → every (λ h. leb (h .score) mostScore) found ≡ true
+scores-most = scores-few
 
 -- A query reports as many postings as partitions and buffer hold of its identifiers, those of a window under way too.
 pub taken-exact : (p : Probe) (ns : List Name) (places found : List Hit) (taken : ℕ) → answerOf (queryOf p ns places) ≡ hits found taken
