@@ -1,5 +1,5 @@
 -- Which places hold numbers below 65,536, and the test of all of them.
-use Rattle.lists.proofs.Prelude.{Bool, true, false, _&&_, _||_, and-true, and-assoc, List, _≡_, sym, _∙_, ℕ, suc, _+_, _-_, _*_, _%_, _<_, _≤_, arith, eqb, ltb, leb, length, getD, ltb-true, leb-true, eqb-true, eqb-false, lt-ltb, le-ltb, le-leb, lt-leb, eq-eqb, ne-eqb, every, rising, upTo, by-test, and-left, and-right, elem-rising, every-elem}
+use Rattle.lists.proofs.Prelude.{Bool, true, false, _&&_, _||_, and-true, and-assoc, List, _≡_, sym, _∙_, ℕ, suc, _+_, _-_, _*_, _%_, _<_, _≤_, arith, eqb, ltb, leb, length, getD, ltb-true, leb-true, eqb-true, eqb-false, lt-ltb, le-ltb, le-leb, lt-leb, eq-eqb, ne-eqb, every, rising, upTo, by-test, and-left, and-right, every-upTo}
 use Rattle.words.specs.Words.{words}
 use Rattle.words.proofs.Views.{length-words}
 use Rattle.images.specs.Images.{wide, fits, imageRule}
@@ -15,7 +15,7 @@ image-words b h = omega (arith, length-words b, image-length b h)
 -- each number of an image fits its place
 pub image-fits : (b : List ℕ) → imageRule b ≡ true → (i : ℕ) → i < 614 → fits (words b) i ≡ true
 unfolding imageRule
-image-fits b h i l = every-elem (fits (words b)) (upTo 614) i (and-right (eqb (length b) 2456) _ h) (elem-rising 0 614 i (omega arith) (omega arith))
+image-fits b h i l = every-upTo (fits (words b)) 614 (and-right (eqb (length b) 2456) _ h) i l
 
 pub fits-below : (w : List ℕ) (i : ℕ) → fits w i ≡ true → wide i ≡ false → getD w i 0 < 65536
 fits-below w i f n = let g : ltb (getD w i 0) 65536 ≡ true = rw n at f in ltb-true _ _ g

@@ -85,6 +85,10 @@ elem-every t [] h = refl
 elem-every t (x ∷ l) h =
     and-both (t x) _ (h x (rw (eq-eqb x x refl))) (elem-every t l (λ n m. h n (or-right (eqb x n) _ m)))
 
+-- what a test of 0 to k - 1 says of a number below k
+pub every-upTo : (t : ℕ → Bool) (k : ℕ) → every t (upTo k) ≡ true → (j : ℕ) → j < k → t j ≡ true
+every-upTo t k e j h = every-elem t (upTo k) j e (elem-rising 0 k j (omega arith) (omega arith))
+
 -- a number of two lists, one after the other
 pub elem-append : (b : ℕ) (x y : List ℕ) → elem b (x ++ y) ≡ (elem b x || elem b y)
 elem-append b x y = any-append (λ m. eqb m b) x y

@@ -1,5 +1,5 @@
 -- What the rules say of a partition that is read: its header, its entries, and the postings of one identifier.
-use Rattle.lists.proofs.Prelude.{Bool, true, _&&_, List, [], _∷_, map, _≡_, refl, sym, ap, _∙_, ℕ, zero, suc, _+_, _*_, _<_, _≤_, arith, eqb, ltb, leb, length, getD, take, drop, length-map, length-take, length-drop, ltb-true, leb-true, eqb-true, eq-eqb, ne-eqb, every, totalBy, same, upTo, and-left, and-right, every-at, same-true, every-elem, length-rising, elem-rising, total-rising, upTo-at, total-map, length-all}
+use Rattle.lists.proofs.Prelude.{true, _&&_, List, [], _∷_, map, _≡_, refl, sym, ap, _∙_, ℕ, zero, suc, _+_, _*_, _<_, _≤_, arith, eqb, ltb, leb, length, getD, take, drop, length-map, length-take, length-drop, ltb-true, leb-true, eqb-true, eq-eqb, ne-eqb, every, totalBy, same, upTo, and-left, and-right, every-at, same-true, every-upTo, length-rising, total-rising, upTo-at, total-map, length-all}
 use Rattle.postings.specs.Pack.{posted}
 use Rattle.postings.specs.Sums.{under}
 use Rattle.state.specs.declared.Partition.{Partition}
@@ -102,10 +102,6 @@ pub record Entered (c : List ℕ) : Type 0 where
   pub within : (j : ℕ) → j < field c 0 → entryFirst c j + entryCount c j ≤ field c 1
   pub whole : totalBy (entryCount c) (upTo (field c 0)) ≡ field c 1
 
--- what a test of a row says of a number of it
-of-row : (t : ℕ → Bool) (k : ℕ) → every t (upTo k) ≡ true → (j : ℕ) → j < k → t j ≡ true
-of-row t k e j h = every-elem t (upTo k) j e (elem-rising 0 k j (omega arith) (omega arith))
-
 -- the rule says all of it
 pub entered : (c : List ℕ) → entriesRule c ≡ true → Entered c
 entered c e =
@@ -128,8 +124,8 @@ entered c e =
     record {
       rise = λ i j a b.
           rw (upTo-at (entryNumber c) k i 0 (omega arith), upTo-at (entryNumber c) k j 0 b) at (ascending-at ns (and-left (ascending ns) _ e) i j a (omega arith));
-      most = λ j h. leb-true (entryNumber c j) 1023 (of-row (λ j. leb (entryNumber c j) 1023) k (and-left _ _ e1) j h);
-      some = λ j h. leb-true 1 (entryCount c j) (of-row (λ j. leb 1 (entryCount c j)) k (and-left _ _ e2) j h);
+      most = λ j h. leb-true (entryNumber c j) 1023 (every-upTo (λ j. leb (entryNumber c j) 1023) k (and-left _ _ e1) j h);
+      some = λ j h. leb-true 1 (entryCount c j) (every-upTo (λ j. leb 1 (entryCount c j)) k (and-left _ _ e2) j h);
       start = λ h. f 0 h ∙ running-first 0 cs (omega arith);
       next = λ j h. omega (arith, f (suc j) h, f j (omega arith), n j (omega arith), running-next 0 cs j (omega arith));
       within = λ j h. omega (arith, f j h, n j h, running-within 0 cs j (omega arith));

@@ -1,5 +1,5 @@
 -- What the rule of a table of thresholds says of each entry.
-use Rattle.lists.proofs.Prelude.{true, List, _≡_, ℕ, _-_, _^_, _≤_, _<_, le-trans, lt-of-le-of-lt, pow-le-pow-left, arith, eqb, leb, leb-true, ltb-true, eqb-true, and-left, and-right, length, getD, upTo, every-elem, elem-rising}
+use Rattle.lists.proofs.Prelude.{true, List, _≡_, ℕ, _-_, _^_, _≤_, _<_, le-trans, lt-of-le-of-lt, pow-le-pow-left, arith, eqb, leb, leb-true, ltb-true, eqb-true, and-left, and-right, length, getD, every-upTo}
 use Rattle.weights.specs.Thresholds.{isThreshold, thresholds}
 
 module _ (a x n : ℕ) (e : isThreshold a x ≡ true) where
@@ -20,7 +20,7 @@ module _ (l : List ℕ) (e : thresholds l ≡ true) where
 
   entry : (a : ℕ) → a < 256 → isThreshold a (getD l a 0) ≡ true
   unfolding thresholds
-  entry a h = every-elem (λ a. isThreshold a (getD l a 0)) (upTo 256) a (and-right (eqb (length l) 256) _ e) (elem-rising 0 256 a (omega arith) (omega arith))
+  entry a h = every-upTo (λ a. isThreshold a (getD l a 0)) 256 (and-right (eqb (length l) 256) _ e) a h
 
   -- so an entry tells on which side of it the logarithm of n is
   pub from-entry : (a n : ℕ) → a < 256 → getD l a 0 ≤ n → 2 ^ a ≤ n ^ 16
