@@ -10,12 +10,15 @@
 //! - [`commands`]: the command program, a line at a time.
 //! - [`ledger`]: what the calls must answer, kept without any bytes and
 //!   without any code of the engine.
+//! - [`wrong`]: the calls of wrong engines, by which tests are graded;
+//!   [`faults`]: what is wrong with each of them.
 
 #![forbid(unsafe_code)]
 
 mod card;
 pub mod commands;
 pub mod engine;
+pub mod faults;
 pub mod image;
 pub mod ledger;
 mod limits;
@@ -27,3 +30,4 @@ pub mod register;
 mod rules;
 pub mod state;
 pub mod weights;
+pub mod wrong;

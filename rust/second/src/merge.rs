@@ -55,6 +55,15 @@ impl Merge {
         })
     }
 
+    /// This merge as a wrong engine makes it: sums below 0 are dropped with those of 0.
+    pub fn without_negatives(mut self) -> Merge {
+        for sum in self.sums.values_mut() {
+            *sum = (*sum).max(0);
+        }
+        self.result = nonzero(&self.sums);
+        self
+    }
+
     /// The length of the output.
     pub fn length(&self) -> u32 {
         length_of(&self.result)
@@ -71,11 +80,16 @@ impl Merge {
         taken.filter(|&&sum| sum != 0).count()
     }
 
+    /// The postings of the result that so many steps write.
+    pub fn written_after(&self, steps: u32) -> &[Posting] {
+        &self.result[..self.postings_after(steps)]
+    }
+
     /// The content of the output after so many steps: only postings, in their
     /// final places, in the given number of bytes.
     pub fn content_after(&self, steps: u32, bytes: usize) -> Vec<u8> {
         let mut content = vec![255; bytes];
-        let so_far = packed(&self.result[..self.postings_after(steps)]);
+        let so_far = packed(self.written_after(steps));
         content[posting_space(&self.result)..][..so_far.len()].copy_from_slice(&so_far);
         content
     }

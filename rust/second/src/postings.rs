@@ -24,6 +24,14 @@ pub fn are_counts(sums: &Sums) -> bool {
         .all(|sum| sum.unsigned_abs() <= u32::from(COUNT))
 }
 
+/// Cuts each sum to one that a posting can hold.
+pub fn cut_to_counts(sums: &mut Sums) {
+    let most = i32::from(COUNT);
+    for sum in sums.values_mut() {
+        *sum = (*sum).clamp(-most, most);
+    }
+}
+
 /// The sums that are not 0, as postings. Each sum must be one that a posting can hold.
 pub fn nonzero(sums: &Sums) -> Vec<Posting> {
     sums.iter()

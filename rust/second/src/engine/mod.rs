@@ -14,6 +14,7 @@ mod remove;
 mod remove_all;
 mod start;
 mod step;
+mod wrong_ways;
 
 pub use close::close;
 pub use event::event;
@@ -25,3 +26,6 @@ pub use remove::remove;
 pub use remove_all::remove_all;
 pub use start::start;
 pub use step::step;
+
+pub(crate) use query::query_with;
+pub(crate) use step::step_with;

@@ -1,6 +1,7 @@
 //! Merge a step further.
 
 use crate::card::{blocks_for, chain, content, erase, free_blocks, link, write};
+use crate::faults::Fault;
 use crate::limits::NO_BLOCK;
 use crate::merge::{Merge, due_level};
 use crate::partition::{Stored, all_blocks, head, packed, packed_length, posting_space, read_all};
@@ -10,12 +11,25 @@ use crate::state::{MergeJob, Partition, Partitions, State};
 
 /// Takes the next pairs of the merge in progress, or begins the one that is due.
 pub fn step(state: &mut State, card: &mut [u8]) -> Result<(), Refusal> {
+    step_with(None, state, card)
+}
+
+/// The step of the right engine, or of the one with a fault.
+pub(crate) fn step_with(
+    fault: Option<Fault>,
+    state: &mut State,
+    card: &mut [u8],
+) -> Result<(), Refusal> {
     check_state(state)?;
     check_card(state, card)?;
     let partitions = state.partitions.to_list();
     let stored = read_all(&partitions, card).ok_or(Refusal::Malformed)?;
     let level = due_level(&partitions).ok_or(Refusal::NothingDue)?;
     let merge = Merge::of_level(level, &partitions, &stored).ok_or(Refusal::Malformed)?;
+    let merge = match fault {
+        Some(Fault::DroppedNegatives) => merge.without_negatives(),
+        _ => merge,
+    };
     let blocks = if state.merge.steps == 0 {
         begin(state, card, &merge)?
     } else {

@@ -24,3 +24,7 @@ mod together;
 mod twin;
 mod weights;
 mod worked_cases;
+mod wrong;
+mod wrong_account;
+mod wrong_damage;
+mod wrong_histories;

@@ -1,0 +1,252 @@
+//! Wrong engines on random histories, held against what the ledger's account of
+//! the card says of their faults.
+
+use crate::damage::PLAN;
+use crate::history::{act, name};
+use crate::image::{decode, encode_unfinished, walk};
+use crate::rng::Rng;
+use crate::twin::{Twin, check_byte_rule};
+use crate::wrong::{Answer, ask, count, probe_of, step};
+use second::commands::Probe;
+use second::engine;
+use second::faults::Fault;
+use second::ledger::account::{Due, Entry};
+use second::ledger::{Ledger, count_weight, rarity_weight, sixteenths};
+use second::refusal::Refusal;
+use second::state::MergeJob;
+use std::cmp::Reverse;
+use std::collections::{BTreeMap, BTreeSet};
+
+/// Counts by identifier and window.
+type Counts = BTreeMap<(usize, u32), i64>;
+
+/// What the places hold of the identifiers, as the wrong engine reads them: the
+/// partitions, the oldest first, the buffer, and the output in progress.
+fn places_of(fault: Fault, ledger: &Ledger, numbers: &[usize]) -> Vec<Vec<Entry>> {
+    let account = &ledger.account;
+    let mut places: Vec<Vec<Entry>> = account.parts.iter().map(|p| p.entries.clone()).collect();
+    if fault != Fault::ForgottenBuffer {
+        let buffer = account.buffer.iter();
+        places.push(buffer.map(|(pair, &sum)| (pair.0, pair.1.0, sum)).collect());
+    }
+    if fault == Fault::ReadOutput && account.steps > 0 {
+        let mut output = account.due().expect("a merge in progress").pairs;
+        output.truncate(16 * account.steps);
+        output.retain(|entry| entry.2 != 0);
+        places.push(output);
+    }
+    for place in &mut places {
+        place.retain(|entry| numbers.contains(&entry.0));
+    }
+    places
+}
+
+/// The sums above 0 of closed windows.
+fn counts_of(ledger: &Ledger, entries: impl Iterator<Item = Entry>) -> Counts {
+    let mut counts = Counts::new();
+    for (id, window, count) in entries {
+        *counts.entry((id, window)).or_insert(0) += count;
+    }
+    counts.retain(|pair, sum| ledger.open != Some(pair.1) && *sum > 0);
+    counts
+}
+
+/// F as the wrong engine counts it.
+fn plain_frequency(fault: Fault, places: &[Vec<Entry>], counts: &Counts, id: usize) -> u32 {
+    let holds = |place: usize, window: u32| {
+        let mut entries = places[place].iter();
+        entries.any(|entry| (entry.0, entry.1) == (id, window) && entry.2 > 0)
+    };
+    let mut total = 0;
+    for &(_, window) in counts.keys().filter(|pair| pair.0 == id) {
+        let held: Vec<usize> = (0..places.len()).filter(|&p| holds(p, window)).collect();
+        total += match fault {
+            Fault::AddedFrequencies => held.len(),
+            Fault::MendedNeighbours => {
+                let neighbours = held.windows(2).filter(|pair| pair[1] == pair[0] + 1);
+                held.len() - neighbours.count()
+            }
+            _ => 1,
+        };
+    }
+    total as u32
+}
+
+fn plain_scores(counts: &Counts, weights: &BTreeMap<usize, u32>) -> Vec<(u16, u32)> {
+    let mut scores: BTreeMap<u16, u32> = BTreeMap::new();
+    for (&(id, window), &count) in counts {
+        *scores.entry(window as u16).or_insert(0) += count_weight(count as u32) * weights[&id];
+    }
+    let mut ranked: Vec<(u16, u32)> = scores.into_iter().collect();
+    ranked.sort_by_key(|&(window, score)| Reverse((score, window)));
+    ranked
+}
+
+/// What a wrong engine must answer to a query, by the ledger's account of the card.
+fn plain_query(fault: Fault, ledger: &Ledger, ids: &[&[u8]], room: usize) -> Answer {
+    let numbers: Vec<usize> = ids.iter().filter_map(|id| ledger.number(id)).collect();
+    let places = places_of(fault, ledger, &numbers);
+    let entries = || places.iter().flatten().copied();
+    let counts = counts_of(ledger, entries());
+    let live = ledger.closed().count() as u32;
+    let weight = |&id: &usize| {
+        let with = plain_frequency(fault, &places, &counts, id);
+        let weight = match fault {
+            Fault::RoundedQuotient if (1..=live).contains(&with) => sixteenths(live / with),
+            _ => rarity_weight(live, with),
+        };
+        (id, weight)
+    };
+    let weights: BTreeMap<usize, u32> = numbers.iter().map(weight).collect();
+    let mut ranked = plain_scores(&counts, &weights);
+    if fault == Fault::FilledFirst {
+        let above_0 = counts_of(ledger, entries().filter(|entry| entry.2 > 0));
+        let mut filled = plain_scores(&above_0, &weights);
+        filled.truncate(room);
+        ranked.retain(|hit| filled.iter().any(|place| place.0 == hit.0));
+    }
+    ranked.truncate(room);
+    Ok((ranked, entries().count() as u32))
+}
+
+/// One to three different identifiers of a history.
+fn some_names(rng: &mut Rng) -> BTreeSet<Vec<u8>> {
+    let numbers = (0..1 + rng.below(3)).map(|_| rng.below(PLAN.names));
+    numbers.map(name).collect()
+}
+
+#[test]
+fn wrong_queries_are_as_the_account_says() {
+    const QUERY_FAULTS: [Fault; 6] = [
+        Fault::AddedFrequencies,
+        Fault::MendedNeighbours,
+        Fault::FilledFirst,
+        Fault::RoundedQuotient,
+        Fault::ReadOutput,
+        Fault::ForgottenBuffer,
+    ];
+    let mut rng = Rng(74);
+    let mut different = [0; 6];
+    for _ in 0..6 {
+        let mut twin = Twin::new(PLAN.blocks, PLAN.entries);
+        for _ in 0..800 {
+            act(&mut twin, &mut rng, &PLAN);
+            let probe = probe_of(&twin);
+            let names = some_names(&mut rng);
+            let ids: Vec<&[u8]> = names.iter().map(|name| &name[..]).collect();
+            let room = rng.pick(&[1, 2, 3, 5, 32]);
+            let right = ask(None, &probe, &ids, room);
+            for (fault, different) in QUERY_FAULTS.into_iter().zip(&mut different) {
+                let answer = ask(Some(fault), &probe, &ids, room);
+                assert_eq!(
+                    answer,
+                    plain_query(fault, &twin.ledger, &ids, room),
+                    "{fault:?}"
+                );
+                *different += usize::from(answer != right);
+            }
+            // A merge that drops negative counts has no part in a query.
+            assert_eq!(
+                ask(Some(Fault::DroppedNegatives), &probe, &ids, room),
+                right
+            );
+        }
+    }
+    println!("Queries that differ: {different:?} of {}", 6 * 800);
+    assert!(different.iter().all(|&times| times > 50), "{different:?}");
+}
+
+/// What the merge that is due gives without negative counts.
+fn due_above_0(ledger: &Ledger) -> Option<Due> {
+    let mut due = ledger.account.due()?;
+    due.result.entries.retain(|entry| entry.2 > 0);
+    for entry in &mut due.pairs {
+        entry.2 = entry.2.max(0);
+    }
+    Some(due)
+}
+
+/// Merges to the end, and compares the output after each step.
+fn merge_above_0(probe: &Probe, due: &Due) {
+    let mut after = probe.clone();
+    let steps = due.pairs.len().div_ceil(16);
+    for done in 1..=steps {
+        let before = after.clone();
+        assert_eq!(step(Fault::DroppedNegatives, &mut after), Ok(()));
+        check_byte_rule(&before.card, &after.card);
+        if done < steps {
+            let job = after.state.merge;
+            assert_eq!(
+                (job.steps as usize, job.length as usize),
+                (done, due.result.length())
+            );
+            let expected = encode_unfinished(due, done);
+            let blocks = match due.result.blocks() {
+                0 => vec![],
+                count => walk(&after.card, job.first.into(), count),
+            };
+            let found = blocks
+                .iter()
+                .flat_map(|block| &after.card[block * 4096..][..4092]);
+            assert!(found.copied().take(expected.len()).eq(expected));
+        }
+    }
+    assert_eq!(after.state.merge, MergeJob::default());
+    let mut records = after.state.partitions.to_list();
+    if !due.result.entries.is_empty() {
+        let record = records.remove(due.inputs.start);
+        assert_eq!(usize::from(record.level), due.result.level);
+        let blocks = walk(&after.card, record.first.into(), due.result.blocks());
+        assert_eq!(decode(&after.card, &blocks), due.result.entries);
+    }
+    let mut others = probe.state.partitions.to_list();
+    others.drain(due.inputs.clone());
+    assert_eq!(records, others);
+}
+
+#[test]
+fn merges_without_negatives_are_as_the_account_says() {
+    let mut rng = Rng(75);
+    let (mut merges, mut dropping) = (0, 0);
+    for _ in 0..6 {
+        let mut twin = Twin::new(PLAN.blocks, PLAN.entries);
+        for _ in 0..800 {
+            act(&mut twin, &mut rng, &PLAN);
+            let due = due_above_0(&twin.ledger).filter(|_| twin.ledger.account.steps == 0);
+            if let Some(due) = due {
+                merge_above_0(&probe_of(&twin), &due);
+                let right = twin.ledger.account.due().expect("it is due");
+                merges += 1;
+                dropping += usize::from(right.result != due.result);
+            }
+        }
+    }
+    println!("Merges: {merges}, {dropping} that drop a negative count");
+    assert!(merges > 100 && dropping > 30, "{merges}, {dropping}");
+}
+
+/// An identifier that is cut is the one that is left of it.
+#[test]
+fn cut_identifiers_are_those_left_of_them() {
+    let mut rng = Rng(76);
+    let mut twin = Twin::new(PLAN.blocks, PLAN.entries);
+    for _ in 0..800 {
+        act(&mut twin, &mut rng, &PLAN);
+        let mut right = probe_of(&twin);
+        let mut wrong = right.clone();
+        let names = some_names(&mut rng);
+        let ids: Vec<&[u8]> = names.iter().map(|name| &name[..]).collect();
+        let cut: Vec<&[u8]> = ids.iter().map(|id| &id[..id.len().min(16)]).collect();
+        let answer = ask(Some(Fault::CutIdentifiers), &wrong, &ids, 4);
+        assert_eq!(answer, ask(None, &right, &cut, 4));
+        let expected = engine::event(
+            &mut right.state,
+            &mut right.card,
+            &mut right.register,
+            cut[0],
+        );
+        let result = count(Fault::CutIdentifiers, &mut wrong, ids[0]);
+        assert_eq!(result, expected.map_err(Refusal::number));
+        assert!(right == wrong);
+    }
+}
