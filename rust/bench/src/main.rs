@@ -6,6 +6,8 @@ mod probes;
 mod stack;
 mod timing;
 
+use gemsilver::Identifier;
+use gemsilver::bytes::{self, HIT};
 use probes::{Probe, alike, chained, half_full, name, register, to_merge, with_full_buffer};
 use second::engine;
 use second::state::{Hit, State};
@@ -23,11 +25,11 @@ const WRITTEN: usize = 16;
 
 /// Times the judging of a register, and tells the proved engine's time.
 fn judging(case: &str, register: &[u8]) -> f64 {
-    assert!(proved::register_ok(register) && second::register::read(register).is_some());
+    assert!(bytes::register_ok(register) && second::register::read(register).is_some());
     compare(
         case,
         || {
-            black_box(proved::register_ok(black_box(register)));
+            black_box(bytes::register_ok(black_box(register)));
         },
         || {
             black_box(second::register::read(black_box(register)));
@@ -66,7 +68,7 @@ fn event(case: &str, start: &Probe, identifier: &[u8]) {
                 register,
                 ..
             } = &mut first;
-            assert_eq!(proved::event(image, card, register, identifier), Ok(()));
+            assert_eq!(bytes::event(image, card, register, identifier), Ok(()));
         },
         || {
             other.state.clone_from(&start.state);
@@ -108,12 +110,14 @@ fn queries() {
 fn query(blocks: usize, probe: &Probe, names: &[Vec<u8>]) {
     let count = names.len();
     let ids: Vec<&[u8]> = names.iter().map(|name| &name[..]).collect();
-    let (mut bytes, mut hits) = ([0; PLACES * proved::HIT], [Hit::default(); PLACES]);
+    let identifiers: Vec<Identifier> = ids.iter().map(|&id| id.into()).collect();
+    let (mut listed, mut hits) = ([0; PLACES * HIT], [Hit::default(); PLACES]);
     let (image, card, register) = (&probe.image, &probe.card, &probe.register);
-    let found = proved::query(image, card, register, &ids, &mut bytes).expect("a fitting query");
+    let mut ask = || bytes::query(image, card, register, &identifiers, &mut listed);
+    let found = ask().expect("a fitting query");
     compare(
         &format!("{blocks}, {count}, {}", found.taken),
-        || assert!(proved::query(image, card, register, &ids, &mut bytes).is_ok()),
+        || assert!(ask().is_ok()),
         || assert!(engine::query(&probe.state, card, register, &ids, &mut hits).is_ok()),
     );
 }
@@ -132,13 +136,13 @@ fn means() {
 /// read that every mean reads.
 fn mean(blocks: usize, probe: &Probe, name: &[u8]) {
     let (image, card, register) = (&probe.image, &probe.card, &probe.register);
-    let found = proved::query(image, card, register, &[name], &mut [0; proved::HIT]);
+    let found = bytes::query(image, card, register, &[name.into()], &mut [0; HIT]);
     let taken = found.expect("a fitting query").taken;
     let is_counted = taken > 0;
     compare(
         &format!("{blocks}, {taken}"),
         || {
-            let told = proved::mean(image, card, register, name);
+            let told = bytes::mean(image, card, register, name);
             assert_eq!(told.is_ok(), is_counted);
         },
         || {
@@ -200,7 +204,7 @@ fn removals() {
             &format!("{blocks}, one by one"),
             |image, card| {
                 for &window in &windows {
-                    assert_eq!(proved::remove(image, card, window), Ok(()));
+                    assert_eq!(bytes::remove(image, card, window), Ok(()));
                 }
             },
             |state, card| {
@@ -211,7 +215,7 @@ fn removals() {
         );
         let together = removing.compare(
             &format!("{blocks}, together"),
-            |image, card| assert_eq!(proved::remove_all(image, card, &windows), Ok(())),
+            |image, card| assert_eq!(bytes::remove_all(image, card, &windows), Ok(())),
             |state, card| assert_eq!(engine::remove_all(state, card, &windows), Ok(())),
         );
         format!("{:.2}", together / singly)
@@ -231,7 +235,7 @@ fn merges() {
         let mut taken = 0;
         let whole = once(|| {
             taken = steps(usize::MAX, || {
-                proved::step(&mut first.image, &mut first.card).is_ok()
+                bytes::step(&mut first.image, &mut first.card).is_ok()
             });
         });
         // The second engine reads all inputs at each step: a few steps of a large merge tell their time.
@@ -281,17 +285,17 @@ fn stacks() {
             register,
             ..
         } = probe;
-        assert!(proved::start(image, card, register).is_ok());
+        assert!(bytes::start(image, card, register).is_ok());
     });
     let closed = probes.clone().map(|mut probe| {
-        proved::close(&mut probe.image).expect("an open window");
+        bytes::close(&mut probe.image).expect("an open window");
         probe
     });
     stack("open", &closed, |probe| {
-        assert!(proved::open(&mut probe.image).is_ok());
+        assert!(bytes::open(&mut probe.image).is_ok());
     });
     stack("close", &probes, |probe| {
-        assert!(proved::close(&mut probe.image).is_ok());
+        assert!(bytes::close(&mut probe.image).is_ok());
     });
     stack("event", &probes, |probe| {
         let Probe {
@@ -300,31 +304,31 @@ fn stacks() {
             register,
             ..
         } = probe;
-        assert!(proved::event(image, card, register, &name(60)).is_ok());
+        assert!(bytes::event(image, card, register, &name(60)).is_ok());
     });
     stack("flush", &probes, |probe| {
-        assert!(proved::flush(&mut probe.image, &mut probe.card).is_ok());
+        assert!(bytes::flush(&mut probe.image, &mut probe.card).is_ok());
     });
     stack("remove", &probes, |probe| {
-        assert!(proved::remove(&mut probe.image, &mut probe.card, 1).is_ok());
+        assert!(bytes::remove(&mut probe.image, &mut probe.card, 1).is_ok());
     });
     let windows: Vec<u32> = (1..=WINDOWS).collect();
     stack("remove_all", &probes, |probe| {
-        assert!(proved::remove_all(&mut probe.image, &mut probe.card, &windows).is_ok());
+        assert!(bytes::remove_all(&mut probe.image, &mut probe.card, &windows).is_ok());
     });
     stack("all steps of a merge", &probes, |probe| {
-        while proved::step(&mut probe.image, &mut probe.card).is_ok() {}
+        while bytes::step(&mut probe.image, &mut probe.card).is_ok() {}
     });
     let names: Vec<Vec<u8>> = (0..5).map(name).collect();
-    let ids: Vec<&[u8]> = names.iter().map(|name| &name[..]).collect();
+    let ids: Vec<Identifier> = names.iter().map(|name| name[..].into()).collect();
     stack("query", &probes, |probe| {
-        let mut hits = [0; PLACES * proved::HIT];
+        let mut hits = [0; PLACES * HIT];
         let (image, card, register) = (&probe.image, &probe.card, &probe.register);
-        assert!(proved::query(image, card, register, &ids, &mut hits).is_ok());
+        assert!(bytes::query(image, card, register, &ids, &mut hits).is_ok());
     });
     stack("mean", &probes, |probe| {
         let (image, card, register) = (&probe.image, &probe.card, &probe.register);
-        assert!(proved::mean(image, card, register, ids[0]).is_ok());
+        assert!(bytes::mean(image, card, register, &names[0]).is_ok());
     });
 }
 

@@ -1,7 +1,8 @@
 //! The same windows and queries for this engine and for others: writes them as text, and times this engine's queries.
 
 use crate::timing::once;
-use second::{engine, image, state::Hit};
+use gemsilver::{Hit, Identifier, Probe};
+use second::{engine, image, state::Hit as SecondHit};
 use std::collections::BTreeMap;
 use std::fs;
 use std::path::Path;
@@ -68,6 +69,10 @@ fn lines(rows: impl Iterator<Item = Vec<String>>) -> String {
     rows.map(|words| words.join(" ") + "\n").collect()
 }
 
+fn identifiers(names: &[String]) -> Vec<Identifier<'_>> {
+    names.iter().map(|name| name[..].into()).collect()
+}
+
 /// Writes windows and queries to a folder, builds a card of them by the proved engine's calls, holds every answer to the second engine's, and prints the times.
 pub fn run(folder: &Path) {
     let mut rng = Rng(20_261_115);
@@ -86,54 +91,50 @@ pub fn run(folder: &Path) {
     .expect("windows.txt");
     fs::write(folder.join("queries.txt"), lines(queries.iter().map(named))).expect("queries.txt");
 
-    let mut image = vec![0; proved::IMAGE];
-    let mut card = vec![0; BLOCKS * 4_096];
-    let mut register = vec![0; NAMES * 65];
+    let buffers = [gemsilver::IMAGE, BLOCKS * 4_096, NAMES * 65];
+    let [image, card, register] = buffers.map(|length| vec![0; length]);
+    let mut probe = Probe::start(image, card, register).expect("a start");
     let built = once(|| {
-        proved::start(&mut image, &mut card, &mut register).expect("a start");
         for counts in &windows {
-            proved::open(&mut image).expect("an open");
+            probe.open().expect("an open");
             for (id, count) in counts {
                 for _ in 0..*count {
-                    proved::event(&mut image, &mut card, &mut register, name(*id).as_bytes())
-                        .expect("an event");
+                    probe.event(name(*id)).expect("an event");
                 }
             }
-            proved::close(&mut image).expect("a close");
-            while proved::step(&mut image, &mut card).is_ok() {}
+            probe.close().expect("a close");
+            while probe.step().is_ok() {}
         }
     });
-    let state = image::read(&image).expect("an image");
-    let ids: Vec<Vec<String>> = queries.iter().map(named).collect();
-    let ids: Vec<Vec<&[u8]>> = ids
-        .iter()
-        .map(|ids| ids.iter().map(|id| id.as_bytes()).collect())
-        .collect();
-    let mut bytes = [0; PLACES * proved::HIT];
+    let state = image::read(probe.image()).expect("an image");
+    let names: Vec<Vec<String>> = queries.iter().map(named).collect();
     let mut told = String::new();
-    for ids in &ids {
-        let mut hits = [Hit::default(); PLACES];
-        let found = proved::query(&image, &card, &register, ids, &mut bytes).expect("a query");
-        let expected = engine::query(&state, &card, &register, ids, &mut hits).expect("a query");
-        let word =
-            |at: usize| u32::from_le_bytes(bytes[at..at + 4].try_into().expect("four bytes"));
-        let listed = usize::from(expected.hits);
-        assert_eq!(found.hits as usize, listed);
-        for (place, hit) in hits[..listed].iter().enumerate() {
-            assert_eq!(
-                (word(8 * place), word(8 * place + 4)),
-                (u32::from(hit.window), hit.score)
-            );
+    for names in &names {
+        let (mut hits, mut expected) = ([Hit::default(); PLACES], [SecondHit::default(); PLACES]);
+        let found = probe.query(&identifiers(names), &mut hits);
+        let listed = found.expect("a query").hits;
+        let names: Vec<&[u8]> = names.iter().map(String::as_bytes).collect();
+        let (card, register) = (probe.card(), probe.register());
+        let second = engine::query(&state, card, register, &names, &mut expected);
+        assert_eq!(second.map(|found| usize::from(found.hits)), Ok(listed));
+        for (hit, expected) in hits[..listed].iter().zip(&expected) {
+            let expected = (u32::from(expected.window), expected.score);
+            assert_eq!((hit.window, hit.score), expected);
             told += &format!("{} {} ", hit.window, hit.score);
         }
         told += "\n";
     }
     fs::write(folder.join("hits.txt"), told).expect("hits.txt");
+    let asked: Vec<Vec<Identifier>> = names.iter().map(|names| identifiers(names)).collect();
     let mut least = f64::INFINITY;
     for _ in 0..7 {
         least = least.min(once(|| {
-            for ids in &ids {
-                assert!(proved::query(&image, &card, &register, ids, &mut bytes).is_ok());
+            for identifiers in &asked {
+                assert!(
+                    probe
+                        .query(identifiers, &mut [Hit::default(); PLACES])
+                        .is_ok()
+                );
             }
         }));
     }

@@ -6,7 +6,7 @@ use crate::means::probe;
 use crate::pair::Pair;
 use crate::tally::Tally;
 use crate::words::{at, put, word};
-use proved::HIT;
+use gemsilver::bytes::{self, HIT};
 use second::weights::sixteenths;
 
 /// The bytes that both engines list for an identifier or more, in places that were filled with 7.
@@ -88,7 +88,7 @@ fn score(probe: &Probe) -> u32 {
         register,
     } = probe;
     let mut hits = [0; HIT];
-    let found = proved::query(image, card, register, &[&name(0)], &mut hits);
+    let found = bytes::query(image, card, register, &[name(0)[..].into()], &mut hits);
     assert_eq!(found.map(|found| found.hits), Ok(1));
     word(&hits, 1)
 }

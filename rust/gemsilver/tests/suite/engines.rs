@@ -1,6 +1,7 @@
 //! Both engines behind one form: a call made on an image, a card and a register.
 
 use crate::words::put;
+use gemsilver::{Identifier, Refusal as Refused, bytes};
 use second::engine;
 use second::image;
 use second::refusal::Refusal;
@@ -82,20 +83,24 @@ pub fn proved(probe: &mut Probe, call: &Call, hits: &mut [u8]) -> Answer {
         card,
         register,
     } = probe;
-    match call {
-        Call::Start => proved::start(image, card, register).map(|()| NOTHING),
-        Call::Open => proved::open(image).map(window),
-        Call::Close => proved::close(image).map(|()| NOTHING),
-        Call::Event(name) => proved::event(image, card, register, name).map(|()| NOTHING),
-        Call::Flush => proved::flush(image, card).map(|()| NOTHING),
-        Call::Remove(window) => proved::remove(image, card, *window).map(|()| NOTHING),
-        Call::RemoveAll(windows) => proved::remove_all(image, card, windows).map(|()| NOTHING),
-        Call::Step => proved::step(image, card).map(|()| NOTHING),
-        Call::Query(names, _) => proved::query(image, card, register, &slices(names), hits)
-            .map(|answer| found(answer.hits, answer.taken)),
-        Call::Mean(name) => proved::mean(image, card, register, name)
+    let answer = match call {
+        Call::Start => bytes::start(image, card, register).map(|()| NOTHING),
+        Call::Open => bytes::open(image).map(window),
+        Call::Close => bytes::close(image).map(|()| NOTHING),
+        Call::Event(name) => bytes::event(image, card, register, name).map(|()| NOTHING),
+        Call::Flush => bytes::flush(image, card).map(|()| NOTHING),
+        Call::Remove(window) => bytes::remove(image, card, *window).map(|()| NOTHING),
+        Call::RemoveAll(windows) => bytes::remove_all(image, card, windows).map(|()| NOTHING),
+        Call::Step => bytes::step(image, card).map(|()| NOTHING),
+        Call::Query(names, _) => {
+            let identifiers: Vec<Identifier> = names.iter().map(|name| name[..].into()).collect();
+            bytes::query(image, card, register, &identifiers, hits)
+                .map(|answer| found(answer.hits as u64, answer.taken))
+        }
+        Call::Mean(name) => bytes::mean(image, card, register, name)
             .map(|mean| [mean.quotient, mean.remainder, mean.windows].map(u64::from)),
-    }
+    };
+    answer.map_err(Refused::number)
 }
 
 /// Makes a call of the second engine. Bytes that are no image are a state that breaks the rules.

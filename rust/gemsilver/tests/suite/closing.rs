@@ -4,6 +4,7 @@ use crate::engines::{Call, Told, proved};
 use crate::pair::Pair;
 use crate::tally::Tally;
 use crate::words::word;
+use gemsilver::bytes::HIT;
 
 const LUCKY: &[u8] = b"LUCKY";
 
@@ -22,7 +23,7 @@ fn count(pair: &mut Pair, identifiers: &[&[u8]]) {
 
 /// The hits of LUCKY and the postings taken.
 fn ask(pair: &mut Pair) -> (Vec<(u32, u32)>, u64) {
-    let call = Call::Query(vec![LUCKY.to_vec()], vec![0; 32 * proved::HIT]);
+    let call = Call::Query(vec![LUCKY.to_vec()], vec![0; 32 * HIT]);
     make(pair, call.clone());
     let mut hits = call.list();
     let answer = proved(&mut pair.probe().clone(), &call, &mut hits);

@@ -1,6 +1,7 @@
 //! Both engines judge registers alike: whole ones, damaged ones, and ones that name an identifier twice.
 
 use crate::rng::Rng;
+use gemsilver::bytes;
 use second::register;
 
 const ENTRY: usize = 65;
@@ -46,7 +47,7 @@ fn both_engines_judge_registers_alike() {
         for _ in 0..rng.below(3) {
             damage(&mut rng, &mut register);
         }
-        let told = proved::register_ok(&register);
+        let told = bytes::register_ok(&register);
         assert_eq!(told, register::read(&register).is_some(), "round {round}");
         if told { kept += 1 } else { refused += 1 }
     }
@@ -58,14 +59,14 @@ fn both_engines_judge_registers_alike() {
 
 #[test]
 fn a_register_past_1024_entries_is_refused() {
-    assert!(proved::register_ok(&vec![0; 1_024 * ENTRY]));
-    assert!(!proved::register_ok(&vec![0; 1_025 * ENTRY]));
+    assert!(bytes::register_ok(&vec![0; 1_024 * ENTRY]));
+    assert!(!bytes::register_ok(&vec![0; 1_025 * ENTRY]));
 }
 
 #[test]
 fn a_register_has_at_least_one_entry_and_whole_ones() {
     for length in [0, 1, ENTRY - 1, ENTRY + 1, 1_024 * ENTRY - 1] {
-        assert!(!proved::register_ok(&vec![0; length]), "{length} bytes");
+        assert!(!bytes::register_ok(&vec![0; length]), "{length} bytes");
     }
-    assert!(proved::register_ok(&[0; ENTRY]));
+    assert!(bytes::register_ok(&[0; ENTRY]));
 }

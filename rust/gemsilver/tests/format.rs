@@ -1,5 +1,7 @@
 //! The example of docs/FORMAT.md is what the engine writes.
 
+use gemsilver::bytes;
+
 const FORMAT: &str = include_str!("../../../docs/FORMAT.md");
 const BLOCKS: usize = 4;
 const ENTRIES: usize = 4;
@@ -46,22 +48,21 @@ fn word(image: &[u8], place: usize) -> u32 {
 
 #[test]
 fn the_example_is_what_is_written() {
-    let mut image = vec![0; proved::IMAGE];
+    let mut image = vec![0; gemsilver::IMAGE];
     let mut card = vec![0; BLOCKS * 4_096];
     let mut register = vec![1; ENTRIES * 65];
-    proved::start(&mut image, &mut card, &mut register).expect("a start");
+    bytes::start(&mut image, &mut card, &mut register).expect("a start");
     let fresh = image.clone();
     for events in [&["LUCKY", "LUCKY", "LUCKY", "TILT"][..], &["LUCKY"]] {
-        proved::open(&mut image).expect("an open");
+        bytes::open(&mut image).expect("an open");
         for event in events {
-            proved::event(&mut image, &mut card, &mut register, event.as_bytes())
-                .expect("an event");
+            bytes::event(&mut image, &mut card, &mut register, event.as_bytes()).expect("an event");
         }
-        proved::close(&mut image).expect("a close");
+        bytes::close(&mut image).expect("a close");
     }
-    proved::flush(&mut image, &mut card).expect("a flush");
-    proved::remove(&mut image, &mut card, 1).expect("a removal");
-    proved::flush(&mut image, &mut card).expect("a flush");
+    bytes::flush(&mut image, &mut card).expect("a flush");
+    bytes::remove(&mut image, &mut card, 1).expect("a removal");
+    bytes::flush(&mut image, &mut card).expect("a flush");
 
     assert!(card == filled("card", 255, card.len()), "the card");
     assert!(
@@ -78,7 +79,7 @@ fn the_example_is_what_is_written() {
         })
         .collect();
     assert_eq!(told.len(), 10);
-    for place in 0..proved::IMAGE / 4 {
+    for place in 0..gemsilver::IMAGE / 4 {
         let expected = told
             .iter()
             .find(|(at, _)| *at == place)

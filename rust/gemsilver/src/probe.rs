@@ -1,0 +1,282 @@
+//! A probe: its three buffers, and the calls on them.
+
+use crate::{Found, Hit, Identifier, Mean, Refusal, Snapshot, bytes};
+
+/// A probe: the state's image, the card and the register, which belong together.
+///
+/// `B` is what holds the bytes: a `Vec<u8>` or an array's `Box` owns them, `&mut [u8]` borrows them, and with `&[u8]` there are only the calls
+/// that read. The answers of [`query`](Probe::query) and [`mean`](Probe::mean) are those of a plain ledger of live windows after every history of
+/// calls from [`start`](Probe::start), wherever flushes and merge steps fall: that is proved of the functions called.
+#[derive(Clone, PartialEq, Eq, Debug)]
+pub struct Probe<B> {
+    image: B,
+    card: B,
+    register: B,
+}
+
+impl<B: AsRef<[u8]>> Probe<B> {
+    /// The probe that these buffers hold, as an earlier one left them. Nothing is judged here: every call judges what it reads.
+    ///
+    /// ```
+    /// # use gemsilver::{IMAGE, Probe, Refusal};
+    /// let (mut image, mut card, mut register) = ([0; IMAGE], [0; 4 * 4096], [0; 65]);
+    /// Probe::start(&mut image[..], &mut card, &mut register)?.open()?;
+    /// let mut probe = Probe::resume(&mut image[..], &mut card, &mut register);
+    /// assert_eq!(probe.open(), Err(Refusal::OutOfTurn));
+    /// # Ok::<(), Refusal>(())
+    /// ```
+    pub fn resume(image: B, card: B, register: B) -> Self {
+        Probe {
+            image,
+            card,
+            register,
+        }
+    }
+
+    /// The state's image.
+    pub fn image(&self) -> &[u8] {
+        self.image.as_ref()
+    }
+
+    /// The card.
+    pub fn card(&self) -> &[u8] {
+        self.card.as_ref()
+    }
+
+    /// The register.
+    pub fn register(&self) -> &[u8] {
+        self.register.as_ref()
+    }
+
+    /// The buffers: image, card and register.
+    pub fn into_buffers(self) -> (B, B, B) {
+        (self.image, self.card, self.register)
+    }
+
+    /// The probe as one file.
+    ///
+    /// ```
+    /// # use gemsilver::{IMAGE, Probe, Snapshot};
+    /// # use std::io::Write;
+    /// let probe = Probe::start(vec![0; IMAGE], vec![0; 4 * 4096], vec![0; 65])?;
+    /// let mut file = Vec::new(); // or a file that was opened
+    /// probe.snapshot().write(|piece| file.write_all(piece))?;
+    /// let read = Snapshot::read(&file)?;
+    /// assert_eq!(read.probe().card(), probe.card());
+    /// # Ok::<(), Box<dyn std::error::Error>>(())
+    /// ```
+    pub fn snapshot(&self) -> Snapshot<'_> {
+        Snapshot {
+            image: self.image(),
+            card: self.card(),
+            register: self.register(),
+        }
+    }
+
+    /// Fills the list with the closed windows that score highest on 1 to 5 different identifiers, by falling score, then falling number. The
+    /// list has 1 to 32 places; those past the last hit stay as they are.
+    ///
+    /// A window's score is the sum of S(count + 1) x (S(N) - S(F)) over the identifiers that count in it. S(n) is the largest a with
+    /// 2^a <= n^16, N the number of closed windows, and F the number of those in which the identifier counts; where F exceeds N,
+    /// S(N) - S(F) is taken as 0.
+    ///
+    /// ```
+    /// # use gemsilver::{Hit, IMAGE, Probe};
+    /// # let mut probe = Probe::start(vec![0; IMAGE], vec![0; 4 * 4096], vec![0; 65])?;
+    /// for _ in 0..2 {
+    ///     probe.open()?;
+    ///     probe.event("TILT")?;
+    ///     probe.close()?;
+    /// }
+    /// probe.open()?;
+    /// probe.event("TILT")?; // the open window is no result yet
+    /// let mut hits = [Hit::default(); 32];
+    /// let found = probe.query(&["TILT".into()], &mut hits)?;
+    /// assert_eq!((found.hits, found.taken), (2, 3));
+    /// assert_eq!(hits[0], Hit { window: 2, score: 0 });
+    /// # Ok::<(), gemsilver::Refusal>(())
+    /// ```
+    pub fn query(
+        &self,
+        identifiers: &[Identifier<'_>],
+        hits: &mut [Hit],
+    ) -> Result<Found, Refusal> {
+        let hits = Hit::bytes_of(hits);
+        bytes::query(
+            self.image(),
+            self.card(),
+            self.register(),
+            identifiers,
+            hits,
+        )
+    }
+
+    /// The mean count of an identifier over the closed windows in which it counts, with what the division leaves over.
+    ///
+    /// ```
+    /// # use gemsilver::{IMAGE, Mean, Probe, Refusal};
+    /// # let mut probe = Probe::start(vec![0; IMAGE], vec![0; 4 * 4096], vec![0; 65])?;
+    /// for count in [3, 2] {
+    ///     probe.open()?;
+    ///     for _ in 0..count {
+    ///         probe.event("COIN")?;
+    ///     }
+    ///     probe.close()?;
+    /// }
+    /// assert_eq!(probe.mean("COIN"), Ok(Mean { quotient: 2, remainder: 1, windows: 2 }));
+    /// assert_eq!(probe.mean("DOOR"), Err(Refusal::Uncounted));
+    /// # Ok::<(), Refusal>(())
+    /// ```
+    pub fn mean(&self, identifier: impl AsRef<[u8]>) -> Result<Mean, Refusal> {
+        bytes::mean(
+            self.image(),
+            self.card(),
+            self.register(),
+            identifier.as_ref(),
+        )
+    }
+}
+
+impl<B: AsRef<[u8]> + AsMut<[u8]>> Probe<B> {
+    /// A fresh card, an empty register and the state that goes with them, in these buffers, whatever they held. The image has
+    /// [`IMAGE`](crate::IMAGE) bytes, the card 4 to 4,096 blocks of 4,096, the register 1 to 1,024 entries of 65.
+    ///
+    /// ```
+    /// # use gemsilver::{IMAGE, Probe, Refusal};
+    /// let (mut image, mut card, mut register) = ([0; IMAGE], [0; 4 * 4096], [0; 65]);
+    /// let probe = Probe::start(&mut image[..], &mut card, &mut register)?;
+    /// assert!(probe.card().iter().all(|&byte| byte == 255));
+    /// let refused = Probe::start(vec![0; IMAGE], vec![0; 3 * 4096], vec![0; 65]);
+    /// assert_eq!(refused, Err(Refusal::WrongLength));
+    /// # Ok::<(), Refusal>(())
+    /// ```
+    pub fn start(image: B, card: B, register: B) -> Result<Self, Refusal> {
+        let mut probe = Probe::resume(image, card, register);
+        let Probe {
+            image,
+            card,
+            register,
+        } = &mut probe;
+        bytes::start(image.as_mut(), card.as_mut(), register.as_mut())?;
+        Ok(probe)
+    }
+
+    /// Opens a window and answers its number.
+    ///
+    /// ```
+    /// # use gemsilver::{IMAGE, Probe, Refusal};
+    /// # let mut probe = Probe::start(vec![0; IMAGE], vec![0; 4 * 4096], vec![0; 65])?;
+    /// assert_eq!(probe.open(), Ok(1));
+    /// assert_eq!(probe.open(), Err(Refusal::OutOfTurn));
+    /// # Ok::<(), Refusal>(())
+    /// ```
+    pub fn open(&mut self) -> Result<u32, Refusal> {
+        bytes::open(self.image.as_mut())
+    }
+
+    /// Counts an identifier in the open window: 1 to 64 bytes, never shortened. A full buffer is written to the card first.
+    ///
+    /// ```
+    /// # use gemsilver::{IMAGE, Probe, Refusal};
+    /// # let mut probe = Probe::start(vec![0; IMAGE], vec![0; 4 * 4096], vec![0; 65])?;
+    /// probe.open()?;
+    /// assert_eq!(probe.event([b'x'; 64]), Ok(()));
+    /// assert_eq!(probe.event([b'x'; 65]), Err(Refusal::BadIdentifier));
+    /// assert_eq!(probe.event("DOOR"), Err(Refusal::RegisterFull));
+    /// # Ok::<(), Refusal>(())
+    /// ```
+    pub fn event(&mut self, identifier: impl AsRef<[u8]>) -> Result<(), Refusal> {
+        bytes::event(
+            self.image.as_mut(),
+            self.card.as_mut(),
+            self.register.as_mut(),
+            identifier.as_ref(),
+        )
+    }
+
+    /// Closes the open window, which queries find from then on; one without events gives its number back.
+    ///
+    /// ```
+    /// # use gemsilver::{IMAGE, Probe, Refusal};
+    /// # let mut probe = Probe::start(vec![0; IMAGE], vec![0; 4 * 4096], vec![0; 65])?;
+    /// probe.open()?;
+    /// assert_eq!(probe.close(), Ok(()));
+    /// assert_eq!(probe.close(), Err(Refusal::OutOfTurn));
+    /// assert_eq!(probe.open(), Ok(1)); // the first one had no events
+    /// # Ok::<(), Refusal>(())
+    /// ```
+    pub fn close(&mut self) -> Result<(), Refusal> {
+        bytes::close(self.image.as_mut())
+    }
+
+    /// Takes out a closed window. What lies on the card of it stays there: its counts are buffered once more, negated.
+    ///
+    /// ```
+    /// # use gemsilver::{IMAGE, Probe, Refusal};
+    /// # let mut probe = Probe::start(vec![0; IMAGE], vec![0; 4 * 4096], vec![0; 65])?;
+    /// probe.open()?;
+    /// probe.event("TILT")?;
+    /// probe.close()?;
+    /// assert_eq!(probe.remove(1), Ok(()));
+    /// assert_eq!(probe.remove(1), Err(Refusal::NotLive));
+    /// # Ok::<(), Refusal>(())
+    /// ```
+    pub fn remove(&mut self, window: u32) -> Result<(), Refusal> {
+        bytes::remove(self.image.as_mut(), self.card.as_mut(), window)
+    }
+
+    /// Takes out all windows of a list, of 1 to 32 different ones, in the order given, or none of them.
+    ///
+    /// ```
+    /// # use gemsilver::{IMAGE, Probe, Refusal};
+    /// # let mut probe = Probe::start(vec![0; IMAGE], vec![0; 4 * 4096], vec![0; 65])?;
+    /// for _ in 0..2 {
+    ///     probe.open()?;
+    ///     probe.event("TILT")?;
+    ///     probe.close()?;
+    /// }
+    /// assert_eq!(probe.remove_all(&[1, 2, 3]), Err(Refusal::NotLive)); // none is removed
+    /// assert_eq!(probe.remove_all(&[1, 2]), Ok(()));
+    /// # Ok::<(), Refusal>(())
+    /// ```
+    pub fn remove_all(&mut self, windows: &[u32]) -> Result<(), Refusal> {
+        bytes::remove_all(self.image.as_mut(), self.card.as_mut(), windows)
+    }
+
+    /// Writes what is buffered to the card as one partition; an empty buffer writes nothing.
+    ///
+    /// ```
+    /// # use gemsilver::{IMAGE, Probe, Refusal};
+    /// # let mut probe = Probe::start(vec![0; IMAGE], vec![0; 4 * 4096], vec![0; 65])?;
+    /// probe.open()?;
+    /// for _ in 0..2 {
+    ///     probe.event("TILT")?;
+    ///     assert_eq!(probe.flush(), Ok(()));
+    /// }
+    /// probe.event("TILT")?;
+    /// assert_eq!(probe.flush(), Err(Refusal::HalfFull)); // four blocks take two partitions
+    /// # Ok::<(), Refusal>(())
+    /// ```
+    pub fn flush(&mut self) -> Result<(), Refusal> {
+        bytes::flush(self.image.as_mut(), self.card.as_mut())
+    }
+
+    /// Takes the merge in progress a step further, sixteen pairs, or begins the one that is due.
+    ///
+    /// ```
+    /// # use gemsilver::{IMAGE, Probe, Refusal};
+    /// # let mut probe = Probe::start(vec![0; IMAGE], vec![0; 16 * 4096], vec![0; 65])?;
+    /// assert_eq!(probe.step(), Err(Refusal::NothingDue));
+    /// probe.open()?;
+    /// for _ in 0..8 {
+    ///     probe.event("TILT")?;
+    ///     probe.flush()?;
+    /// }
+    /// assert_eq!(probe.step(), Ok(())); // one pair: one step
+    /// assert_eq!(probe.step(), Err(Refusal::NothingDue));
+    /// # Ok::<(), Refusal>(())
+    /// ```
+    pub fn step(&mut self) -> Result<(), Refusal> {
+        bytes::step(self.image.as_mut(), self.card.as_mut())
+    }
+}
