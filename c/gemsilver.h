@@ -17,7 +17,7 @@
  * library it needs memcpy and memset alone.
  *
  * Stack, in bytes as measured on x86-64 (docs/PERFORMANCE.md); leave some more: start 1,720, open 4,904, close 4,632, event 11,208, flush 10,312, remove 14,040,
- * remove_all 26,776, step 12,136, query 12,232, mean 9,000. */
+ * remove_all 26,776, step 12,136, query 12,168, mean 9,000. */
 #ifndef GEMSILVER_H
 #define GEMSILVER_H
 

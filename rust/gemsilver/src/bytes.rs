@@ -1,7 +1,17 @@
 //! The calls on three slices: the state's image, the card and the register.
 //!
 //! Each is one exported function of the proved crates. A call is given the buffers that it may read or write, in this order; a
-//! [`Probe`](crate::Probe) has them together.
+//! [`Probe`](crate::Probe) has them together, and an example for each.
+//!
+//! ```
+//! use gemsilver::{IMAGE, bytes};
+//!
+//! let (mut image, mut card, mut register) = ([0; IMAGE], [0; 4 * 4096], [0; 65]);
+//! bytes::start(&mut image, &mut card, &mut register)?;
+//! assert_eq!(bytes::open(&mut image), Ok(1));
+//! bytes::event(&mut image, &mut card, &mut register, b"LUCKY")?;
+//! # Ok::<(), gemsilver::Refusal>(())
+//! ```
 
 use crate::exported;
 use crate::{Found, Identifier, Mean, Refusal};
@@ -26,6 +36,15 @@ fn done(number: u32) -> Result<(), Refusal> {
 }
 
 /// Whether a register has 1 to 1,024 whole entries and is well formed.
+///
+/// ```
+/// use gemsilver::bytes::register_ok;
+///
+/// let mut register = [0; 2 * 65];
+/// assert!(register_ok(&register));
+/// register[65..67].copy_from_slice(&[1, b'A']); // the second entry is used, and the first is not
+/// assert!(!register_ok(&register));
+/// ```
 pub fn register_ok(register: &[u8]) -> bool {
     // Sound: the pointer and the length are those of one slice, which is only read.
     unsafe { exported::gemsilver_register_ok(register.as_ptr(), register.len()) == 1 }

@@ -1,0 +1,154 @@
+//! The words of a call.
+
+use crate::engines::Sizes;
+use crate::failure::Failure;
+use crate::looks::Look;
+use crate::session::Name;
+use crate::text;
+use second::faults::Fault;
+use std::ffi::{OsStr, OsString};
+use std::os::unix::ffi::OsStrExt;
+use std::path::PathBuf;
+
+/// The words after the command's name, options taken out.
+pub struct Arguments {
+    words: std::vec::IntoIter<OsString>,
+    pub sizes: Sizes,
+    /// A wrong engine to be shown beside ours.
+    pub against: Option<Fault>,
+    pub wants_help: bool,
+}
+
+impl Arguments {
+    /// Takes the options out.
+    pub fn of(words: impl Iterator<Item = OsString>) -> Result<Self, Failure> {
+        let mut arguments = Arguments {
+            words: Vec::new().into_iter(),
+            sizes: Sizes::default(),
+            against: None,
+            wants_help: false,
+        };
+        let mut others = Vec::new();
+        let mut words = words;
+        while let Some(word) = words.next() {
+            match word.as_bytes() {
+                b"--blocks" => arguments.sizes.blocks = value("--blocks", words.next())?,
+                b"--entries" => arguments.sizes.entries = value("--entries", words.next())?,
+                b"--against" => arguments.against = Some(fault(words.next().as_deref())?),
+                b"--help" | b"-h" => arguments.wants_help = true,
+                b"--" => others.extend(words.by_ref()),
+                option if option.starts_with(b"--") => {
+                    return Err(Failure::Usage(format!("no such option: {}", shown(&word))));
+                }
+                _ => others.push(word),
+            }
+        }
+        arguments.words = others.into_iter();
+        Ok(arguments)
+    }
+
+    /// The next word.
+    pub fn next(&mut self, what: &str) -> Result<OsString, Failure> {
+        self.words
+            .next()
+            .ok_or_else(|| Failure::Usage(format!("{what} is missing")))
+    }
+
+    /// A file.
+    pub fn file(&mut self, what: &str) -> Result<PathBuf, Failure> {
+        self.next(what).map(PathBuf::from)
+    }
+
+    /// A moment.
+    pub fn moment(&mut self) -> Result<Name, Failure> {
+        self.next("FILE:LINE or a snapshot")
+            .map(|name| Name::of(&name))
+    }
+
+    /// A number.
+    pub fn number(&mut self, what: &str) -> Result<u32, Failure> {
+        value(what, self.words.next())
+    }
+
+    /// An identifier, written as it is shown.
+    pub fn identifier(&mut self) -> Result<Vec<u8>, Failure> {
+        let word = self.next("IDENTIFIER")?;
+        identifier(&word)
+    }
+
+    /// All further words as identifiers.
+    pub fn identifiers(&mut self) -> Result<Vec<Vec<u8>>, Failure> {
+        self.words.by_ref().map(|word| identifier(&word)).collect()
+    }
+
+    /// A wrong engine by its name, `None` for all of them.
+    pub fn faults(&mut self) -> Result<Option<Fault>, Failure> {
+        let word = self.next("NAME")?;
+        if word == "all" {
+            return Ok(None);
+        }
+        fault(Some(&word)).map(Some)
+    }
+
+    /// What is to be looked at, if anything is.
+    pub fn look(&mut self) -> Result<Option<Look>, Failure> {
+        let Some(word) = self.words.next() else {
+            return Ok(None);
+        };
+        if word != "look" {
+            let word = shown(&word);
+            return Err(Failure::Usage(format!("`look` was expected, not {word}")));
+        }
+        let what = self.next("what to look at")?;
+        let look = match what.as_bytes() {
+            b"card" => Look::Card,
+            b"partition" => Look::Partition(self.number("the partition's number")? as usize),
+            b"buffer" => Look::Buffer,
+            b"register" => Look::Register,
+            b"merge" => Look::Merge,
+            _ => {
+                let what = shown(&what);
+                return Err(Failure::Usage(format!(
+                    "look at card, partition N, buffer, register or merge, not at {what}"
+                )));
+            }
+        };
+        Ok(Some(look))
+    }
+
+    /// Refuses words that nobody asked for.
+    pub fn end(&mut self) -> Result<(), Failure> {
+        match self.words.next() {
+            Some(word) => Err(Failure::Usage(format!("{} is too much", shown(&word)))),
+            None => Ok(()),
+        }
+    }
+}
+
+/// A word as text.
+fn shown(word: &OsStr) -> String {
+    text::line(word.as_bytes())
+}
+
+fn value<T: std::str::FromStr>(what: &str, word: Option<OsString>) -> Result<T, Failure> {
+    let word = word.ok_or_else(|| Failure::Usage(format!("{what} takes a number")))?;
+    let number = word.to_str().and_then(|word| word.parse().ok());
+    number.ok_or_else(|| Failure::Usage(format!("{what}: {} is no number", shown(&word))))
+}
+
+fn identifier(word: &OsStr) -> Result<Vec<u8>, Failure> {
+    text::bytes(word.as_bytes()).ok_or_else(|| {
+        let word = String::from_utf8_lossy(word.as_bytes());
+        Failure::Usage(format!(
+            r"identifier {word}: a backslash is written \\, and any byte \x and two digits"
+        ))
+    })
+}
+
+fn fault(word: Option<&OsStr>) -> Result<Fault, Failure> {
+    let named = word.and_then(OsStr::to_str).and_then(Fault::named);
+    named.ok_or_else(|| {
+        let names: Vec<&str> = Fault::ALL.iter().map(|fault| fault.name()).collect();
+        Failure::Usage(format!("the wrong engines are {}", names.join(", ")))
+    })
+}

@@ -1,0 +1,55 @@
+//! A moment saved to a file.
+
+use super::{Command, Outcome};
+use crate::arguments::Arguments;
+use crate::failure::Failure;
+use gemsilver::Snapshot;
+use std::fs::{self, File};
+use std::io::{BufWriter, Write};
+use std::path::Path;
+
+pub const COMMAND: Command = Command {
+    name: "save",
+    usage: "save FILE:LINE OUT",
+    summary: "a moment as a snapshot: state, card and register in one file",
+    help: "
+Writes state, card and register of that moment to one file, with a check sum.
+`open`, and every command that takes FILE:LINE, reads it back. A file that is
+there already is written over only if it is a snapshot itself.",
+    example: "save lessons/1-full-length/lines.txt:10 field.snapshot",
+    obey,
+};
+
+fn obey(arguments: &mut Arguments, out: &mut dyn Write) -> Result<Outcome, Failure> {
+    let moment = arguments.moment()?.find(arguments.sizes)?;
+    let path = arguments.file("OUT")?;
+    arguments.end()?;
+    if is_another(&path) {
+        return Err(Failure::file(
+            &path,
+            "it is there and no snapshot: left as it is",
+        ));
+    }
+    let write = || {
+        let mut file = BufWriter::new(File::create(&path)?);
+        moment
+            .probe
+            .snapshot()
+            .write(|piece| file.write_all(piece))?;
+        file.into_inner()
+            .map_err(|why| why.into_error())?
+            .sync_all()
+    };
+    write().map_err(|why| Failure::file(&path, why))?;
+    writeln!(out, "{}: {}", path.display(), moment.title)?;
+    Ok(Outcome::Good)
+}
+
+/// Whether a file is there that is no snapshot. A damaged one is another file too, as somebody may want to have it looked at.
+fn is_another(path: &Path) -> bool {
+    // A device may have no end, so it is not read.
+    if !path.is_file() {
+        return path.exists();
+    }
+    fs::read(path).map_or(true, |bytes| Snapshot::read(&bytes).is_err())
+}
