@@ -62,6 +62,16 @@ impl Line {
     }
 }
 
+/// What is said of lines that were passed over, behind what else is said; nothing where all were understood.
+pub fn passed_over(lines: &[Vec<u8>]) -> String {
+    let is_unknown = |line: &&Vec<u8>| matches!(Line::of(line), Line::Unknown(_));
+    match lines.iter().filter(is_unknown).count() {
+        0 => String::new(),
+        1 => "; 1 line was not understood".to_string(),
+        number => format!("; {number} lines were not understood"),
+    }
+}
+
 fn command(line: &[u8]) -> Result<Command, &'static str> {
     if line.len() > LONGEST {
         return Err("it has more than 512 bytes");

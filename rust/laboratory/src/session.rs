@@ -157,11 +157,11 @@ fn after(file: &Path, line: Option<usize>, sizes: Sizes) -> Result<Moment, Failu
         progress.tell(number);
     }
     drop(progress);
-    let file = file.display();
+    let (file, passed) = (file.display(), lines::passed_over(&lines[..count]));
     Ok(Moment {
         title: match count {
             0 => format!("a fresh card, before line 1 of {file}"),
-            _ => format!("after line {count} of {file}"),
+            _ => format!("after line {count} of {file}{passed}"),
         },
         probe: session.probe,
         ledger: Some(session.ledger),

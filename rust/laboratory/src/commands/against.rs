@@ -64,7 +64,8 @@ fn one(
 ) -> Result<Outcome, Failure> {
     writeln!(out, "{}: {}", fault.name(), fault.sentence())?;
     let Some(found) = difference(Some(fault), lines, sizes)? else {
-        writeln!(out, "these lines do not tell it apart")?;
+        let passed = lines::passed_over(lines);
+        writeln!(out, "{}{passed}", verdict(None, lines))?;
         return Ok(Outcome::Bad);
     };
     let line = text::line(&lines[found.line - 1]);
@@ -90,8 +91,9 @@ fn all(lines: &[Vec<u8>], sizes: Sizes, out: &mut dyn Write) -> Result<Outcome, 
     writeln!(out, "{:18} {}", "unchanged", verdict(unchanged, lines))?;
     writeln!(
         out,
-        "{told} of {} wrong engines told apart",
-        Fault::ALL.len()
+        "{told} of {} wrong engines told apart{}",
+        Fault::ALL.len(),
+        lines::passed_over(lines)
     )?;
     Ok(Outcome::good_if(is_right && told == Fault::ALL.len()))
 }

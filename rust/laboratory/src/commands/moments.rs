@@ -63,7 +63,8 @@ fn obey(arguments: &mut Arguments, out: &mut dyn Write) -> Result<Outcome, Failu
         progress.tell(number);
     }
     drop(progress);
-    asked.tell(&text::line(word.as_bytes()), out)?;
+    let query = text::line(word.as_bytes());
+    asked.tell(&query, &lines::passed_over(&lines), out)?;
     if let Some(fault) = arguments.against {
         asked.tell_wrong(fault.name(), out)?;
     }
@@ -160,10 +161,10 @@ impl Asked {
         self.unlike_ledger.is_empty() && self.changed.is_empty()
     }
 
-    fn tell(&self, query: &str, out: &mut dyn Write) -> Result<(), Failure> {
+    fn tell(&self, query: &str, passed: &str, out: &mut dyn Write) -> Result<(), Failure> {
         writeln!(
             out,
-            "{query}: asked {} times, on a fresh card and after every line, and {} times between merge steps",
+            "{query}: asked {} times, on a fresh card and after every line, and {} times between merge steps{passed}",
             self.lines, self.steps
         )?;
         let lines: Vec<String> = self.stretches.iter().map(Stretch::lines).collect();

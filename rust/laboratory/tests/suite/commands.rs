@@ -353,3 +353,20 @@ fn a_page_has_its_data_and_no_identifier_ends_its_script() {
     assert_eq!(ends(&plain), ends(&tricky));
     assert!(ends(&plain) >= 1);
 }
+
+/// Other commands than `run` pass over lines that are none, and say so.
+#[test]
+fn lines_passed_over_are_told_of() {
+    let folder = Folder::new();
+    let file = written(&folder, "O\nX\nE A\nC\n\nQ 1 A\n");
+    let first = |text: String| text.lines().next().unwrap_or_default().to_string();
+    let last = |text: String| text.lines().last().unwrap_or_default().to_string();
+    let one = format!("after line 3 of {file}; 1 line was not understood");
+    assert_eq!(first(good(&["at", &format!("{file}:3")])), one);
+    let two = "; 2 lines were not understood";
+    assert!(last(bad(&["against", "all", &file])).ends_with(two));
+    assert!(last(bad(&["against", "read-output", &file])).ends_with(two));
+    assert!(first(good(&["moments", &file, "Q 1 A"])).ends_with(two));
+    let understood = format!("after line 1 of {file}");
+    assert_eq!(first(good(&["at", &format!("{file}:1")])), understood);
+}
