@@ -7,7 +7,7 @@ use crate::session::Name;
 use crate::text;
 use second::faults::Fault;
 use std::ffi::{OsStr, OsString};
-use std::os::unix::ffi::OsStrExt;
+use std::os::unix::ffi::{OsStrExt, OsStringExt};
 use std::path::PathBuf;
 
 /// The words after the command's name, options taken out.
@@ -79,6 +79,16 @@ impl Arguments {
     /// All further words as identifiers.
     pub fn identifiers(&mut self) -> Result<Vec<Vec<u8>>, Failure> {
         self.words.by_ref().map(|word| identifier(&word)).collect()
+    }
+
+    /// All further words as one line, so that it need not be quoted.
+    pub fn line(&mut self, what: &str) -> Result<Vec<u8>, Failure> {
+        let mut line = self.next(what)?.into_vec();
+        for word in self.words.by_ref() {
+            line.push(b' ');
+            line.extend(word.into_vec());
+        }
+        Ok(line)
     }
 
     /// A wrong engine by its name, `None` for all of them.

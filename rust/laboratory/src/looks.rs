@@ -166,8 +166,8 @@ impl View {
                 "{} bytes, blocks {}, {} of {} postings written",
                 merge.bytes,
                 numbers(blocks),
-                merge.written.len(),
-                merge.postings
+                merge.written,
+                merge.result.len()
             ),
         };
         format!(

@@ -51,7 +51,7 @@ fn rows(view: &View, window: u32) -> Vec<Row> {
             rows.push((id, "buffer".to_string(), count));
         }
         rows.push((id, "sum".to_string(), sum));
-        let written = view.merge.as_ref().map_or(&[][..], |merge| &merge.written);
+        let written = view.merge.as_ref().map_or(&[][..], |merge| merge.written());
         if let Some(count) = count_in(written, id, window) {
             rows.push((id, "output, not read".to_string(), count));
         }

@@ -51,9 +51,16 @@ pub struct Merge {
     /// The output's blocks and bytes; none where every sum is 0.
     pub blocks: Vec<usize>,
     pub bytes: u32,
-    /// The postings written so far, and how many there will be.
-    pub written: Vec<Posting>,
-    pub postings: usize,
+    /// The postings that it will have, and how many of them are written.
+    pub result: Vec<Posting>,
+    pub written: usize,
+}
+
+impl Merge {
+    /// The postings written so far.
+    pub fn written(&self) -> &[Posting] {
+        &self.result[..self.written]
+    }
 }
 
 /// Whose a block is.
@@ -353,24 +360,23 @@ fn merge(record: &[u32], partitions: &[Partition], card: &[u8]) -> Result<Option
             "merge: identifier {id} counts {sum} in window {window}"
         ));
     }
-    let result = |taken: usize| {
-        let taken = sums.iter().take(taken).filter(|(_, sum)| **sum != 0);
-        let posting = |(&(id, Reverse(window)), &count)| Posting { id, window, count };
-        taken.map(posting).collect::<Vec<Posting>>()
-    };
-    let (all, written) = (result(sums.len()), result(step.saturating_mul(STEP)));
+    let pairs = sums.iter().filter(|(_, sum)| **sum != 0);
+    let posting = |(&(id, Reverse(window)), &count)| Posting { id, window, count };
+    let result: Vec<Posting> = pairs.map(posting).collect();
+    let taken = step.saturating_mul(STEP).min(sums.len());
+    let written = sums.values().take(taken).filter(|sum| **sum != 0).count();
+    let blocks = output(first, bytes, &result, written, card);
     let merge = Merge {
         step,
         steps: sums.len().div_ceil(STEP),
         level,
         into: (level + 1).min(5),
         inputs,
-        taken: step.saturating_mul(STEP).min(sums.len()),
+        taken,
         pairs: sums.len(),
-        blocks: output(first, bytes, &all, &written, card)
-            .map_err(|why| format!("merge: {why}"))?,
+        blocks: blocks.map_err(|why| format!("merge: {why}"))?,
         bytes,
-        postings: all.len(),
+        result,
         written,
     };
     if merge.step >= merge.steps {
@@ -383,20 +389,20 @@ fn merge(record: &[u32], partitions: &[Partition], card: &[u8]) -> Result<Option
 fn output(
     first: u32,
     bytes: u32,
-    all: &[Posting],
-    written: &[Posting],
+    result: &[Posting],
+    written: usize,
     card: &[u8],
 ) -> Result<Vec<usize>, Fault> {
-    let lists = all.chunk_by(|one, next| one.id == next.id).count();
-    let expected = if all.is_empty() {
+    let lists = result.chunk_by(|one, next| one.id == next.id).count();
+    let expected = if result.is_empty() {
         0
     } else {
-        32 + 12 * lists + 4 * all.len()
+        32 + 12 * lists + 4 * result.len()
     };
     if bytes as usize != expected {
         return Err(format!("its output's length is {bytes}, not {expected}"));
     }
-    if all.is_empty() {
+    if result.is_empty() {
         return if first == NO_BLOCK {
             Ok(Vec::new())
         } else {
@@ -406,7 +412,9 @@ fn output(
     let (blocks, content) = chain(card, first, blocks_for(bytes))?;
     let start = 8 + 3 * lists;
     for (place, &word) in content.iter().enumerate() {
-        let posting = place.checked_sub(start).and_then(|at| written.get(at));
+        let posting = place
+            .checked_sub(start)
+            .and_then(|at| result[..written].get(at));
         let expected = posting.map_or(u32::MAX, packed);
         if word != expected {
             let (block, byte) = (blocks[4 * place / CONTENT], 4 * place % CONTENT);

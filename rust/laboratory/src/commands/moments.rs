@@ -10,14 +10,13 @@ use crate::session::Session;
 use crate::text;
 use crate::view::View;
 use std::io::Write;
-use std::os::unix::ffi::OsStrExt;
 
 pub const COMMAND: Command = Command {
     name: "moments",
     usage: "moments FILE QUERY [--against NAME]",
     summary: "one query asked after every line and between all merge steps",
     help: "
-Asks the query, a line as `Q 5 LUCKY`, on a fresh card, after every line, and, at
+Asks the query, a line as Q 5 LUCKY, on a fresh card, after every line, and, at
 each line where a merge is due or in progress, between all merge steps that can
 follow there (these are taken on a copy). Prints stretches of lines over which
 the hits are the same, and whether any merge step changed them. The postings
@@ -28,16 +27,15 @@ not ours is printed.
 
 Exit status 1 where an answer is not the ledger's, a merge step changed the hits,
 or, with --against, the wrong engine's hits are ours at every line.",
-    example: "moments lessons/4-between-merge-steps/lines.txt 'Q 3 LUCKY' --blocks 64",
+    example: "moments lessons/4-between-merge-steps/lines.txt Q 3 LUCKY --blocks 64",
     obey,
 };
 
 fn obey(arguments: &mut Arguments, out: &mut dyn Write) -> Result<Outcome, Failure> {
     let file = arguments.file("FILE")?;
-    let word = arguments.next("QUERY")?;
-    arguments.end()?;
-    let Line::Command(lines::Command::Query(query)) = Line::of(word.as_bytes()) else {
-        let why = "QUERY is one word for the shell, a line as 'Q 5 LUCKY'";
+    let asked_for = arguments.line("QUERY")?;
+    let Line::Command(lines::Command::Query(query)) = Line::of(&asked_for) else {
+        let why = "QUERY is a line that asks for something, as Q 5 LUCKY";
         return Err(Failure::Usage(why.to_string()));
     };
     let lines = lines::read(&file)?;
@@ -63,7 +61,7 @@ fn obey(arguments: &mut Arguments, out: &mut dyn Write) -> Result<Outcome, Failu
         progress.tell(number);
     }
     drop(progress);
-    let query = text::line(word.as_bytes());
+    let query = text::line(&asked_for);
     asked.tell(&query, &lines::passed_over(&lines), out)?;
     if let Some(fault) = arguments.against {
         asked.tell_wrong(fault.name(), out)?;

@@ -87,7 +87,7 @@ struct Recorder {
     queries: Vec<(String, Query)>,
     /// Every partition that ever stood on the card.
     partitions: Vec<String>,
-    /// Those of the moment before, with their places in that list.
+    /// Those of the moment before, with their places in that list; the output of a merge in progress, as it will stand, comes last.
     standing: Vec<(usize, Partition)>,
     buffer: BTreeMap<(usize, u32), i32>,
     ledger: BTreeMap<u32, Counts>,
@@ -156,24 +156,33 @@ impl Recorder {
 
     /// The fields that are written whole where they change.
     fn values(&mut self, view: &View) -> [(&'static str, String); 6] {
+        let places = self.places(view);
+        let (merging, output) = (view.merge.as_ref(), places.get(view.partitions.len()));
         let other = (0..view.owners.len()).filter(|&block| view.owners[block] == Owner::Other);
         [
             ("windows", windows(view)),
             ("used", view.names.len().to_string()),
-            ("parts", list(self.places(view))),
+            ("parts", list(&places[..view.partitions.len()])),
             ("taken", view.taken.to_string()),
             (
                 "merge",
-                view.merge.as_ref().map_or("null".to_string(), merge),
+                merging.map_or("null".to_string(), |it| merge(it, output)),
             ),
             ("other", list(other)),
         ]
     }
 
-    /// The places of the finished partitions in the list of all; new ones are added to it.
+    /// The places in the list of all of the finished partitions and, last, of what is being merged; new ones are added to it.
     fn places(&mut self, view: &View) -> Vec<usize> {
+        let output = view.merge.as_ref().filter(|merge| !merge.blocks.is_empty());
+        let output = output.map(|merge| Partition {
+            level: merge.into,
+            bytes: merge.bytes,
+            blocks: merge.blocks.clone(),
+            postings: merge.result.clone(),
+        });
         let mut standing = Vec::new();
-        for stored in &view.partitions {
+        for stored in view.partitions.iter().chain(&output) {
             let known = self.standing.iter().find(|(_, other)| other == stored);
             let place = known.map_or(self.partitions.len(), |(place, _)| *place);
             if place == self.partitions.len() {
@@ -325,7 +334,7 @@ fn partition(stored: &Partition) -> String {
     ])
 }
 
-fn merge(merge: &Merge) -> String {
+fn merge(merge: &Merge, output: Option<&usize>) -> String {
     object([
         ("step", merge.step.to_string()),
         ("steps", merge.steps.to_string()),
@@ -337,8 +346,12 @@ fn merge(merge: &Merge) -> String {
         ("pairs", merge.pairs.to_string()),
         ("blocks", list(&merge.blocks)),
         ("bytes", merge.bytes.to_string()),
-        ("written", merge.written.len().to_string()),
-        ("postings", merge.postings.to_string()),
+        ("written", merge.written.to_string()),
+        ("postings", merge.result.len().to_string()),
+        (
+            "key",
+            output.map_or("null".to_string(), |place| place.to_string()),
+        ),
     ])
 }
 

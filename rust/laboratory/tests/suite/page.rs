@@ -167,6 +167,21 @@ impl Replayed {
         ))
     }
 
+    /// What a merge in progress has written: identifier, window and count of each posting.
+    fn written<'a>(&self, data: &'a Json) -> Vec<(&'a str, i64, i64)> {
+        let merge = &self.fields["merge"];
+        let Some(Json::Number(key)) = merge.maybe("key") else {
+            return Vec::new();
+        };
+        let names = data.field("names").list();
+        let postings = data.field("partitions").list()[*key as usize].field("postings");
+        let postings = postings.list().iter().map(Json::numbers);
+        let postings = postings.take(merge.field("written").number() as usize);
+        postings
+            .map(|posting| (names[posting[0] as usize].text(), posting[1], posting[2]))
+            .collect()
+    }
+
     /// The live windows, as the ledger at the end of `at` has them but for the order of identifiers.
     fn live(&self, data: &Json) -> BTreeMap<i64, Vec<String>> {
         let names = data.field("names").list();
@@ -215,6 +230,27 @@ fn ledger(overview: &str) -> BTreeMap<i64, Vec<String>> {
     windows.map(window).collect()
 }
 
+/// Compares what a merge has written of its first window with what `where` lists.
+fn compare_written(moment: &str, blocks: &str, written: &[(&str, i64, i64)]) {
+    let Some(&(_, window, _)) = written.first() else {
+        return;
+    };
+    let text = good(&["where", moment, &window.to_string(), "--blocks", blocks]);
+    let listed: Vec<Vec<&str>> = text
+        .lines()
+        .filter(|line| line.contains("  output, not read  "))
+        .map(|line| line.split_whitespace().collect())
+        .collect();
+    let of_window = written.iter().filter(|posting| posting.1 == window);
+    let expected: Vec<(&str, String)> = of_window
+        .map(|(name, _, count)| (*name, format!("{count:+}")))
+        .collect();
+    assert_eq!(listed.len(), expected.len(), "{moment}: window {window}");
+    for (words, (name, count)) in listed.iter().zip(&expected) {
+        assert_eq!((words[0], words.last()), (*name, Some(&&count[..])));
+    }
+}
+
 /// Compares a moment with what the command prints of it, and tells whether a merge was in progress.
 fn compare(file: &str, blocks: &str, line: usize, data: &Json, replayed: &Replayed) -> bool {
     let moment = format!("{file}:{line}");
@@ -240,6 +276,7 @@ fn compare(file: &str, blocks: &str, line: usize, data: &Json, replayed: &Replay
         Some(lines) => assert!(look(&["merge"]).starts_with(lines), "{moment}: {lines}"),
         None => assert!(look(&["merge"]).starts_with("merge: none"), "{moment}"),
     }
+    compare_written(&moment, blocks, &replayed.written(data));
     assert_eq!(ledger(&at(&[])), replayed.live(data), "{moment}");
     merge.is_some()
 }

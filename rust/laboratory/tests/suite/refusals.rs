@@ -12,7 +12,7 @@ use std::process::{Command, Stdio};
 const LINES: &str = "O\nE A\nC\nQ 1 A\n";
 
 /// Words of a call, parted by spaces, and what is said of it.
-const REFUSED: [(&str, &str); 56] = [
+const REFUSED: [(&str, &str); 55] = [
     (
         "dance",
         "no such command: dance; gemsilver --help tells more",
@@ -54,7 +54,7 @@ const REFUSED: [(&str, &str); 56] = [
     ),
     (
         "moments lines.txt Q --entries 0",
-        "QUERY is one word for the shell, ",
+        "QUERY is a line that asks for something, ",
     ),
     ("at", "FILE:LINE or a snapshot is missing; "),
     ("at missing.txt:1", "missing.txt: No such file or directory"),
@@ -123,9 +123,8 @@ const REFUSED: [(&str, &str); 56] = [
     ("moments lines.txt", "QUERY is missing; "),
     (
         "moments lines.txt O",
-        "QUERY is one word for the shell, a line as 'Q 5 LUCKY'; ",
+        "QUERY is a line that asks for something, as Q 5 LUCKY; ",
     ),
-    ("moments lines.txt Q 1 A", "1 is too much; "),
     ("against", "NAME is missing; "),
     (
         "against nobody lines.txt",
