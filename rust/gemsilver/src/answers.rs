@@ -1,5 +1,6 @@
 //! What goes into calls and comes out of them.
 
+use core::fmt;
 use core::marker::PhantomData;
 use core::slice;
 
@@ -12,6 +13,7 @@ use core::slice;
 ///
 /// let identifier = Identifier::from("LUCKY");
 /// assert_eq!(identifier.bytes(), b"LUCKY");
+/// assert_eq!(identifier, Identifier::from(&b"LUCKY".to_vec()));
 /// ```
 #[derive(Clone, Copy)]
 #[repr(C)]
@@ -29,8 +31,10 @@ impl<'a> Identifier<'a> {
     }
 }
 
-impl<'a> From<&'a [u8]> for Identifier<'a> {
-    fn from(bytes: &'a [u8]) -> Self {
+/// Whatever lends bytes: slices, arrays, texts, vectors.
+impl<'a, T: AsRef<[u8]> + ?Sized> From<&'a T> for Identifier<'a> {
+    fn from(lent: &'a T) -> Self {
+        let bytes = lent.as_ref();
         Identifier {
             start: bytes.as_ptr(),
             length: bytes.len(),
@@ -39,17 +43,24 @@ impl<'a> From<&'a [u8]> for Identifier<'a> {
     }
 }
 
-impl<'a> From<&'a str> for Identifier<'a> {
-    fn from(text: &'a str) -> Self {
-        text.as_bytes().into()
+impl PartialEq for Identifier<'_> {
+    fn eq(&self, other: &Self) -> bool {
+        self.bytes() == other.bytes()
     }
 }
 
-impl<'a, const N: usize> From<&'a [u8; N]> for Identifier<'a> {
-    fn from(bytes: &'a [u8; N]) -> Self {
-        bytes[..].into()
+impl Eq for Identifier<'_> {}
+
+impl fmt::Debug for Identifier<'_> {
+    fn fmt(&self, out: &mut fmt::Formatter<'_>) -> fmt::Result {
+        write!(out, "Identifier({})", self.bytes().escape_ascii())
     }
 }
+
+// Sound: it is a slice lent for reading, in another form.
+unsafe impl Send for Identifier<'_> {}
+// Sound: as above.
+unsafe impl Sync for Identifier<'_> {}
 
 /// A window that a query lists: its number and its score, at most 306,000.
 #[derive(Clone, Copy, PartialEq, Eq, Default, Debug)]

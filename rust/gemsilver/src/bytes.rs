@@ -161,7 +161,8 @@ pub fn step(image: &mut [u8], card: &mut [u8]) -> Result<(), Refusal> {
     })
 }
 
-/// Fills the list, of [`HIT`] bytes a place, with the closed windows that score highest on the identifiers.
+/// Fills the list, of [`HIT`] bytes a place, with the closed windows that score highest on the identifiers. Bytes past the last whole place,
+/// and places past the last hit, stay as they are.
 pub fn query(
     image: &[u8],
     card: &[u8],

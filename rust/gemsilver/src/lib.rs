@@ -3,7 +3,7 @@
 //! A [`Probe`] counts events by identifier in windows of play, keeps the counts on a card, and tells which closed windows match a set of
 //! identifiers best. It owns or borrows three buffers: the state's image, the card and the register. Each call is one exported function of
 //! the proved crates, whose contract asks nothing of its caller: it ends, stays inside the buffers, and either does its work or gives a
-//! [`Refusal`] and changes nothing. What this crate adds is not proved: it hands slices on and takes numbers apart.
+//! [`Refusal`] and changes nothing; a refused start alone leaves an image of zeros. What this crate adds is not proved: it hands slices on and takes numbers apart.
 //!
 //! No call allocates, and the crate needs neither an allocator nor an operating system. The archive that it links is for x86-64 Linux.
 //!

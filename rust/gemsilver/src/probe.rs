@@ -1,17 +1,29 @@
 //! A probe: its three buffers, and the calls on them.
 
 use crate::{Found, Hit, Identifier, Mean, Refusal, Snapshot, bytes};
+use core::fmt;
 
 /// A probe: the state's image, the card and the register, which belong together.
 ///
 /// `B` is what holds the bytes: a `Vec<u8>` or an array's `Box` owns them, `&mut [u8]` borrows them, and with `&[u8]` there are only the calls
 /// that read. The answers of [`query`](Probe::query) and [`mean`](Probe::mean) are those of a plain ledger of live windows after every history of
 /// calls from [`start`](Probe::start), wherever flushes and merge steps fall: that is proved of the functions called.
-#[derive(Clone, PartialEq, Eq, Debug)]
+#[derive(Clone, PartialEq, Eq)]
 pub struct Probe<B> {
     image: B,
     card: B,
     register: B,
+}
+
+/// The buffers' lengths: a card may have 16 MiB.
+impl<B: AsRef<[u8]>> fmt::Debug for Probe<B> {
+    fn fmt(&self, out: &mut fmt::Formatter<'_>) -> fmt::Result {
+        out.debug_struct("Probe")
+            .field("image", &self.image().len())
+            .field("card", &self.card().len())
+            .field("register", &self.register().len())
+            .finish()
+    }
 }
 
 impl<B: AsRef<[u8]>> Probe<B> {
@@ -139,7 +151,9 @@ impl<B: AsRef<[u8]>> Probe<B> {
 
 impl<B: AsRef<[u8]> + AsMut<[u8]>> Probe<B> {
     /// A fresh card, an empty register and the state that goes with them, in these buffers, whatever they held. The image has
-    /// [`IMAGE`](crate::IMAGE) bytes, the card 4 to 4,096 blocks of 4,096, the register 1 to 1,024 entries of 65.
+    /// [`IMAGE`](crate::IMAGE) bytes, the card 4 to 4,096 blocks of 4,096, the register 1 to 1,024 entries of 65. Where it is refused, card and
+    /// register stay as they were; the image is then one of zeros. Arrays of different lengths are lent as slices: the first by `[..]`, and the
+    /// others follow.
     ///
     /// ```
     /// # use gemsilver::{IMAGE, Probe, Refusal};

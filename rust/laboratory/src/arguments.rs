@@ -70,15 +70,26 @@ impl Arguments {
         value(what, self.words.next())
     }
 
+    /// A window: 1 to 65,535.
+    pub fn window(&mut self) -> Result<u32, Failure> {
+        match self.number("WINDOW")? {
+            window @ 1..=65_535 => Ok(window),
+            other => Err(Failure::Usage(format!("WINDOW is 1 to 65535, not {other}"))),
+        }
+    }
+
     /// An identifier, written as it is shown.
     pub fn identifier(&mut self) -> Result<Vec<u8>, Failure> {
         let word = self.next("IDENTIFIER")?;
-        identifier(&word)
+        identifier(word.as_bytes())
     }
 
     /// All further words as identifiers.
     pub fn identifiers(&mut self) -> Result<Vec<Vec<u8>>, Failure> {
-        self.words.by_ref().map(|word| identifier(&word)).collect()
+        self.words
+            .by_ref()
+            .map(|word| identifier(word.as_bytes()))
+            .collect()
     }
 
     /// All further words as one line, so that it need not be quoted.
@@ -146,9 +157,10 @@ fn value<T: std::str::FromStr>(what: &str, word: Option<OsString>) -> Result<T, 
     number.ok_or_else(|| Failure::Usage(format!("{what}: {} is no number", shown(&word))))
 }
 
-fn identifier(word: &OsStr) -> Result<Vec<u8>, Failure> {
-    text::bytes(word.as_bytes()).ok_or_else(|| {
-        let word = String::from_utf8_lossy(word.as_bytes());
+/// The identifier that is written as it is shown.
+pub fn identifier(word: &[u8]) -> Result<Vec<u8>, Failure> {
+    text::bytes(word).ok_or_else(|| {
+        let word = String::from_utf8_lossy(word);
         Failure::Usage(format!(
             r"identifier {word}: a backslash is written \\, and any byte \x and two digits"
         ))

@@ -8,6 +8,8 @@ use std::path::Path;
 
 /// The longest line, without its end.
 const LONGEST: usize = 512;
+/// What a snapshot's file begins with, enough to tell it from lines.
+pub const SNAPSHOT: &[u8] = b"GEMSILVER\r\n";
 /// What some editors put in front of a text.
 const BOM: &[u8] = b"\xef\xbb\xbf";
 
@@ -42,6 +44,10 @@ pub enum Line {
 /// The lines of a file, without their ends. A last line without an end is a line.
 pub fn read(path: &Path) -> Result<Vec<Vec<u8>>, Failure> {
     let text = fs::read(path).map_err(|why| Failure::file(path, why))?;
+    if text.starts_with(SNAPSHOT) {
+        let why = "it is a snapshot and no file of lines: gemsilver open shows it";
+        return Err(Failure::file(path, why));
+    }
     let mut lines: Vec<Vec<u8>> = text.split(|&byte| byte == b'\n').map(Vec::from).collect();
     if lines.last().is_some_and(Vec::is_empty) {
         lines.pop();
@@ -99,7 +105,7 @@ fn command(line: &[u8]) -> Result<Command, &'static str> {
         [b"E", ..] => Err("E takes one identifier"),
         [b"R", ..] => Err("R takes one window"),
         [b"Q"] => Err("Q takes the places in its list, and identifiers"),
-        _ => Err("a line begins with O, E, C, R, F, M or Q"),
+        _ => Err("its first field is none of O, E, C, R, F, M and Q"),
     }
 }
 
@@ -126,7 +132,7 @@ pub fn warnings(line: &[u8]) -> Vec<&'static str> {
         ),
         (
             line.contains(&b'\r'),
-            "the line has a carriage return, and it counts as a byte of its last field",
+            "the line has a carriage return, and it counts as a byte of its field",
         ),
         (
             line.contains(&b'\t'),

@@ -1,6 +1,6 @@
 //! Where a window's counts lie.
 
-use crate::text::{count, signed};
+use crate::text::{count, identifier, signed};
 use crate::view::{Posting, View};
 use std::cmp::Reverse;
 use std::collections::BTreeSet;
@@ -31,6 +31,12 @@ pub fn listing(view: &View, window: u32, named: &[Vec<u8>]) -> String {
     for (id, place, sum) in &rows {
         let (name, sum) = (view.name(*id), signed(*sum));
         let _ = writeln!(text, "{name:name_width$}  {place:place_width$}  {sum}");
+    }
+    let listed: BTreeSet<String> = rows.iter().map(|row| view.name(row.0)).collect();
+    for name in named.iter().map(|name| identifier(name)) {
+        if !listed.contains(&name) {
+            let _ = writeln!(text, "{name}  no counts");
+        }
     }
     text
 }

@@ -8,11 +8,9 @@ use gemsilver::{Probe, Refusal, Snapshot};
 use second::ledger::Ledger;
 use std::ffi::OsStr;
 use std::fs;
+use std::io::Write;
 use std::os::unix::ffi::OsStrExt;
 use std::path::{Path, PathBuf};
-
-/// What a snapshot's file begins with, enough to tell it from lines.
-const SNAPSHOT: &[u8] = b"GEMSILVER\r\n";
 
 /// Both after the same commands.
 #[derive(Clone)]
@@ -93,12 +91,22 @@ pub enum Name {
 pub struct Moment {
     /// Which moment it is, in words.
     pub title: String,
+    /// What is said of lines that were passed over on the way there.
+    pub passed: String,
     pub probe: Probe<Vec<u8>>,
     /// The ledger after the same lines; a snapshot has no history, so that there is none.
     pub ledger: Option<Ledger>,
 }
 
 impl Moment {
+    /// Says at the top what else would go unsaid: that lines were passed over.
+    pub fn begin(&self, out: &mut dyn Write) -> Result<(), Failure> {
+        if !self.passed.is_empty() {
+            writeln!(out, "# {}{}", self.title, self.passed)?;
+        }
+        Ok(())
+    }
+
     /// Something that cannot be done with it.
     pub fn failure(&self, why: String) -> Failure {
         Failure::Input(format!("{}: {why}", self.title))
@@ -113,7 +121,7 @@ impl Name {
         if path.is_file()
             && let Ok(bytes) = fs::read(path)
         {
-            return match bytes.starts_with(SNAPSHOT) {
+            return match bytes.starts_with(lines::SNAPSHOT) {
                 true => Name::Snapshot(path.to_owned()),
                 false => Name::Lines(path.to_owned(), None),
             };
@@ -157,11 +165,12 @@ fn after(file: &Path, line: Option<usize>, sizes: Sizes) -> Result<Moment, Failu
         progress.tell(number);
     }
     drop(progress);
-    let (file, passed) = (file.display(), lines::passed_over(&lines[..count]));
+    let file = file.display();
     Ok(Moment {
+        passed: lines::passed_over(&lines[..count]),
         title: match count {
             0 => format!("a fresh card, before line 1 of {file}"),
-            _ => format!("after line {count} of {file}{passed}"),
+            _ => format!("after line {count} of {file}"),
         },
         probe: session.probe,
         ledger: Some(session.ledger),
@@ -183,6 +192,7 @@ fn opened(file: &Path) -> Result<Moment, Failure> {
     let [image, card, register] = parts;
     Ok(Moment {
         title: format!("the snapshot {}", file.display()),
+        passed: String::new(),
         probe: Probe::resume(image, card, register),
         ledger: None,
     })

@@ -68,10 +68,12 @@ fn show(name: &Name, arguments: &mut Arguments, out: &mut dyn Write) -> Result<O
     let view = view(&moment)?;
     if let Some(look) = look {
         let text = view.look(look).map_err(|why| moment.failure(why))?;
+        moment.begin(out)?;
         write!(out, "{LABEL}\n{text}")?;
         return Ok(Outcome::Good);
     }
-    write!(out, "{}\n{LABEL}\n{}", moment.title, view.overview())?;
+    writeln!(out, "{}{}\n{LABEL}", moment.title, moment.passed)?;
+    write!(out, "{}", view.overview())?;
     if let Some(ledger) = &moment.ledger {
         show_ledger(ledger, out)?;
     }
@@ -107,6 +109,9 @@ fn show_ledger(ledger: &Ledger, out: &mut dyn Write) -> Result<(), Failure> {
 
 /// A window's counts in words.
 pub fn counted(counts: &BTreeMap<Vec<u8>, u32>) -> String {
+    if counts.is_empty() {
+        return "none of them".to_string();
+    }
     let counts: Vec<String> = counts
         .iter()
         .map(|(name, count)| format!("{} {count}", identifier(name)))

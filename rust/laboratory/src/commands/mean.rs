@@ -34,6 +34,7 @@ fn obey(arguments: &mut Arguments, out: &mut dyn Write) -> Result<Outcome, Failu
     let name = arguments.identifier()?;
     arguments.end()?;
     view(&moment)?;
+    moment.begin(out)?;
     let ours: Told = match moment.probe.mean(&name) {
         Ok(mean) => Ok([mean.quotient, mean.remainder, mean.windows]),
         Err(refusal) => Err(Refusal::number(refusal)),

@@ -1,7 +1,7 @@
 //! One query asked at every moment.
 
 use super::{Command, Outcome};
-use crate::arguments::Arguments;
+use crate::arguments::{Arguments, identifier};
 use crate::engines::{Answer, Engine, Second};
 use crate::failure::Failure;
 use crate::lines::{self, Line, Query};
@@ -20,7 +20,8 @@ Asks the query, a line as Q 5 LUCKY, on a fresh card, after every line, and, at
 each line where a merge is due or in progress, between all merge steps that can
 follow there (these are taken on a copy). Prints stretches of lines over which
 the hits are the same, and whether any merge step changed them. The postings
-taken may change with the card while the hits do not.
+taken may change with the card while the hits do not. On a long file whose merges
+lag behind, that takes minutes.
 
 With --against the wrong engine of that name is asked too, and where its hits are
 not ours is printed.
@@ -37,6 +38,14 @@ fn obey(arguments: &mut Arguments, out: &mut dyn Write) -> Result<Outcome, Failu
     let Line::Command(lines::Command::Query(query)) = Line::of(&asked_for) else {
         let why = "QUERY is a line that asks for something, as Q 5 LUCKY";
         return Err(Failure::Usage(why.to_string()));
+    };
+    let query = Query {
+        identifiers: query
+            .identifiers
+            .iter()
+            .map(|shown| identifier(shown))
+            .collect::<Result<_, _>>()?,
+        ..query
     };
     let lines = lines::read(&file)?;
     let mut session = Session::new(arguments.sizes)?;
@@ -61,8 +70,8 @@ fn obey(arguments: &mut Arguments, out: &mut dyn Write) -> Result<Outcome, Failu
         progress.tell(number);
     }
     drop(progress);
-    let query = text::line(&asked_for);
-    asked.tell(&query, &lines::passed_over(&lines), out)?;
+    let line = String::from_utf8_lossy(&asked_for);
+    asked.tell(&line, &lines::passed_over(&lines), out)?;
     if let Some(fault) = arguments.against {
         asked.tell_wrong(fault.name(), out)?;
     }

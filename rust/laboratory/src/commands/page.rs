@@ -307,7 +307,7 @@ fn notes(session: &Session, line: &[u8], told: Option<&Told>) -> Vec<String> {
         .map(String::from)
         .collect();
     if told.is_some_and(|told| told.ours == Answer::Refused(11)) && session.is_at_end() {
-        notes.push("the card is at its end: no call makes room any more".to_string());
+        notes.push("the card is at its end: no call makes room on it any more".to_string());
     }
     notes
 }

@@ -35,6 +35,7 @@ fn obey(arguments: &mut Arguments, out: &mut dyn Write) -> Result<Outcome, Failu
         identifiers: arguments.identifiers()?,
     };
     view(&moment)?;
+    moment.begin(out)?;
     let ours = moment.probe.ask(&query);
     let told = moment.ledger.map(|ledger| Told {
         ours: ours.clone(),

@@ -29,8 +29,9 @@ ledger's; else 1.",
 /// Said once, where a flush is refused with 11 and no merge can make room.
 const AT_END: &str =
     "      the card is at its end: finished partitions take half of it and no merge is due, so
-      no call makes room any more, a removal neither. Nothing is lost: queries and means
-      go on answering for all that was counted. Go on with a fresh card, or a larger one.";
+      nothing more can be written to it, and no call makes room there, a removal neither.
+      What was counted is not lost: queries and means go on answering for it. Go on with a
+      fresh card, or a larger one.";
 
 /// The line above the answers.
 const LABEL: &str = "# answers of the proved engine; the ledger beside them is not proved";

@@ -5,7 +5,7 @@ use crate::arguments::Arguments;
 use crate::failure::Failure;
 use gemsilver::Snapshot;
 use std::fs::{self, File};
-use std::io::{BufWriter, Write};
+use std::io::{self, BufWriter, Write};
 use std::path::Path;
 
 pub const COMMAND: Command = Command {
@@ -30,19 +30,29 @@ fn obey(arguments: &mut Arguments, out: &mut dyn Write) -> Result<Outcome, Failu
             "it is there and no snapshot: left as it is",
         ));
     }
+    let written = write(&moment.probe.snapshot(), &path);
+    written.map_err(|why| Failure::file(&path, why))?;
+    writeln!(out, "{}: {}{}", path.display(), moment.title, moment.passed)?;
+    Ok(Outcome::Good)
+}
+
+/// Writes beside the file first, so that one that is there is not lost where a disk is full.
+fn write(snapshot: &Snapshot, path: &Path) -> io::Result<()> {
+    let part = path.with_added_extension("part");
     let write = || {
-        let mut file = BufWriter::new(File::create(&path)?);
-        moment
-            .probe
-            .snapshot()
-            .write(|piece| file.write_all(piece))?;
+        let mut file = BufWriter::new(File::create(&part)?);
+        snapshot.write(|piece| file.write_all(piece))?;
         file.into_inner()
             .map_err(|why| why.into_error())?
-            .sync_all()
+            .sync_all()?;
+        fs::rename(&part, path)
     };
-    write().map_err(|why| Failure::file(&path, why))?;
-    writeln!(out, "{}: {}", path.display(), moment.title)?;
-    Ok(Outcome::Good)
+    let written = write();
+    if written.is_err() {
+        // What could not be made need not be there to be taken away.
+        let _ = fs::remove_file(&part);
+    }
+    written
 }
 
 /// Whether a file is there that is no snapshot. A damaged one is another file too, as somebody may want to have it looked at.

@@ -31,9 +31,10 @@ Exit status 1 where a sum is not the ledger's count.",
 
 fn obey(arguments: &mut Arguments, out: &mut dyn Write) -> Result<Outcome, Failure> {
     let moment = arguments.moment()?.find(arguments.sizes)?;
-    let window = arguments.number("WINDOW")?;
+    let window = arguments.window()?;
     let named = arguments.identifiers()?;
     let view = view(&moment)?;
+    moment.begin(out)?;
     let listing = places::listing(&view, window, &named);
     write!(out, "{LABEL}\n{listing}")?;
     let Some(ledger) = &moment.ledger else {
@@ -42,7 +43,11 @@ fn obey(arguments: &mut Arguments, out: &mut dyn Write) -> Result<Outcome, Failu
     };
     let is_same = sums(&view, window) == counts(ledger, window);
     let told = match ledger.live.get(&window) {
-        Some(counts) => format!("window {window} has {}", counted(counts)),
+        Some(counts) => {
+            let mut counts = counts.clone();
+            counts.retain(|name, _| named.is_empty() || named.contains(name));
+            format!("window {window} has {}", counted(&counts))
+        }
         None => format!("window {window} is not live"),
     };
     let verdict = if is_same { "same" } else { "the sums DIFFER" };

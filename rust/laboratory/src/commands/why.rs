@@ -32,9 +32,10 @@ const PLACES: usize = 32;
 
 fn obey(arguments: &mut Arguments, out: &mut dyn Write) -> Result<Outcome, Failure> {
     let moment = arguments.moment()?.find(arguments.sizes)?;
-    let window = arguments.number("WINDOW")?;
+    let window = arguments.window()?;
     let identifiers = arguments.identifiers()?;
     let view = view(&moment)?;
+    moment.begin(out)?;
     let reckoning = Reckoning::of(&view, &identifiers);
     writeln!(out, "# reckoned for display, not proved")?;
     writeln!(out, "N {}, S(N) {}", reckoning.live, reckoning.sixteenths)?;

@@ -175,7 +175,7 @@ fn the_ledger_agrees_at_every_moment() {
                     places == "0" || places == "33"
                 );
             }
-            for window in 0..=written.windows(line) + 1 {
+            for window in 1..=written.windows(line) + 1 {
                 let text = written.at("where", line, &[&window.to_string()]);
                 assert!(text.ends_with(": same\n"), "{text}");
                 gone += usize::from(text.ends_with(" is not live: same\n"));
@@ -192,9 +192,8 @@ fn no_merge_step_changes_the_hits() {
     for (seed, plan) in [SMALL, MANY, LARGE].iter().enumerate() {
         let written = Written::new(plan, 40 + seed as u64);
         let mut rng = Rng(seed as u64);
-        // The words of a call are text, so that this is a name that prints.
-        let name = &written.history.names[2 * rng.below(plan.names / 2)];
-        let query = format!("Q 9 {}", str::from_utf8(name).expect("letters"));
+        let name = &written.history.names[rng.below(plan.names)];
+        let query = format!("Q 9 {}", shown(name));
         let text = good(&[
             "moments",
             &written.file,
@@ -258,8 +257,9 @@ fn answers_alone(text: &str) -> String {
     let notes = [
         "      warning: ",
         "      the card is at its end: ",
-        "      no call makes room any more, ",
-        "      go on answering ",
+        "      nothing more can be written to it, ",
+        "      What was counted is not lost: ",
+        "      fresh card, ",
     ];
     let is_answer = |line: &&str| !notes.iter().any(|note| line.starts_with(note));
     text.split_inclusive('\n').filter(is_answer).collect()

@@ -107,14 +107,14 @@ fn bytes_that_do_not_show_are_shown_and_warned_of() {
         &folder,
         b"\xef\xbb\xbfO\nO\r\nO\nE A\r\nE\tB\nE A\tB\nE \xc3\xa4\\\n\nC  \n",
     );
-    let expected = r"   1  \xef\xbb\xbfO -> ? not understood: a line begins with O, E, C, R, F, M or Q
+    let expected = r"   1  \xef\xbb\xbfO -> ? not understood: its first field is none of O, E, C, R, F, M and Q
       warning: the line begins with a byte order mark, three bytes that no editor shows
-   2  O\x0d -> ? not understood: a line begins with O, E, C, R, F, M or Q
-      warning: the line has a carriage return, and it counts as a byte of its last field
+   2  O\x0d -> ? not understood: its first field is none of O, E, C, R, F, M and Q
+      warning: the line has a carriage return, and it counts as a byte of its field
    3  O -> window 1 | ledger: same
    4  E A\x0d -> counted | ledger: same
-      warning: the line has a carriage return, and it counts as a byte of its last field
-   5  E\x09B -> ? not understood: a line begins with O, E, C, R, F, M or Q
+      warning: the line has a carriage return, and it counts as a byte of its field
+   5  E\x09B -> ? not understood: its first field is none of O, E, C, R, F, M and Q
       warning: the line has a tab, and a tab parts no fields: it counts as a byte of its field
    6  E A\x09B -> counted | ledger: same
       warning: the line has a tab, and a tab parts no fields: it counts as a byte of its field
@@ -141,7 +141,7 @@ fn what_is_wrong_with_a_line_is_told() {
         ("Q", "Q takes the places in its list, and identifiers"),
         ("Q x A", "a number has 1 to 5 digits"),
         ("Q 1 A ", "a field is empty: fields are parted by one space"),
-        ("open", "a line begins with O, E, C, R, F, M or Q"),
+        ("open", "its first field is none of O, E, C, R, F, M and Q"),
         (&long, "it has more than 512 bytes"),
     ];
     for (line, why) in cases {
@@ -166,8 +166,9 @@ fn a_card_at_its_end_is_told_of_once() {
    6  E A -> counted | ledger: same
    7  F -> {HALF}
       the card is at its end: finished partitions take half of it and no merge is due, so
-      no call makes room any more, a removal neither. Nothing is lost: queries and means
-      go on answering for all that was counted. Go on with a fresh card, or a larger one.
+      nothing more can be written to it, and no call makes room there, a removal neither.
+      What was counted is not lost: queries and means go on answering for it. Go on with a
+      fresh card, or a larger one.
    8  F -> {HALF}
    9  C -> closed | ledger: same
   10  Q 1 A -> 1 hit, 3 postings taken | ledger: same
@@ -235,7 +236,7 @@ fn places_and_sums_are_listed() {
     let ledger = "ledger: window 1 has LUCKY 3, TILT 1: same\n";
     let all = format!("{start}{lucky}TILT   buffer  +1\nTILT   sum     +1\n{ledger}");
     assert_eq!(good(&["where", &moment, "1"]), all);
-    let named = format!("{start}{lucky}{ledger}");
+    let named = format!("{start}{lucky}OTHER  no counts\nledger: window 1 has LUCKY 3: same\n");
     assert_eq!(good(&["where", &moment, "1", "LUCKY", "OTHER"]), named);
     let none =
         "# display, not proved\nwindow 3: no counts anywhere\nledger: window 3 is not live: same\n";
@@ -362,7 +363,17 @@ fn lines_passed_over_are_told_of() {
     let first = |text: String| text.lines().next().unwrap_or_default().to_string();
     let last = |text: String| text.lines().last().unwrap_or_default().to_string();
     let one = format!("after line 3 of {file}; 1 line was not understood");
-    assert_eq!(first(good(&["at", &format!("{file}:3")])), one);
+    let moment = format!("{file}:3");
+    assert_eq!(first(good(&["at", &moment])), one);
+    for words in [
+        &["at", &moment, "look", "card"][..],
+        &["where", &moment, "1"],
+        &["why", &moment, "1", "A"],
+        &["query", &moment, "1", "A"],
+        &["mean", &moment, "A"],
+    ] {
+        assert_eq!(first(good(words)), format!("# {one}"), "{words:?}");
+    }
     let two = "; 2 lines were not understood";
     assert!(last(bad(&["against", "all", &file])).ends_with(two));
     assert!(last(bad(&["against", "read-output", &file])).ends_with(two));

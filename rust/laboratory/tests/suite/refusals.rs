@@ -12,7 +12,7 @@ use std::process::{Command, Stdio};
 const LINES: &str = "O\nE A\nC\nQ 1 A\n";
 
 /// Words of a call, parted by spaces, and what is said of it.
-const REFUSED: [(&str, &str); 55] = [
+const REFUSED: [(&str, &str); 61] = [
     (
         "dance",
         "no such command: dance; gemsilver --help tells more",
@@ -103,6 +103,18 @@ const REFUSED: [(&str, &str); 55] = [
     ),
     ("where lines.txt", "WINDOW takes a number; "),
     ("where lines.txt one", "WINDOW: one is no number; "),
+    ("where lines.txt 0", "WINDOW is 1 to 65535, not 0; "),
+    ("why lines.txt 65536 A", "WINDOW is 1 to 65535, not 65536; "),
+    (
+        "moments lines.txt Q 1 \\x4",
+        "identifier \\x4: a backslash is written \\\\, ",
+    ),
+    (
+        "run torn.snapshot",
+        "torn.snapshot: it is a snapshot and no file of lines",
+    ),
+    ("page torn.snapshot", "torn.snapshot: it is a snapshot "),
+    ("at torn.snapshot:1", "torn.snapshot: it is a snapshot "),
     (
         "where torn.snapshot 1",
         "torn.snapshot: cut off: it has 12 bytes of 32",
@@ -316,6 +328,21 @@ fn save_writes_over_a_snapshot_and_nothing_else() {
     assert_eq!(fs::read(&lines).expect("the lines"), LINES.as_bytes());
     assert!(fs::read(&other).expect("the damaged one") == damaged);
     assert!(fs::read(&empty).expect("the empty one").is_empty());
+}
+
+/// It is written beside the old one first; here a folder stands in its way.
+#[test]
+fn a_snapshot_that_cannot_be_written_leaves_the_old_one() {
+    let folder = folder();
+    let (lines, out) = (folder.path("lines.txt"), folder.path("out.snapshot"));
+    good(&["save", &format!("{lines}:1"), &out]);
+    let before = fs::read(&out).expect("the snapshot");
+    fs::create_dir(folder.path("out.snapshot.part")).expect("a folder");
+    let Failure::Input(why) = failure(&["save", &format!("{lines}:3"), &out]) else {
+        panic!("another failure")
+    };
+    assert!(why.starts_with(&format!("{out}: ")), "{why}");
+    assert!(fs::read(&out).expect("the snapshot") == before);
 }
 
 /// A pipe can be read only once.
