@@ -7,7 +7,7 @@ use std::collections::BTreeSet;
 /// What is wrong, and where.
 pub type Fault = String;
 
-/// The words of a record that may need all 32 bits: its length.
+/// The words that may need all 32 bits; so may each record's length.
 const WIDE: [usize; 4] = [0, 1, 612, 613];
 /// The highest number of an identifier, and the greatest size of a count.
 const LAST_NUMBER: u32 = 1_023;

@@ -13,7 +13,6 @@ use std::os::unix::ffi::OsStrExt;
 use std::path::{Path, PathBuf};
 
 /// Both after the same commands.
-#[derive(Clone)]
 pub struct Session {
     pub probe: Probe<Vec<u8>>,
     pub ledger: Ledger,

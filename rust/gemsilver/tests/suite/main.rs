@@ -1,4 +1,4 @@
-//! The proved engine held against the second one.
+//! The proved engine held against the second one, and its snapshots read back.
 
 mod closing;
 mod damage;
@@ -14,6 +14,7 @@ mod registers;
 mod rng;
 mod rules;
 mod scores;
+mod snapshots;
 mod starts;
 mod tally;
 mod together;

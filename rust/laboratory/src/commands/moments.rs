@@ -70,8 +70,7 @@ fn obey(arguments: &mut Arguments, out: &mut dyn Write) -> Result<Outcome, Failu
         progress.tell(number);
     }
     drop(progress);
-    let line = String::from_utf8_lossy(&asked_for);
-    asked.tell(&line, &lines::passed_over(&lines), out)?;
+    asked.tell(&query, &lines::passed_over(&lines), out)?;
     if let Some(fault) = arguments.against {
         asked.tell_wrong(fault.name(), out)?;
     }
@@ -168,10 +167,16 @@ impl Asked {
         self.unlike_ledger.is_empty() && self.changed.is_empty()
     }
 
-    fn tell(&self, query: &str, passed: &str, out: &mut dyn Write) -> Result<(), Failure> {
+    fn tell(&self, query: &Query, passed: &str, out: &mut dyn Write) -> Result<(), Failure> {
+        let Query {
+            places,
+            identifiers,
+        } = query;
+        let names = identifiers.iter().map(|name| text::identifier(name));
+        let names: String = names.map(|name| format!(" {name}")).collect();
         writeln!(
             out,
-            "{query}: asked {} times, on a fresh card and after every line, and {} times between merge steps{passed}",
+            "Q {places}{names}: asked {} times, on a fresh card and after every line, and {} times between merge steps{passed}",
             self.lines, self.steps
         )?;
         let lines: Vec<String> = self.stretches.iter().map(Stretch::lines).collect();

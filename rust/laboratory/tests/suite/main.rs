@@ -12,5 +12,6 @@ mod json;
 mod lessons;
 mod page;
 mod refusals;
+#[path = "../../../second/tests/suite/rng.rs"]
 mod rng;
 mod wrong;

@@ -1,20 +1,8 @@
 //! Snapshots: what is written is read back, and every damage is found and told.
 
+use crate::rng::Rng;
 use gemsilver::{BLOCK, ENTRY, IMAGE, Part, Probe, Snapshot, SnapshotError};
 use std::convert::Infallible;
-
-/// Numbers that look random and are the same in every run.
-struct Rng(u64);
-
-impl Rng {
-    fn below(&mut self, bound: usize) -> usize {
-        self.0 = self
-            .0
-            .wrapping_mul(6_364_136_223_846_793_005)
-            .wrapping_add(1_442_695_040_888_963_407);
-        (self.0 >> 33) as usize % bound
-    }
-}
 
 /// A probe with counts on its card and in its buffer.
 fn probe() -> Probe<Vec<u8>> {
