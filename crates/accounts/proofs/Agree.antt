@@ -10,15 +10,19 @@ use Rattle.state.specs.Levels.{ofLevel}
 use Rattle.state.specs.Shown as S
 use Rattle.buffer.proofs.Canonical.{buffered-of}
 use Rattle.identifiers.specs.Names.{Name, badLength, among, numberOf, numbersOf}
+use Rattle.recordings.specs.Recording.{recorded}
 use Rattle.events.proofs.Pairs.{pair-kept}
+use Rattle.forecasts.specs.Plan.{Planned, Placed, opening, counting, closing, planCalls}
+use Rattle.forecasts.specs.Course.{follow}
+use Rattle.forecasts.proofs.Alike as course
 use Rattle.ranking.specs.Hits.{frequency, ranked}
 use Rattle.averages.specs.Average.{total, averaged}
 use Rattle.removals.specs.Removal.{countsOf, isLive}
-use Rattle.engine.specs.Calls.{Call, Open, Event, Close, Remove, RemoveAll, Flush, Step, Query, Mean}
+use Rattle.engine.specs.Calls.{Call, Open, Event, Close, Remove, RemoveAll, Flush, Step, Query, Mean, Forecast}
 use Rattle.accounts.specs.Account.{Account, storedIn, takenFrom, blocksIn, blocksAhead, steppedAccount, flushedAccount, overflows, exceeds, addedTo, stepping, flushing, flushingIf}
 use Rattle.accounts.specs.Ledger.{Ledger, live, shown, existing, opens, closes, including, counts, removes, byNumber}
-use Rattle.accounts.specs.Books.{once, takenBack, Books, removalIn, books}
-use Rattle.accounts.specs.Lists.{Lists, isOpen, openedLists, closedLists, onceOf, countedLists, removedLists, countOf, frequencyOf, totalOf, removingLists, removalOf, pursued, listsCall}
+use Rattle.accounts.specs.Books.{once, takenBack, Books, booksGauge, removalIn, plannedIn, books}
+use Rattle.accounts.specs.Lists.{Lists, isOpen, openedLists, closedLists, onceOf, countedLists, removedLists, countOf, frequencyOf, totalOf, listsGauge, removingLists, removalOf, plannedLists, pursued, listsCall}
 use Rattle.accounts.proofs.Stored.{levelOf}
 use Rattle.accounts.proofs.Shaped.{Roomed, asBefore, emptied, event-room, removal-room}
 use Rattle.accounts.proofs.Numbers.{new-is, noted-is, elem-numbers, numbers-including}
@@ -300,22 +304,58 @@ module _ (blocks entries : ℕ) where
   turn-alike small [] l a k = bothLeave refl k
   turn-alike small (w ∷ ws) l a k = next-alike (remove-alike small l a k w) _ _ (turn-alike small ws)
 
+  -- a plan's calls
+  planned-alike : entries ≤ 1024 → (l : Ledger) (a : Account) → Kept blocks entries l a → (c : Planned)
+      → Alike blocks entries (plannedLists blocks entries (listsOf l a) c) (plannedIn blocks entries l a c)
+  unfolding plannedLists plannedIn
+  planned-alike small l a k opening =
+      refusing _ _ 5 _ _ (opened-is small l a k) λ n. refusing _ _ 6 _ _ refl λ room.
+      bothLeave (open-same entries l (k .lawful) a n) (kept-opens blocks entries l a k room)
+  planned-alike small l a k (counting n) =
+      refusing _ _ 4 _ _ refl λ four.
+      refusing _ _ 5 _ _ (ap not (opened-is small l a k)) λ five.
+      refusing _ _ 6 _ _ refl λ six.
+      refusing _ _ 8 _ _ (ap (λ t. t && leb entries (length (l .identifiers))) (new-is (l .identifiers) n)) λ eight.
+      refusing _ _ 9 _ _ (ap₂ (λ t m. not t && leb 64 m) (elem-numbers (l .identifiers) (l .listed) n (k .lawful .listedIn)) (length-map (l .listed) (numberOf (l .identifiers)))) λ nine.
+      event-alike small l a k n four (not-false _ five) six eight nine
+  planned-alike small l a k closing =
+      refusing _ _ 5 _ _ (ap not (opened-is small l a k)) λ five.
+      bothLeave (close-same entries l (k .lawful) a (not-false _ five)) (kept-closes blocks entries l a k (not-false _ five))
+
+  module _ (small : entries ≤ 1024) where
+    -- the lists stand for ledger and account, and these keep the invariant
+    pub record Stands (e : Lists) (b : Books) : Type 0 where
+      pub same : e ≡ listsOf (b .ledger) (b .account)
+      pub kept : Kept blocks entries (b .ledger) (b .account)
+
+    alike-agree : {o : Outcome Lists} {q : Outcome Books} → Alike blocks entries o q → course.Agree Stands o q
+    alike-agree bothRefuse = course.bothRefuse
+    alike-agree (bothLeave p k) = course.bothLeave (record { same = p; kept = k })
+
+    -- lists that stand for ledger and account, with a plan's calls made on both
+    pub planned-agree : (e : Lists) (b : Books) → Stands e b → (c : Planned) → course.Agree Stands (plannedLists blocks entries e c) (plannedIn blocks entries (b .ledger) (b .account) c)
+    planned-agree e b s c =
+        subst (λ x. course.Agree Stands (plannedLists blocks entries x c) (plannedIn blocks entries (b .ledger) (b .account) c)) (sym (s .same))
+        (alike-agree (planned-alike small (b .ledger) (b .account) (s .kept) c))
+
+    -- a plan comes to the same on both
+    pub follow-alike : (cs : List Placed) (e : Lists) (b : Books) → Stands e b
+        → follow listsGauge (plannedLists blocks entries) 0 e cs ≡ follow booksGauge (λ c p. plannedIn blocks entries (c .ledger) (c .account) p) 0 b cs
+    follow-alike cs e b s =
+        course.follow-same listsGauge booksGauge _ _ Stands
+        (λ d c r. record {
+          low = ap (λ (x : Lists). ofLevel levelOf 0 (x .account .partitions)) (r .same);
+          blocks = ap (λ (x : Lists). blocksIn (x .account)) (r .same);
+          entries = ap (λ (x : Lists). length (x .names)) (r .same);
+        })
+        planned-agree cs 0 e b s
+
   module _ (small : entries ≤ 1024) (l : Ledger) (a : Account) (k : Kept blocks entries l a) where
     pursued-alike : (c : Call) → Alike blocks entries (pursued blocks entries (listsOf l a) c) (books blocks entries l a c)
     unfolding pursued books
-    pursued-alike Open =
-        refusing _ _ 5 _ _ (opened-is small l a k) λ n. refusing _ _ 6 _ _ refl λ room.
-        bothLeave (open-same entries l (k .lawful) a n) (kept-opens blocks entries l a k room)
-    pursued-alike (Event n) =
-        refusing _ _ 4 _ _ refl λ four.
-        refusing _ _ 5 _ _ (ap not (opened-is small l a k)) λ five.
-        refusing _ _ 6 _ _ refl λ six.
-        refusing _ _ 8 _ _ (ap (λ t. t && leb entries (length (l .identifiers))) (new-is (l .identifiers) n)) λ eight.
-        refusing _ _ 9 _ _ (ap₂ (λ t m. not t && leb 64 m) (elem-numbers (l .identifiers) (l .listed) n (k .lawful .listedIn)) (length-map (l .listed) (numberOf (l .identifiers)))) λ nine.
-        event-alike small l a k n four (not-false _ five) six eight nine
-    pursued-alike Close =
-        refusing _ _ 5 _ _ (ap not (opened-is small l a k)) λ five.
-        bothLeave (close-same entries l (k .lawful) a (not-false _ five)) (kept-closes blocks entries l a k (not-false _ five))
+    pursued-alike Open = planned-alike small l a k opening
+    pursued-alike (Event n) = planned-alike small l a k (counting n)
+    pursued-alike Close = planned-alike small l a k closing
     pursued-alike (Remove w) = remove-alike small l a k w
     pursued-alike (RemoveAll ws) = refusing _ _ 16 _ _ refl λ _. turn-alike small ws l a k
     pursued-alike Flush = flush-alike l a k _ _ λ b q e. bothLeave refl q
@@ -328,6 +368,11 @@ module _ (blocks entries : ℕ) where
         refusing _ _ 4 _ _ refl λ _. refusing _ _ 15 _ _ (ap (λ f. eqb f 0) (frequency-same blocks entries l a k n)) λ _.
         subst (λ x. Alike blocks entries (leave x (listsOf l a)) (leave (averaged (frequency (l .count) (shown l) n) (total (l .count) (shown l) n)) (record { ledger = l; account = a })))
         (sym (ap₂ averaged (frequency-same blocks entries l a k n) (total-same blocks entries l a k n))) (bothLeave refl k)
+    pursued-alike (Forecast plan numbers) =
+        let cs = planCalls (recorded plan numbers) in
+        refusing _ _ 3 _ _ refl λ _.
+        subst (λ x. Alike blocks entries (leave x (listsOf l a)) (leave (follow booksGauge (λ b c. plannedIn blocks entries (b .ledger) (b .account) c) 0 (record { ledger = l; account = a }) cs) (record { ledger = l; account = a })))
+        (sym (follow-alike small cs (listsOf l a) (record { ledger = l; account = a }) (record { same = refl; kept = k }))) (bothLeave refl k)
 
     -- refusals 1 and 3 are not given
     pub unrefused : (c : Call) → listsCall blocks entries (listsOf l a) c ≡ pursued blocks entries (listsOf l a) c

@@ -25,7 +25,7 @@ length-blocks l e = rw e (omega arith)
 unfoldable pub cost : List Portion → ℕ
 cost ps = totalBy (λ (p : Portion). blocksOf (p .postings)) ps
 
-cost-append : (ps qs : List Portion) → cost (ps ++ qs) ≡ cost ps + cost qs
+pub cost-append : (ps qs : List Portion) → cost (ps ++ qs) ≡ cost ps + cost qs
 unfolding cost
 cost-append [] qs = omega arith
 cost-append (p ∷ ps) qs = omega (arith, cost-append ps qs)

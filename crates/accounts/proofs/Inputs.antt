@@ -33,7 +33,7 @@ module _ {P : Type 0} (level : P → ℕ) where
       by-test (eqb (level p) v) (λ y. rw y) (λ n. rw (n, place-added v ps qs (rw n at h)))
 
   -- one partition of level 0 more
-  count-added : (u : ℕ) (ps : List P) (q : P) → level q ≡ 0 → ofLevel level u (ps ++ (q ∷ [])) ≡ ofLevel level u ps + cond (eqb 0 u) 1 0
+  pub count-added : (u : ℕ) (ps : List P) (q : P) → level q ≡ 0 → ofLevel level u (ps ++ (q ∷ [])) ≡ ofLevel level u ps + cond (eqb 0 u) 1 0
   count-added u ps q z = count-append level u ps (q ∷ []) ∙ ap (λ n. ofLevel level u ps + n) (rw z (one (eqb 0 u)))
     where
       one : (t : Bool) → length {A = P} (cond t (q ∷ []) []) ≡ cond t 1 0

@@ -5,6 +5,7 @@ pub mod Steps
 pub mod Prefixes
 pub mod Shaped
 pub mod Fits
+pub mod Ahead
 pub mod Numbers
 pub mod Ranked
 pub mod Picks
@@ -18,5 +19,6 @@ pub mod Behind
 pub mod Kept
 pub mod Sound
 pub mod Agree
+pub mod Foreseen
 pub mod History
 pub mod Unrefused

@@ -5,10 +5,10 @@ use Rattle.answers.specs.declared.Hit.{Hit}
 use Rattle.answers.proofs.Kept.{after-if, after-choose}
 use Rattle.identifiers.specs.Names.{Name, among}
 use Rattle.ranking.specs.Hits.{ranked}
-use Rattle.engine.specs.Calls.{Call, Open, Event, Close, Remove, RemoveAll, Flush, Step, Query, Mean}
+use Rattle.engine.specs.Calls.{Call, Open, Event, Close, Remove, RemoveAll, Flush, Step, Query, Mean, Forecast}
 use Rattle.accounts.specs.Account.{Account, stepping, flushing, flushingIf}
 use Rattle.accounts.specs.Ledger.{Ledger, shown, existing, opens, counts}
-use Rattle.accounts.specs.Books.{Books, showing, books, booksCall}
+use Rattle.accounts.specs.Books.{Books, showing, plannedIn, books, booksCall}
 use Rattle.accounts.proofs.Ranked.{ranked-agree}
 use Rattle.accounts.proofs.Live.{existing-opens, existing-counts}
 use Rattle.accounts.proofs.Lawful.{Lawful}
@@ -68,7 +68,7 @@ module _ (blocks entries : ℕ) (b : Books) (s : Lawful entries (b .ledger)) (k 
   Same c = hitsBy k ns (c .ledger) ≡ hitsBy k ns (b .ledger)
 
   pub hits-stay : (q : Call) → showing q ≡ false → Same (stateOf b (booksCall blocks entries b q))
-  unfolding books
+  unfolding plannedIn books
   hits-stay Open e = after-if Same b refl _ 5 _ λ n. after-if Same b refl _ 6 _ λ _. hits-opens k ns (b .ledger) n
   hits-stay (Event n) e =
       after-if Same b refl _ 4 _ λ _. after-if Same b refl _ 5 _ λ o. after-if Same b refl _ 6 _ λ _. after-if Same b refl _ 8 _ λ _. after-if Same b refl _ 9 _ λ _.
@@ -80,3 +80,4 @@ module _ (blocks entries : ℕ) (b : Books) (s : Lawful entries (b .ledger)) (k 
   hits-stay Step e = stays-step b Same refl blocks (b .account) _ (λ a. refl)
   hits-stay (Query j ms) e = after-if Same b refl _ 4 _ λ _. after-if Same b refl _ 14 _ λ _. refl
   hits-stay (Mean n) e = after-if Same b refl _ 4 _ λ _. after-if Same b refl _ 15 _ λ _. refl
+  hits-stay (Forecast plan numbers) e = after-if Same b refl _ 3 _ λ _. refl

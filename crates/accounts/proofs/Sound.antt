@@ -21,7 +21,7 @@ use Rattle.partitions.specs.Layout.{lengthOf}
 use Rattle.partitions.specs.Formed.{listRule, inRange, sumsInRange}
 use Rattle.removals.specs.Removal.{countsOf}
 use Rattle.plans.specs.Merging.{isLast}
-use Rattle.engine.specs.Calls.{Call, Open, Event, Close, Remove, RemoveAll, Flush, Step, Query, Mean}
+use Rattle.engine.specs.Calls.{Call, Open, Event, Close, Remove, RemoveAll, Flush, Step, Query, Mean, Forecast}
 use Rattle.accounts.specs.Account.{Portion, Account, postingsIn, storedIn, blocksOf, blocksIn, blocksAhead, dueOf, inputsOf}
 use Rattle.accounts.specs.Ledger.{Ledger, live, existing, byNumber}
 use Rattle.accounts.specs.Lists.{Lists, recordLike, listsRule, identifierRule, listsRuled, windowSums, windowRule, inputsRule, callRule}
@@ -255,3 +255,4 @@ module _ (blocks entries : ℕ) (l : Ledger) (a : Account) (k : Kept blocks entr
   call-formed Step = inputs-formed
   call-formed (Query m ns) = identifiers-formed (numbersOf (l .identifiers) ns)
   call-formed (Mean n) = identifiers-formed (numbersOf (l .identifiers) (n ∷ []))
+  call-formed (Forecast plan numbers) = refl

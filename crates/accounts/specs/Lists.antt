@@ -16,10 +16,13 @@ use Rattle.answers.specs.Order.{past, admit}
 use Rattle.state.specs.declared.Windows.{Windows}
 use Rattle.state.specs.declared.Partition.{Partition}
 use Rattle.state.specs.Views.{listedOf, bufferOf, partitionsOf}
-use Rattle.state.specs.Levels.{oldest}
+use Rattle.state.specs.Levels.{ofLevel, oldest}
 use Rattle.state.specs.Shown.{shown}
 use Rattle.state.specs.Rules.{windowsRule, listedRule, bufferRule, partitionsRule}
 use Rattle.identifiers.specs.Names.{Name, badLength, numberOf, numbersOf}
+use Rattle.recordings.specs.Recording.{recordingRule, recorded}
+use Rattle.forecasts.specs.Plan.{Planned, opening, counting, closing, planCalls}
+use Rattle.forecasts.specs.Course.{Gauge, follow}
 use Rattle.partitions.specs.Layout.{lengthOf}
 use Rattle.partitions.specs.Formed.{listRule, inRange, sumsInRange}
 use Rattle.ranking.specs.Hits.{frequency, ranked}
@@ -28,8 +31,8 @@ use Rattle.removals.specs.Removal.{ofWindow, countsOf, isLive}
 use Rattle.plans.specs.Merging.{isLast}
 use Rattle.averages.specs.Average.{total, averaged}
 use Rattle.batches.specs.Batch.{batchRule}
-use Rattle.engine.specs.Calls.{Call, Open, Event, Close, Remove, RemoveAll, Flush, Step, Query, Mean, run}
-use Rattle.accounts.specs.Account.{Portion, Account, emptyAccount, postingsIn, storedIn, takenFrom, dueOf, inputsOf, overflows, exceeds, addedTo, stepping, flushing, flushingIf}
+use Rattle.engine.specs.Calls.{Call, Open, Event, Close, Remove, RemoveAll, Flush, Step, Query, Mean, Forecast, run}
+use Rattle.accounts.specs.Account.{Portion, Account, emptyAccount, postingsIn, storedIn, takenFrom, blocksIn, dueOf, inputsOf, overflows, exceeds, addedTo, stepping, flushing, flushingIf}
 
 -- the state's window numbers; the register's identifiers, by number; the numbers of the open window's identifiers, in order of first count; the
 -- postings in buffer and partitions, with the steps of the merge in progress
@@ -90,7 +93,7 @@ inputsRule a =
     every (λ (p : Portion). listRule (p .postings)) (oldest (λ (p : Portion). p .level) (dueOf a) (a .partitions))
     && (every (λ p. inRange (p .count)) (pairs (inputsOf a)) && (eqb (a .steps) 0 || not (isLast (pairs (inputsOf a)) (a .steps))))
 
--- of each call
+-- of each call; that a forecast brings a plan is judged with what it comes to
 unfoldable pub callRule : Lists → Call → Bool
 callRule e Open = true
 callRule e (Event n) = true
@@ -101,6 +104,7 @@ callRule e Flush = true
 callRule e Step = inputsRule (e .account)
 callRule e (Query k ns) = every (identifierRule (e .account)) (numbersOf (e .names) ns)
 callRule e (Mean n) = every (identifierRule (e .account)) (numbersOf (e .names) (n ∷ []))
+callRule e (Forecast plan counts) = true
 
 -- ---- what the calls leave
 
@@ -165,6 +169,10 @@ frequencyOf e n = totalBy (frequency (countOf (e .account)) (shown (e .windows))
 unfoldable pub totalOf : Lists → Name → ℕ
 totalOf e n = totalBy (total (countOf (e .account)) (shown (e .windows))) (numbersOf (e .names) (n ∷ []))
 
+-- what a forecast reads off
+abbrev pub listsGauge : Gauge Lists
+listsGauge = record { low = λ e. ofLevel (λ (p : Portion). p .level) 0 (e .account .partitions); blocks = λ e. blocksIn (e .account); entries = λ e. length (e .names) }
+
 -- ---- what the calls come to, on a card of so many blocks and a register of so many entries
 
 module _ (blocks entries : ℕ) where
@@ -181,12 +189,12 @@ module _ (blocks entries : ℕ) where
   abbrev pub removalOf : Lists → ℕ → Outcome Lists
   removalOf e w = removingLists e w (countsOf w (storedIn (e .account)))
 
-  -- what follows refusals 1 to 3
-  unfoldable pub pursued : Lists → Call → Outcome Lists
-  pursued e Open =
+  -- the calls that a plan may have
+  unfoldable pub plannedLists : Lists → Planned → Outcome Lists
+  plannedLists e opening =
       admit (past 3 order.opening) (isOpen e ∷ leb 65535 (e .windows .last) ∷ [])
       (leave (number (suc (e .windows .last))) (openedLists e))
-  pursued e (Event n) =
+  plannedLists e (counting n) =
       admit (past 3 order.event)
       (badLength n
       ∷ not (isOpen e)
@@ -195,9 +203,15 @@ module _ (blocks entries : ℕ) where
       ∷ (not (elem (numberOf (e .names) n) (e .listed)) && leb 64 (length (e .listed)))
       ∷ [])
       (flushingIf blocks (overflows (onceOf e n) (e .account)) (e .account) (λ a. leave done (countedLists e n a)))
-  pursued e Close =
+  plannedLists e closing =
       admit (past 3 order.closing) (not (isOpen e) ∷ [])
       (leave done (closedLists e))
+
+  -- what follows refusals 1 to 3
+  unfoldable pub pursued : Lists → Call → Outcome Lists
+  pursued e Open = plannedLists e opening
+  pursued e (Event n) = plannedLists e (counting n)
+  pursued e Close = plannedLists e closing
   pursued e (Remove w) = removalOf e w
   pursued e (RemoveAll ws) = admit (past 3 order.removals) (not (batchRule ws) ∷ []) (inTurn removalOf e ws)
   pursued e Flush = flushing blocks (e .account) (λ a. leave done (withAccount e a))
@@ -208,6 +222,9 @@ module _ (blocks entries : ℕ) where
   pursued e (Mean n) =
       admit (past 3 order.mean) (badLength n ∷ eqb (frequencyOf e n) 0 ∷ [])
       (leave (averaged (frequencyOf e n) (totalOf e n)) e)
+  pursued e (Forecast plan counts) =
+      admit (past 2 order.forecast) (not (recordingRule plan counts) ∷ [])
+      (leave (follow listsGauge plannedLists 0 e (planCalls (recorded plan counts))) e)
 
   unfoldable pub listsCall : Lists → Call → Outcome Lists
   listsCall e c = refuseIf (not (listsRule blocks e)) 1 (refuseIf (not (callRule e c)) 3 (pursued e c))

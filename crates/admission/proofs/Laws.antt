@@ -52,7 +52,7 @@ both true true e = (refl, refl)
 both true false e = absurd (omega arith)
 both false b e = absurd (omega arith)
 
-all-three : (a b c : Bool) → 0 ≡ firstOf (1 ∷ 2 ∷ 3 ∷ []) (not a ∷ not b ∷ not c ∷ []) → (a ≡ true) × (b ≡ true) × (c ≡ true)
+pub all-three : (a b c : Bool) → 0 ≡ firstOf (1 ∷ 2 ∷ 3 ∷ []) (not a ∷ not b ∷ not c ∷ []) → (a ≡ true) × (b ≡ true) × (c ≡ true)
 all-three true true true e = (refl, refl, refl)
 all-three true true false e = absurd (omega arith)
 all-three true false c e = absurd (omega arith)

@@ -4,13 +4,20 @@ use mathlib.Core.List.{List, [], _∷_}
 use Prim.Native.Nat.{ℕ}
 use Rattle.answers.specs.declared.Hit.{Hit}
 
+-- where a plan stops: nowhere, as all its calls are done, or at the first that is refused, told by the plan's window, from 1, its event, from 1, or 0 for
+-- the open, and the refusal's number
+pub data Halt : Type 0 where
+  never : Halt
+  halted : ℕ → ℕ → ℕ → Halt
+
 -- an answer in the document's terms: nothing but done, a window's number, a list of hits with the postings taken up,
--- a mean's quotient, remainder and number of windows, or a refusal's number
+-- a mean's quotient, remainder and number of windows, a forecast's flushes, blocks, register entries and where the plan stops, or a refusal's number
 pub data Answer : Type 0 where
   done : Answer
   number : ℕ → Answer
   hits : List Hit → ℕ → Answer
   mean : ℕ → ℕ → ℕ → Answer
+  forecast : ℕ → ℕ → ℕ → Halt → Answer
   refused : ℕ → Answer
 
 -- a refusal says its number and nothing of what is there: that is as it was
@@ -32,6 +39,11 @@ choose false o p = p
 unfoldable pub next : {S : Type 0} → Outcome S → (S → Outcome S) → Outcome S
 next (refuse n) k = refuse n
 next (leave x s) k = k s
+
+-- one thing told by a refusal's number, another by what is left
+unfoldable pub after : {S T : Type 0} → Outcome S → (ℕ → T) → (S → T) → T
+after (refuse n) f g = f n
+after (leave x s) f g = g s
 
 -- a call for each of a list, one after another, where none is refused; else the first refusal
 unfoldable pub inTurn : {S A : Type 0} → (S → A → Outcome S) → S → List A → Outcome S

@@ -2,7 +2,8 @@
 use mathlib.Core.List.{List}
 use Prim.Native.Nat.{ℕ}
 
--- an event and a mean have an identifier's bytes, a removal a window or several, and a query so many places in its list and the bytes of each identifier
+-- an event and a mean have an identifier's bytes, a removal a window or several, a query so many places in its list and the bytes of each identifier, and a
+-- forecast a plan's entries and how many belong to each window
 pub data Call : Type 0 where
   Open : Call
   Event : List ℕ → Call
@@ -13,3 +14,4 @@ pub data Call : Type 0 where
   Step : Call
   Query : ℕ → List (List ℕ) → Call
   Mean : List ℕ → Call
+  Forecast : List ℕ → List ℕ → Call

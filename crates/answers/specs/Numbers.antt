@@ -12,8 +12,12 @@ use Rattle.answers.specs.declared.Found.{Found}
 use Rattle.answers.specs.declared.Found.the-variants as found
 use Rattle.answers.specs.declared.Averaged.{Averaged}
 use Rattle.answers.specs.declared.Averaged.the-variants as averaged
+use Rattle.answers.specs.declared.Stop.{Stop}
+use Rattle.answers.specs.declared.Stop.the-variants as stop
+use Rattle.answers.specs.declared.Forecast.{Forecast}
+use Rattle.answers.specs.declared.Forecast.the-variants as foretold
 use Rattle.answers.specs.declared.Hit.{Hit}
-use Rattle.answers.specs.Answers.{Answer, done, number, hits, mean, refused}
+use Rattle.answers.specs.Answers.{Halt, never, halted, Answer, done, number, hits, mean, forecast, refused}
 
 -- "Refused, checked in this order": the number of each refusal
 abbrev pub refusalNumber : Refusal → ℕ
@@ -53,3 +57,13 @@ foundAs (found.Refused r) hs = refused (refusalNumber r)
 abbrev pub averagedAs : Averaged → Answer
 averagedAs (averaged.Mean q r f) = mean q r f
 averagedAs (averaged.Refused r) = refused (refusalNumber r)
+
+-- where a plan stops
+abbrev pub haltAs : Stop → Halt
+haltAs stop.Nowhere = never
+haltAs (stop.At w j r) = halted w j (refusalNumber r)
+
+-- the answer of a forecast
+abbrev pub forecastAs : Forecast → Answer
+forecastAs (foretold.Course k b m h) = forecast k b m (haltAs h)
+forecastAs (foretold.Refused r) = refused (refusalNumber r)

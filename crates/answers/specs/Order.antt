@@ -33,6 +33,9 @@ query = 1 ∷ 2 ∷ 3 ∷ 4 ∷ 14 ∷ []
 abbrev pub mean : List ℕ
 mean = 1 ∷ 2 ∷ 3 ∷ 4 ∷ 15 ∷ []
 
+abbrev pub forecast : List ℕ
+forecast = 1 ∷ 2 ∷ 3 ∷ []
+
 -- a flush that writes a partition: an event's, a removal's, or a flush itself
 abbrev pub writing : List ℕ
 writing = 10 ∷ 11 ∷ 12 ∷ []

@@ -46,6 +46,18 @@ pub enum Averaged {
     Refused(Refusal),
 }
 
+// Where a plan stops: nowhere, or at the first call that is refused, told by the plan's window, from 1, and its event, from 1, or 0 for the open.
+pub enum Stop {
+    Nowhere,
+    At(u64, u16, Refusal),
+}
+
+// The answer of a forecast: flushes, blocks of finished partitions, register entries used, and where the plan stops.
+pub enum Forecast {
+    Course(u16, u64, u16, Stop),
+    Refused(Refusal),
+}
+
 // A window that a query lists, with its score.
 pub struct Hit {
     pub window: u16,

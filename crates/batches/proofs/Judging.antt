@@ -38,11 +38,6 @@ takenFrom b counts = bufferOf (nonzero (foldr put (buffered b) (negated counts))
 pub reached-none : (s : State) (card ws T : List ℕ) → Ready s card ws T → length (s .buffer .postings) ≡ 128 → Reached (storeOf s card) ws (countsAt s card) s card 0
 reached-none s card ws T r wide = record { standing = standing-of s card ws (r .rule) (r .size) wide (r .formed) (r .keyed); lengths = refl; on = refl }
 
--- a reply that is no refusal, as its kind tells
-pub reply-done : (tag : Reply → ℕ) → ((why : Refusal) → tag (Reply.Refused why) ≡ 1) → (r : Reply) → tag r ≡ 0 → r ≡ Reply.Done
-reply-done tag one Reply.Done e = refl
-reply-done tag one (Reply.Refused why) e = let z : _≡_ {A = ℕ} 1 0 = sym (one why) ∙ e in absurd (omega arith)
-
 -- ---- one removal
 
 module _ (p : Store) (ws : List ℕ) (c : ℕ → List Posting) (once : different ws ≡ true) (t : State) (after : List ℕ) (i : ℕ) (r : Reached p ws c t after i) (here : i < length ws) where

@@ -1,7 +1,7 @@
 -- What an engine's call promises of states, promised of their images.
 use Rattle.lists.proofs.Prelude.{Bool, true, false, not, List, _≡_, refl, sym, ap, _∙_, ℕ, eqb, length, not-false}
 use Rattle.words.specs.Words.{Below}
-use Rattle.answers.specs.Answers.{Answer, done, number, hits, mean, refused, Outcome, refuse, leave, refuseIf, carry, answerOf, stateOf}
+use Rattle.answers.specs.Answers.{Answer, done, number, hits, mean, forecast, refused, Outcome, refuse, leave, refuseIf, carry, answerOf, stateOf}
 use Rattle.answers.specs.Unchanged.{Unchanged}
 use Rattle.state.specs.declared.State.{State}
 use Rattle.state.specs.Probe.{Store, Probe}
@@ -39,6 +39,7 @@ left-image done t image e h = refl
 left-image (number n) t image e h = refl
 left-image (hits l n) t image e h = refl
 left-image (mean q r f) t image e h = refl
+left-image (forecast k b m f) t image e h = refl
 left-image (refused n) t image e h = sym e ∙ ap imaged (sym (h n refl))
 
 -- the image of an image's state is the image

@@ -1,4 +1,4 @@
--- The exported query, with the lent list of hits as bytes, eight to a hit, and the exported mean.
+-- The exported query, with the lent list of hits as bytes, eight to a hit, and the exported mean and forecast.
 use mathlib.Core.Bool.{not}
 use mathlib.Core.List.{List, [], _∷_, _++_, map}
 use mathlib.Core.Path.{_≡_}
@@ -12,6 +12,7 @@ use Rattle.identifiers.specs.Names.{Name}
 use Rattle.windows.specs.Promises.{probeOf}
 use Rattle.queries.specs.Query.{queryOf}
 use Rattle.means.specs.Mean.{meanOf}
+use Rattle.forecasts.specs.Outlook.{forecastOf}
 use Rattle.images.specs.Images.{imageRule}
 use Rattle.numbers.specs.Images.{stateOn, numberFor}
 use Rattle.capi.specs.Exports.{Lent}
@@ -43,3 +44,7 @@ queryOn l ns lent =
 
 unfoldable pub meanOn : Lent → Name → Outcome (Unit {0})
 meanOn l n = refuseIf (not (imageRule (l .image))) 1 (meanOf (probeOf (stateOn (l .image)) (l .card) (l .register)) n)
+
+-- the card is not lent
+unfoldable pub forecastOn : List ℕ → List ℕ → List ℕ → List ℕ → Outcome (Unit {0})
+forecastOn image register plan counts = refuseIf (not (imageRule image)) 1 (forecastOf (stateOn image) register plan counts)

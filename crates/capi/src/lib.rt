@@ -1,5 +1,6 @@
 // The engine's functions for callers in C and Rust: numbers and byte slices alone. A state is lent as its byte image.
 use answers::Averaged;
+use answers::Forecast;
 use answers::Found;
 use answers::Opened;
 use answers::Reply;
@@ -17,8 +18,8 @@ ghost use Rattle.state.specs.Rules.{registerLength};
 ghost use Rattle.windows.specs.Promises.{Gives};
 ghost use Rattle.ranking.specs.Top.{listedHits};
 ghost use Rattle.capi.specs.Exports.{cardedOf, lentOf, startOn, unstartedOn, openOn, closeOn, eventOn, flushOn, removeOn, removeAllOn, stepOn};
-ghost use Rattle.numbers.specs.Images.{repliedBy, openedBy, numberFor};
-ghost use Rattle.capi.specs.Queries.{hitBytes, Tells, queryOn, meanOn};
+ghost use Rattle.numbers.specs.Images.{repliedBy, openedBy, numberFor, toldBy};
+ghost use Rattle.capi.specs.Queries.{hitBytes, Tells, queryOn, meanOn, forecastOn};
 
 // Has a register of so many bytes 1 to 1,024 whole entries?
 fn length_ok(bytes: usize) -> bool
@@ -166,6 +167,27 @@ pub extern "C" fn gemsilver_mean(image: &[u8], card: &[u8], register: &[u8], id:
     let s = images::read_state(image);
     let answer = means::mean(s, card, register, id);
     numbers::mean_number(answer)
+}
+
+// What a plan would come to, in six lent numbers: flushes, blocks, register entries, and window, event and number of the refusal that it stops at. 0, or a refusal's
+// number, which leaves the lent numbers as they were.
+#[no_mangle]
+pub extern "C" fn gemsilver_forecast(
+    image: &[u8],
+    register: &[u8],
+    plan: &[u8],
+    counts: &[u32],
+    told: &mut [u64; 6],
+) -> u32
+    ensures { λ r. ⌜ (r ≡ numberFor (answerOf (forecastOn (now (image .entry)) (now (register .entry)) (now (plan .entry)) (now (counts .entry)))))
+        × (now (told .exit) ≡ toldBy (answerOf (forecastOn (now (image .entry)) (now (register .entry)) (now (plan .entry)) (now (counts .entry)))) (now (told .entry))) ⌝ }
+{
+    if !images::image_ok(image) {
+        return 1;
+    }
+    let s = images::read_state(image);
+    let answer = forecasts::forecast(s, register, plan, counts);
+    numbers::settle_forecast(told, answer)
 }
 
 // A window is removed.

@@ -8,6 +8,7 @@ pub mod Flushing
 pub mod Fronts
 pub mod WindowCalls
 pub mod Readings
+pub mod Forecasts
 pub mod Fresh
 pub mod Disjoint
 pub mod Outputs
@@ -15,3 +16,4 @@ pub mod Stepped
 pub mod Merged
 pub mod StepCall
 pub mod Simulated
+pub mod Foretold

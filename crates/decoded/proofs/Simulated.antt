@@ -13,7 +13,7 @@ use Rattle.partitions.specs.Reading.{stored}
 use Rattle.partitions.specs.Formed.{listRule, inRange, sumsInRange, Writable}
 use Rattle.removals.specs.Removal.{removeOf}
 use Rattle.batches.specs.Batch.{batchFormed}
-use Rattle.engine.specs.Calls.{Call, Open, Event, Close, Remove, RemoveAll, Flush, Step, Query, Mean, storeIn, withStore, probeCall, run, afterwards}
+use Rattle.engine.specs.Calls.{Call, Open, Event, Close, Remove, RemoveAll, Flush, Step, Query, Mean, Forecast, storeIn, withStore, probeCall, run, afterwards}
 use Rattle.accounts.specs.Account.{Account, storedIn, inputsOf, merged}
 use Rattle.accounts.specs.Ledger.{Ledger, byNumber}
 use Rattle.accounts.specs.Books.{Books, booksCall}
@@ -25,13 +25,14 @@ use Rattle.accounts.proofs.Ranged.{storedRule, stored-kept, ranged-partitions, 
 use Rattle.accounts.proofs.Behind.{top}
 use Rattle.accounts.proofs.Kept.{Kept}
 use Rattle.accounts.proofs.Sound.{rules-hold}
-use Rattle.accounts.proofs.Agree.{unrefused}
-use Rattle.accounts.proofs.History.{Stands, call-same, call-sound}
+use Rattle.accounts.proofs.Agree.{Stands, unrefused}
+use Rattle.accounts.proofs.History.{call-same, call-sound}
 use Rattle.decoded.proofs.Holds.{Stored, stored-is}
 use Rattle.decoded.proofs.Ruled.{ruled, same-length}
 use Rattle.decoded.proofs.Flushing.{Same, bothRefuse, bothLeave, same-next, Fine}
 use Rattle.decoded.proofs.WindowCalls.{open-same, close-same, flush-call-same, event-same}
 use Rattle.decoded.proofs.Readings.{query-same, mean-same, removal-same, batch-same, remove-same, removals-same}
+use Rattle.decoded.proofs.Forecasts.{forecast-same}
 use Rattle.decoded.proofs.StepCall.{step-same}
 
 -- ---- what ledger and account keep is what a probe can hold
@@ -72,10 +73,10 @@ module _ (ls : Lengths) where
       writable = result-writable n m (b .ledger) (b .account) (s .kept);
     })
 
-    fine-stored : (p : Probe) (e : Lists) (b : Books) → Stored ls p e → Stands n m small e b → Fine (blocks (p .state)) e
+    pub fine-stored : (p : Probe) (e : Lists) (b : Books) → Stored ls p e → Stands n m small e b → Fine (blocks (p .state)) e
     fine-stored p e b k s = subst (λ (q : Lengths). Fine (q .card / 4096) e) (sym (k .sized)) (fine-of e b s)
 
-    lists-pursued : (e : Lists) (b : Books) → Stands n m small e b → (c : Call) → listsCall n m e c ≡ pursued n m e c
+    pub lists-pursued : (e : Lists) (b : Books) → Stands n m small e b → (c : Call) → listsCall n m e c ≡ pursued n m e c
     lists-pursued e b s c = subst (λ x. listsCall n m x c ≡ pursued n m x c) (sym (s .same)) (unrefused n m small (b .ledger) (b .account) (s .kept) c)
 
     -- refusals 1 to 3 of a list of windows to be removed have no cause
@@ -121,6 +122,7 @@ module _ (ls : Lengths) where
     pursued-same p e b s k f Step r = step-same p e k f r
     pursued-same p e b s k f (Query x ns) r = query-same p e k f x ns r
     pursued-same p e b s k f (Mean x) r = mean-same p e k f x r
+    pursued-same p e b s k f (Forecast plan counts) r = forecast-same p e k f plan counts
 
     pub call-simulated : (p : Probe) (e : Lists) (b : Books) → Stored ls p e → Stands n m small e b → (c : Call) → Same (Stored ls) (probeCall p c) (listsCall n m e c)
     call-simulated p e b k s c =

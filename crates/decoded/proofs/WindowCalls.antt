@@ -21,7 +21,7 @@ use Rattle.windows.specs.Calls.{opened, isOpen, openOf, closed, closeOf}
 use Rattle.events.specs.Event.{once, eventFlushes, counted, isNew, eventOf}
 use Rattle.engine.specs.Calls.{Open, Event, Close, Flush, withStore, withState, probeCall}
 use Rattle.accounts.specs.Account.{Account, overflows, flushingIf as accountFlushingIf}
-use Rattle.accounts.specs.Lists.{Lists, openedLists, closedLists, onceOf, countedLists, withAccount, pursued, isOpen as isOpenIn, isNew as isNewIn}
+use Rattle.accounts.specs.Lists.{Lists, openedLists, closedLists, onceOf, countedLists, withAccount, plannedLists, pursued, isOpen as isOpenIn, isNew as isNewIn}
 use Rattle.accounts.proofs.Shaped.{overflows-is}
 use Rattle.accounts.proofs.Numbers.{new-is}
 use Rattle.decoded.proofs.Holds.{Holds, Stored, buffer-is}
@@ -88,7 +88,7 @@ module _ {ls : Lengths} (p : Probe) (e : Lists) (k : Stored ls p e) (fine : Fine
       (ap (λ (w : Windows). record { last = suc (w .last); live = w .live; current = suc (w .last); events = 0 }) (h .windows)) (h .listed) (h .buffer) refl refl
 
   pub open-same : Same (Stored ls) (probeCall p Open) (pursued (blocks s) (registerSize s) e Open)
-  unfolding probeCall openOf pursued
+  unfolding probeCall openOf plannedLists pursued
   open-same =
       same-carry (λ t e′. Stored ls (withState p t) e′) (Stored ls) (withState p) (λ t e′ r. r)
       (passing R _ 1 _ _ no-first
@@ -110,7 +110,7 @@ module _ {ls : Lengths} (p : Probe) (e : Lists) (k : Stored ls p e) (fine : Fine
       (ap (λ (w : Windows). record { last = cond (eqb (w .events) 0) (w .last - 1) (w .last); live = cond (eqb (w .events) 0) (w .live) (suc (w .live)); current = 0; events = 0 }) (h .windows)) refl (h .buffer) refl refl
 
   pub close-same : Same (Stored ls) (probeCall p Close) (pursued (blocks s) (registerSize s) e Close)
-  unfolding probeCall closeOf pursued
+  unfolding probeCall closeOf plannedLists pursued
   close-same =
       same-carry (λ t e′. Stored ls (withState p t) e′) (Stored ls) (withState p) (λ t e′ r. r)
       (passing R _ 1 _ _ no-first
@@ -144,7 +144,7 @@ module _ {ls : Lengths} (p : Probe) (e : Lists) (k : Stored ls p e) (fine : Fine
   new-same : (n : Name) → isNew (p .register) n ≡ isNewIn e n
   new-same n = ap (λ ms. leb (length ms) (numberOf ms n)) (k .names)
 
-  listed-is : listed (s .listed) ≡ e .listed
+  pub listed-is : listed (s .listed) ≡ e .listed
   listed-is = ap listed (h .listed) ∙ held 64 0 (e .listed)
 
   -- what is counted
@@ -223,7 +223,7 @@ module _ {ls : Lengths} (p : Probe) (e : Lists) (k : Stored ls p e) (fine : Fine
         named = unfold countedLists in refl
 
   pub event-same : (n : Name) → Same (Stored ls) (probeCall p (Event n)) (pursued (blocks s) (registerSize s) e (Event n))
-  unfolding probeCall eventOf pursued
+  unfolding probeCall eventOf plannedLists pursued
   event-same n =
       passing (Stored ls) _ 1 _ _ no-first
       (passing (Stored ls) _ 2 _ _ no-second-both

@@ -1,4 +1,4 @@
--- After every history: what a query lists, a mean is and removals leave, by the ledger, and what the card's blocks hold.
+-- After every history: what a query lists, a mean is and removals leave, by the ledger, what a forecast tells, and what the card's blocks hold.
 use Rattle.lists.proofs.TopK.{different-down}
 use Rattle.lists.proofs.Prelude.{true, false, not, cond, List, [], _∷_, _++_, _≡_, refl, sym, ap, _∙_, subst, ℕ, _*_, _/_, _%_, _<_, arith, eqb, length, getD, eqb-true, elem, every, empty, and-left}
 use Rattle.words.specs.Words.{words, allOnes}
@@ -11,6 +11,7 @@ use Rattle.state.specs.Views.{padded, blocks, finished}
 use Rattle.state.specs.Rules.{cardLength, registerLength}
 use Rattle.state.specs.Probe.{Probe}
 use Rattle.identifiers.specs.Names.{Name, numbersOf}
+use Rattle.recordings.specs.Recording.{recordingRule, recorded}
 use Rattle.card.specs.Blocks.{isFree}
 use Rattle.card.specs.Chains.{content}
 use Rattle.blocks.proofs.FreeBlocks.{free-word}
@@ -20,8 +21,9 @@ use Rattle.ranking.specs.Hits.{frequency, ranked}
 use Rattle.averages.specs.Average.{total, averaging}
 use Rattle.means.specs.Mean.{meanOf}
 use Rattle.queries.specs.Query.{queryOf}
+use Rattle.forecasts.specs.Plan.{planCalls}
 use Rattle.batches.specs.Batch.{batchRule}
-use Rattle.engine.specs.Calls.{Call, RemoveAll, Query, Mean, probeCall, run, afterwards}
+use Rattle.engine.specs.Calls.{Call, RemoveAll, Query, Mean, Forecast, probeCall, run, afterwards}
 use Rattle.accounts.specs.Account.{Account, takenFrom, inputsOf, merged, blocksOf}
 use Rattle.accounts.specs.Ledger.{Ledger, live, shown, existing}
 use Rattle.accounts.specs.Books.{Books, showing, books, booksCall}
@@ -31,11 +33,13 @@ use Rattle.decoded.specs.Portions.{outputOf, cleanPast}
 use Rattle.decoded.proofs.Holds.{Holds, taking-is}
 use Rattle.decoded.proofs.Unused.{going, output-going}
 use Rattle.decoded.proofs.Simulated.{removals-formed, runs-simulated, Left}
+use Rattle.decoded.proofs.Foretold.{really}
 use Rattle.histories.proofs.Theorem.{entries-most, history-left}
-use Rattle.demands.specs.Words.{Listing, Divided, Together, probeAfter, booksAfter, unused}
+use Rattle.demands.specs.Words.{Listing, Divided, Together, Foreseen, probeAfter, booksAfter, unused}
 use Rattle.demands.proofs.Granted.{Where, where-if, hits-granted, listOf, takenOf, ranked-listing, mean-granted, mean-last}
 use Rattle.demands.proofs.Rows.{same-if, query-called, mean-called}
 use Rattle.demands.proofs.Removals.{removals-together, without, count-without, live-without, list-bad-books, bad-books-list, books-removed, books-unchanged}
+use Rattle.demands.proofs.Foreseen.{follow-foreseen}
 use Rattle.demands.proofs.Cards.{whole-after, ones-bytes}
 
 -- ---- what ledger and account answer to a query
@@ -152,6 +156,13 @@ module _ (c r : ℕ) (cardFits : cardLength c ≡ true) (registerFits : register
 
     pub none-removed : (n : ℕ) → answerOf (probeCall p (RemoveAll ws)) ≡ refused n → booksAfter c r (cs ++ (RemoveAll ws ∷ [])) ≡ b
     none-removed n e = books-more (RemoveAll ws) ∙ books-unchanged (c / 4096) (r / 65) b ws .same n (sym (answered (RemoveAll ws)) ∙ e)
+
+  -- ---- forecasts
+
+  pub forecast-left : (plan counts : List ℕ) → recordingRule plan counts ≡ true → Foreseen p (planCalls (recorded plan counts)) (answerOf (probeCall p (Forecast plan counts)))
+  forecast-left plan counts rule =
+      subst (Foreseen p (planCalls (recorded plan counts))) (sym (ap answerOf (really ls (entries-most r registerFits) p b left plan counts rule)))
+      (follow-foreseen (planCalls (recorded plan counts)) p)
 
   -- ---- blocks
 

@@ -13,10 +13,11 @@ use Rattle.windows.specs.Calls.{fresh, openOf, closeOf}
 use Rattle.events.specs.Event.{eventOf}
 use Rattle.queries.specs.Query.{queryOf}
 use Rattle.means.specs.Mean.{meanOf}
+use Rattle.forecasts.specs.Outlook.{forecastOf}
 use Rattle.removals.specs.Removal.{removing, removeOf}
 use Rattle.batches.specs.Batch.{removeAllOf}
 use Rattle.plans.specs.Step.{stepping, stepOf}
-use Rattle.engine.specs.Calls.{Call, Open, Event, Close, Remove, RemoveAll, Flush, Step, Query, Mean, storeIn, withStore, withState, noHit, probeCall, afterwards}
+use Rattle.engine.specs.Calls.{Call, Open, Event, Close, Remove, RemoveAll, Flush, Step, Query, Mean, Forecast, storeIn, withStore, withState, noHit, probeCall, afterwards}
 use Rattle.demands.proofs.Rows.{state-carry}
 
 -- the bytes of its words are the card
@@ -97,6 +98,7 @@ call-whole p w Flush = carried (withStore p) (storeIn p) (flushOf (storeIn p)) (
 call-whole p w Step = carried (withStore p) (storeIn p) (stepOf (storeIn p)) (stepped-whole (storeIn p) w)
 call-whole p w (Query k ns) = carried (λ (l : List Hit). p) (replicate k noHit) (queryOf p ns (replicate k noHit)) w
 call-whole p w (Mean n) = carried (λ (u : Unit {0}). p) tt (meanOf p n) w
+call-whole p w (Forecast plan counts) = carried (λ (u : Unit {0}). p) tt (forecastOf (p .state) (p .register) plan counts) w
 
 after-whole : (p : Probe) → Whole (p .card) → (cs : List Call) → Whole (afterwards probeCall p cs .card)
 unfolding afterwards

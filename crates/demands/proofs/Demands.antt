@@ -1,6 +1,6 @@
 -- The three demands as theorems, each under a plain sentence. Who believes the definitions that they name, and the promises of the public functions,
 -- which equate result and lent buffers with those definitions, need read no further: every proof here cites a law.
-use Rattle.lists.proofs.Prelude.{true, false, _&&_, cond, List, [], _∷_, _++_, map, _≡_, sym, ap, _∙_, ℕ, _+_, _-_, _*_, _/_, _^_, _≤_, _<_, eqb, leb, pos, length, getD, AllOf, any, elem, every, empty, different}
+use Rattle.lists.proofs.Prelude.{true, false, _||_, _&&_, cond, List, [], _∷_, _++_, map, _≡_, sym, ap, _∙_, ℕ, _+_, _-_, _*_, _/_, _^_, _≤_, _<_, eqb, ltb, leb, pos, length, getD, any, elem, every, empty, different}
 use Rattle.words.specs.Words.{words, allOnes, Below}
 use Rattle.weights.specs.Weights.{sixteenths, tfWeight, idfWeight}
 use Rattle.weights.proofs.Laws.{sixteenths-highest, tf-proper, tf-grows, idf-none, idf-past, idf-proper}
@@ -10,6 +10,7 @@ use Rattle.postings.specs.Sums.{sum}
 use Rattle.answers.specs.Answers.{Answer, done, hits, mean, refused, answerOf, stateOf, carry}
 use Rattle.answers.specs.declared.Found.{Found}
 use Rattle.answers.specs.declared.Averaged.{Averaged}
+use Rattle.answers.specs.declared.Forecast.{Forecast}
 use Rattle.answers.specs.declared.Hit.{Hit}
 use Rattle.state.specs.declared.State.{State}
 use Rattle.state.specs.Probe.{Store, Probe, sameLength}
@@ -17,7 +18,9 @@ use Rattle.state.specs.Views.{padded, blocks, finished}
 use Rattle.state.specs.Rules.{cardLength, registerLength, stateRule}
 use Rattle.state.specs.Shown.{shows, shown}
 use Rattle.identifiers.specs.Names.{Name, badLength}
-use Rattle.identifiers.specs.Register.{names}
+use Rattle.identifiers.specs.Register.{size, names}
+use Rattle.recordings.specs.Recording.{recordingRule, identifierIn, recorded}
+use Rattle.recordings.proofs.Windows.{bad-size}
 use Rattle.card.specs.Blocks.{onCard, isFree}
 use Rattle.blocks.specs.Writes.{store}
 use Rattle.blocks.specs.Moves.{MovesBytes}
@@ -38,8 +41,10 @@ use Rattle.queries.proofs.Refused.{query-unchanged}
 use Rattle.ranking.specs.Hits.{frequency}
 use Rattle.averages.specs.Average.{total, averaging}
 use Rattle.means.specs.Mean.{frequencyIn, totalIn, meanOf}
+use Rattle.forecasts.specs.Plan.{planCalls}
 use Rattle.batches.specs.Batch.{batchRule, batchFormed}
 use Rattle.plans.specs.Merging.{progress}
+use Rattle.engine.specs.Calls as calls
 use Rattle.engine.specs.Calls.{Call, RemoveAll, probeCall}
 use Rattle.engine.proofs.Refused.{call-unchanged}
 use Rattle.engine.proofs.ByteRule.{call-moved}
@@ -49,20 +54,20 @@ use Rattle.jobs.proofs.Lent.{lent-unchanged, lent-other, lent-own}
 use Rattle.accounts.specs.Account.{Account, storedIn, inputsOf, merged, blocksOf, steppedAccount}
 use Rattle.accounts.specs.Ledger as ledger
 use Rattle.accounts.specs.Ledger.{existing, including, byNumber}
-use Rattle.accounts.specs.Books.{Granted, showing, expected}
+use Rattle.accounts.specs.Books.{AllGranted, showing, expected}
 use Rattle.accounts.specs.Lists.{Lists}
 use Rattle.accounts.proofs.Stored.{sum-stored-stepped}
 use Rattle.decoded.specs.Portions.{portionOn, outputOf, cleanPast}
 use Rattle.decoded.proofs.Simulated.{left-sums}
 use Rattle.histories.specs.Statement.{answers, SameAnswers}
 use Rattle.histories.proofs.Theorem.{entries-most, same-answers, none-malformed, history-left}
-use Rattle.demands.specs.Words.{Fit, Listing, mostScore, Divided, Together, probeAfter, booksAfter, unused}
-use Rattle.demands.specs.Promises.{Starts, Opens, Counts, Closes, Removes, RemovesAll, Flushes, Steps, Asks, AsksValue, Averages, Begun}
-use Rattle.demands.proofs.Granted.{event-bad, query-bad, mean-bad, event-noted, query-answered, answered-listing, open-unlisted, scores-few, mean-answered}
+use Rattle.demands.specs.Words.{Fit, Listing, mostScore, Divided, Together, Foreseen, probeAfter, booksAfter, unused}
+use Rattle.demands.specs.Promises.{Starts, Opens, Counts, Closes, Removes, RemovesAll, Flushes, Steps, Asks, AsksValue, Averages, Foretells, Begun}
+use Rattle.demands.proofs.Granted.{event-bad, query-bad, mean-bad, event-noted, query-answered, answered-listing, open-unlisted, scores-few, mean-answered, plan-bad, forecast-kept}
 use Rattle.demands.proofs.Rows.{start-fresh, start-refuses, all-unstarted, begun-run}
 use Rattle.demands.proofs.Removals.{removals-together, removals-late, list-bad}
-use Rattle.demands.proofs.Single.{one-state, one-store, one-probe, one-opening, one-list, one-found, one-averaged}
-use Rattle.demands.proofs.After.{listing-by-ledger, hits-kept, mean-told, mean-by-ledger, list-bad-after, together-left, count-removed, live-removed, none-removed, free-left, byte-left, past-left, output-left}
+use Rattle.demands.proofs.Single.{one-state, one-store, one-probe, one-opening, one-list, one-found, one-averaged, one-forecasted}
+use Rattle.demands.proofs.After.{listing-by-ledger, hits-kept, mean-told, mean-by-ledger, list-bad-after, together-left, count-removed, live-removed, none-removed, forecast-left, free-left, byte-left, past-left, output-left}
 
 -- ==== 1. Every call does what the page says, on every input
 
@@ -102,6 +107,9 @@ one-query-value s card register ids places x y g h = one-found (probeOf s card r
 
 pub one-mean : (s : State) (card register : List ℕ) (id : Name) (x y : Averaged) → Averages s card register id x → Averages s card register id y → x ≡ y
 one-mean s card register id x y g h = one-averaged x y (g ∙ sym h)
+
+pub one-forecast : (s : State) (register plan counts : List ℕ) (x y : Forecast) → Foretells s register plan counts x → Foretells s register plan counts y → x ≡ y
+one-forecast s register plan counts x y g h = one-forecasted x y (g ∙ sym h)
 
 -- A start on any bytes of lengths within the limits is done, and leaves the fresh state, card and register.
 pub started : (card register : List ℕ) → cardLength (length card) ≡ true → registerLength (length register) ≡ true
@@ -276,6 +284,26 @@ pub refused-removes-none : (c r : ℕ) → cardLength c ≡ true → registerLen
     → answerOf (probeCall (probeAfter c r cs) (RemoveAll ws)) ≡ refused n → booksAfter c r (cs ++ (RemoveAll ws ∷ [])) ≡ booksAfter c r cs
 refused-removes-none = none-removed
 
+-- A forecast changes nothing, refused or not.
+pub forecast-changes-nothing : (p : Probe) (plan counts : List ℕ) → stateOf p (probeCall p (calls.Forecast plan counts)) ≡ p
+forecast-changes-nothing = forecast-kept
+
+-- After every history the forecast of a plan that keeps the rule of plans is what its calls come to, really made one after another: how many write a partition, the blocks and the register
+-- entries that they leave used, and that none is refused, or which one is the first, with its number; what is told is then of the calls before it.
+pub forecast-happens : (c r : ℕ) → cardLength c ≡ true → registerLength r ≡ true → (cs : List Call) (plan counts : List ℕ) → recordingRule plan counts ≡ true
+    → Foreseen (probeAfter c r cs) (planCalls (recorded plan counts)) (answerOf (probeCall (probeAfter c r cs) (calls.Forecast plan counts)))
+forecast-happens = forecast-left
+
+-- The forecast of a plan that breaks that rule is refused with 3 (with 1 or 2 where these come first): its entries are not whole, or not as many as the list adds up to, or one is not zero
+-- after its identifier.
+pub bad-plan : (p : Probe) (plan counts : List ℕ) → stateRule (p .state) ≡ true → sameLength (p .register) (p .state .lengths .register) ≡ true
+    → recordingRule plan counts ≡ false → answerOf (probeCall p (calls.Forecast plan counts)) ≡ refused 3
+bad-plan = plan-bad
+
+-- An entry whose length byte is 0 or above 64 tells an identifier that an event refuses with 4, so that a plan with one stops there, if not before.
+pub plan-identifiers : (e : List ℕ) → length e ≡ 65 → badLength (identifierIn e) ≡ (eqb (size e) 0 || ltb 64 (size e))
+plan-identifiers = bad-size
+
 -- Postings in order, written as a partition of any level to any blocks of the card, keep the layout and read back as they were.
 pub written-reads-back : (W bs : List ℕ) (n level : ℕ) (ps : List Posting) → length W ≡ 1024 * n → onCard n bs ≡ true → different bs ≡ true → length bs ≡ blocksFor (lengthOf ps) → Writable ps
     → (partitionRule (store W bs (encode level ps)) n (writtenAs bs level ps) ≡ true) × (postingsOf (store W bs (encode level ps)) (writtenAs bs level ps) ≡ ps)
@@ -335,6 +363,6 @@ pub promises-answered : (card register : List ℕ) → cardLength (length card) 
 promises-answered card register cardFits registerFits cs told b =
     begun-run card register cardFits registerFits cs told b ∙ history-answered (length card) (length register) cardFits registerFits cs
 
--- No answer is refusal 1, 2 or 3.
-pub never-malformed : (c r : ℕ) → cardLength c ≡ true → registerLength r ≡ true → (cs : List Call) → AllOf Granted (answers c r cs)
+-- No answer is refusal 1, 2 or 3, but 3 for a forecast of a plan that breaks the rule of plans.
+pub never-malformed : (c r : ℕ) → cardLength c ≡ true → registerLength r ≡ true → (cs : List Call) → AllGranted cs (answers c r cs)
 never-malformed = none-malformed

@@ -1,18 +1,21 @@
 -- What a call that is not refused has found and left.
-use Rattle.lists.proofs.Prelude.{Bool, true, false, _&&_, not, cond, List, [], _∷_, _++_, _≡_, refl, sym, ap, _∙_, subst, ℕ, _+_, _*_, _/_, _%_, _≤_, arith, leb, length, eqb-true, eqb-false, leb-false, le-leb, le-trans, lit≤, ltb, ltb-false, not-true, not-false, or-none, any, empty, every, keep, elem, different, down, by-test, and-left, and-right, and-both, every-from, every-keep, every-kept, every-elem, different-keep, eqb}
+use Rattle.lists.proofs.Prelude.{Bool, true, false, _&&_, and-false, not, cond, List, [], _∷_, _++_, _≡_, refl, sym, ap, _∙_, subst, ℕ, _+_, _*_, _/_, _%_, _≤_, arith, leb, length, eqb-true, eqb-false, leb-false, le-leb, le-trans, lit≤, ltb, ltb-false, not-true, not-false, or-none, any, empty, every, keep, elem, different, down, by-test, and-left, and-right, and-both, every-from, every-keep, every-kept, every-elem, different-keep, eqb}
 use Rattle.lists.proofs.TopK.{different-down}
 use Rattle.words.specs.Words.{words}
-use Rattle.answers.specs.Answers.{Answer, done, number, hits, mean, refused, Outcome, leave, refuseIf, choose, answerOf, stateOf}
+use Rattle.answers.specs.Answers.{Answer, done, number, hits, mean, forecast, refused, Outcome, refuse, leave, refuseIf, choose, answerOf, stateOf, carry}
 use Rattle.answers.specs.declared.Hit.{Hit}
 use Rattle.state.specs.declared.State.{State}
 use Rattle.state.specs.Views.{registerSize}
+use Rattle.state.specs.Rules.{stateRule}
 use Rattle.state.specs.Probe.{Probe, sameLength}
 use Rattle.state.specs.Shown.{shows, shown}
 use Rattle.identifiers.specs.Names.{Name, badLength, among}
 use Rattle.identifiers.specs.Register.{names, registerRule, added}
 use Rattle.identifiers.proofs.Added.{good-length, names-added}
+use Rattle.recordings.specs.Recording.{recordingRule}
 use Rattle.flushes.specs.Flush.{flushing, flushingIf}
 use Rattle.events.specs.Event.{isNew, eventOf}
+use Rattle.forecasts.specs.Outlook.{forecastOf}
 use Rattle.ranking.specs.Hits.{score, matching, ranked}
 use Rattle.ranking.specs.Asked.{badQuery}
 use Rattle.queries.specs.Query.{countIn, numbers, takenUp, queryFormed, hitsOf, fill, querying, queryOf}
@@ -20,6 +23,7 @@ use Rattle.queries.proofs.Bounds.{formed-score}
 use Rattle.averages.specs.Average.{averaged}
 use Rattle.averages.proofs.Division.{whole, left-below}
 use Rattle.means.specs.Mean.{frequencyIn, totalIn, meaning, meanOf}
+use Rattle.engine.specs.Calls.{Forecast, probeCall}
 use Rattle.accounts.specs.Ledger.{including}
 use Rattle.accounts.proofs.Numbers.{new-is}
 use Rattle.demands.specs.Words.{Fit, scored, Listing, mostScore, Divided}
@@ -116,6 +120,7 @@ listOf done = []
 listOf (number n) = []
 listOf (hits hs k) = hs
 listOf (mean q r f) = []
+listOf (forecast k b m h) = []
 listOf (refused n) = []
 
 abbrev pub takenOf : Answer → ℕ
@@ -123,6 +128,7 @@ takenOf done = 0
 takenOf (number n) = 0
 takenOf (hits hs k) = k
 takenOf (mean q r f) = 0
+takenOf (forecast k b m h) = 0
 takenOf (refused n) = 0
 
 -- a query that is not refused with 14
@@ -279,3 +285,20 @@ mean-bad p n s formed bad =
     (refuse-later _ 2 _ (refused 4) (and-both (sameLength (p .card) (p .state .lengths .card)) _ (s .card) (s .register))
     (refuse-later _ 3 _ (refused 4) formed
     (refuse-now _ 4 _ bad)))
+
+-- ---- forecasts
+
+-- refused with 3 for its plan
+pub plan-bad : (p : Probe) (plan counts : List ℕ) → stateRule (p .state) ≡ true → sameLength (p .register) (p .state .lengths .register) ≡ true
+    → recordingRule plan counts ≡ false → answerOf (probeCall p (Forecast plan counts)) ≡ refused 3
+unfolding probeCall forecastOf refuseIf
+plan-bad p plan counts rule size bad = rw (rule, size, bad, and-false (registerRule (p .register)))
+
+-- what a call leaves that is lent nothing to be written
+kept : (p : Probe) (o : Outcome (Unit {0})) → stateOf p (carry (λ (u : Unit {0}). p) o) ≡ p
+kept p (refuse n) = refl
+kept p (leave x u) = refl
+
+pub forecast-kept : (p : Probe) (plan counts : List ℕ) → stateOf p (probeCall p (Forecast plan counts)) ≡ p
+unfolding probeCall
+forecast-kept p plan counts = kept p (forecastOf (p .state) (p .register) plan counts)

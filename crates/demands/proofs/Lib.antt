@@ -4,5 +4,6 @@ pub mod Rows
 pub mod Removals
 pub mod Single
 pub mod Cards
+pub mod Foreseen
 pub mod After
 pub mod Demands

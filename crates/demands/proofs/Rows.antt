@@ -2,9 +2,10 @@
 use Rattle.lists.proofs.Prelude.{Bool, true, false, _&&_, List, _∷_, _≡_, refl, sym, ap, ap₂, _∙_, ℕ, arith, length, replicate, length-replicate}
 use Rattle.words.specs.Words.{words}
 use Rattle.answers.specs.Answers.{Answer, done, refused, Outcome, refuse, leave, refuseIf, hits, answerOf, stateOf, carry}
-use Rattle.answers.specs.Numbers.{foundAs, averagedAs}
+use Rattle.answers.specs.Numbers.{foundAs, averagedAs, forecastAs}
 use Rattle.answers.specs.declared.Found.{Found}
 use Rattle.answers.specs.declared.Averaged.{Averaged}
+use Rattle.answers.specs.declared.Forecast.{Forecast}
 use Rattle.answers.specs.declared.Hit.{Hit}
 use Rattle.state.specs.declared.State.{State}
 use Rattle.state.specs.Rules.{cardLength, registerLength, stateRule, lengthsRule}
@@ -20,12 +21,14 @@ use Rattle.ranking.specs.Asked.{badQuery}
 use Rattle.queries.specs.Finds.{Finds}
 use Rattle.ranking.specs.declared.Top.{Top}
 use Rattle.means.specs.Mean.{meaning, meanOf}
+use Rattle.forecasts.specs.Outlook.{forecastOf}
 use Rattle.removals.specs.Removal.{removeOf}
 use Rattle.batches.specs.Batch.{removeAllOf}
 use Rattle.plans.specs.Step.{stepOf}
+use Rattle.engine.specs.Calls as calls
 use Rattle.engine.specs.Calls.{Call, Open, Event, Close, Remove, RemoveAll, Flush, Step, Query, Mean, withStore, withState, noHit, probeCall, run}
 use Rattle.histories.specs.Statement.{answers}
-use Rattle.demands.specs.Promises.{Row, noCall, opening, counting, closing, removing, removingAll, flushing, stepping, asking, askingValue, averaging, Begun}
+use Rattle.demands.specs.Promises.{Row, noCall, opening, counting, closing, removing, removingAll, flushing, stepping, asking, askingValue, averaging, foretelling, Begun}
 
 -- ---- outcomes seen on the whole probe
 
@@ -128,6 +131,13 @@ module _ (p : Probe) where
   unfolding probeCall
   mean-is n a e = (e ∙ mean-called p n, sym (state-carry (λ (u : Unit {0}). p) tt (meanOf p n)))
 
+  -- and so does a forecast
+  forecast-is : (plan counts : List ℕ) (a : Forecast) → forecastAs a ≡ answerOf (forecastOf (p .state) (p .register) plan counts) → Is p (calls.Forecast plan counts) (forecastAs a) p
+  unfolding probeCall
+  forecast-is plan counts a e =
+      let o = forecastOf (p .state) (p .register) plan counts in
+      (e ∙ sym (answer-carry (λ (u : Unit {0}). p) o), sym (state-carry (λ (u : Unit {0}). p) tt o))
+
 -- one call, and what follows it
 follow : (p : Probe) (c : Call) (cs : List Call) (x : Answer) (q : Probe) (told : List Answer) → Is p c x q → told ≡ run probeCall q cs → x ∷ told ≡ run probeCall p (c ∷ cs)
 unfolding run
@@ -147,6 +157,8 @@ row-run (asking {s} {card} {register} {cs} {told} {ids} {hits} r g row) =
 row-run (askingValue {s} {card} {register} {cs} {told} {ids} {places} r g row) =
     follow _ (Query places ids) cs _ _ told (value-is (probeOf s card register) ids places (r .answer) (r .top) g) (row-run row)
 row-run (averaging {s} {card} {register} {cs} {told} {id} r g row) = follow _ (Mean id) cs _ _ told (mean-is (probeOf s card register) id r g) (row-run row)
+row-run (foretelling {s} {card} {register} {cs} {told} {plan} {counts} r g row) =
+    follow _ (calls.Forecast plan counts) cs _ _ told (forecast-is (probeOf s card register) plan counts r g) (row-run row)
 
 -- ---- start
 
@@ -168,7 +180,7 @@ zeros-broken = refl
 
 -- so every call on it is refused with 1
 pub all-unstarted : (card register : List ℕ) (c : Call) → answerOf (probeCall (unstarted card register) c) ≡ refused 1
-unfolding probeCall unstarted openOf closeOf eventOf flushOf removeOf removeAllOf stepOf queryOf querying meanOf meaning refuseIf
+unfolding probeCall unstarted openOf closeOf eventOf flushOf removeOf removeAllOf stepOf queryOf querying meanOf meaning forecastOf refuseIf
 all-unstarted card register Open = rw zeros-broken
 all-unstarted card register (Event n) = rw zeros-broken
 all-unstarted card register Close = rw zeros-broken
@@ -178,6 +190,7 @@ all-unstarted card register Flush = rw zeros-broken
 all-unstarted card register Step = rw zeros-broken
 all-unstarted card register (Query k ns) = rw zeros-broken
 all-unstarted card register (Mean n) = rw zeros-broken
+all-unstarted card register (calls.Forecast plan counts) = rw zeros-broken
 
 -- ---- from a start on
 

@@ -1,7 +1,7 @@
 -- Two results that keep one promise are equal: the answer in the code's own form, the state, and every buffer.
 use Rattle.lists.proofs.Prelude.{List, _≡_, refl, sym, ap, ap₂, _∙_, ℕ, _≤_, arith, length, length-append, length-take-le}
-use Rattle.answers.specs.Answers.{Answer, done, number, hits, mean, refused, Outcome}
-use Rattle.answers.specs.Numbers.{replied, openedAs, foundAs, averagedAs}
+use Rattle.answers.specs.Answers.{Halt, never, halted, Answer, done, number, hits, mean, forecast, refused, Outcome}
+use Rattle.answers.specs.Numbers.{replied, openedAs, foundAs, averagedAs, haltAs, forecastAs}
 use Rattle.answers.proofs.Refusals.{refusalOf, refusal-back}
 use Rattle.answers.specs.declared.Reply.{Reply}
 use Rattle.answers.specs.declared.Reply.the-variants as reply
@@ -11,6 +11,10 @@ use Rattle.answers.specs.declared.Found.{Found}
 use Rattle.answers.specs.declared.Found.the-variants as found
 use Rattle.answers.specs.declared.Averaged.{Averaged}
 use Rattle.answers.specs.declared.Averaged.the-variants as averaged
+use Rattle.answers.specs.declared.Stop.{Stop}
+use Rattle.answers.specs.declared.Stop.the-variants as stop
+use Rattle.answers.specs.declared.Forecast.{Forecast}
+use Rattle.answers.specs.declared.Forecast.the-variants as foretold
 use Rattle.answers.specs.declared.Hit.{Hit}
 use Rattle.state.specs.declared.State.{State}
 use Rattle.state.specs.Probe.{Store, Probe}
@@ -30,6 +34,7 @@ replyOf done = reply.Done
 replyOf (number n) = reply.Done
 replyOf (hits l n) = reply.Done
 replyOf (mean q r f) = reply.Done
+replyOf (forecast k b m h) = reply.Done
 replyOf (refused n) = reply.Refused (refusalOf n)
 
 reply-back : (r : Reply) → replyOf (replied r) ≡ r
@@ -41,6 +46,7 @@ openedOf done = opened.Number 0
 openedOf (number n) = opened.Number n
 openedOf (hits l n) = opened.Number 0
 openedOf (mean q r f) = opened.Number 0
+openedOf (forecast k b m h) = opened.Number 0
 openedOf (refused n) = opened.Refused (refusalOf n)
 
 opened-back : (r : Opened) → openedOf (openedAs r) ≡ r
@@ -52,6 +58,7 @@ foundOf done = found.Hits 0 0
 foundOf (number n) = found.Hits 0 0
 foundOf (hits l n) = found.Hits (length l) n
 foundOf (mean q r f) = found.Hits 0 0
+foundOf (forecast k b m h) = found.Hits 0 0
 foundOf (refused n) = found.Refused (refusalOf n)
 
 found-back : (r : Found) (l : List Hit) → hitCount r ≤ length l → foundOf (foundAs r l) ≡ r
@@ -63,6 +70,7 @@ averagedOf done = averaged.Mean 0 0 0
 averagedOf (number n) = averaged.Mean 0 0 0
 averagedOf (hits l n) = averaged.Mean 0 0 0
 averagedOf (mean q r f) = averaged.Mean q r f
+averagedOf (forecast k b m h) = averaged.Mean 0 0 0
 averagedOf (refused n) = averaged.Refused (refusalOf n)
 
 averaged-back : (r : Averaged) → averagedOf (averagedAs r) ≡ r
@@ -72,6 +80,30 @@ averaged-back (averaged.Refused w) = ap averaged.Refused (refusal-back w)
 -- of a mean
 pub one-averaged : (x y : Averaged) → averagedAs x ≡ averagedAs y → x ≡ y
 one-averaged x y e = sym (averaged-back x) ∙ ap averagedOf e ∙ averaged-back y
+
+abbrev stopOf : Halt → Stop
+stopOf never = stop.Nowhere
+stopOf (halted w j n) = stop.At w j (refusalOf n)
+
+stop-back : (h : Stop) → stopOf (haltAs h) ≡ h
+stop-back stop.Nowhere = refl
+stop-back (stop.At w j r) = ap (stop.At w j) (refusal-back r)
+
+abbrev forecastFrom : Answer → Forecast
+forecastFrom done = foretold.Course 0 0 0 stop.Nowhere
+forecastFrom (number n) = foretold.Course 0 0 0 stop.Nowhere
+forecastFrom (hits l n) = foretold.Course 0 0 0 stop.Nowhere
+forecastFrom (mean q r f) = foretold.Course 0 0 0 stop.Nowhere
+forecastFrom (forecast k b m h) = foretold.Course k b m (stopOf h)
+forecastFrom (refused n) = foretold.Refused (refusalOf n)
+
+forecast-back : (r : Forecast) → forecastFrom (forecastAs r) ≡ r
+forecast-back (foretold.Course k b m h) = ap (foretold.Course k b m) (stop-back h)
+forecast-back (foretold.Refused w) = ap foretold.Refused (refusal-back w)
+
+-- of a forecast
+pub one-forecasted : (x y : Forecast) → forecastAs x ≡ forecastAs y → x ≡ y
+one-forecasted x y e = sym (forecast-back x) ∙ ap forecastFrom e ∙ forecast-back y
 
 -- ---- promises
 

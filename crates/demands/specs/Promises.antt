@@ -3,9 +3,10 @@ use mathlib.Core.List.{List, [], _∷_}
 use Prim.Native.Nat.{ℕ}
 use lib.ListN.{length}
 use Rattle.answers.specs.Answers.{Answer}
-use Rattle.answers.specs.Numbers.{replied, openedAs, foundAs, averagedAs}
+use Rattle.answers.specs.Numbers.{replied, openedAs, foundAs, averagedAs, forecastAs}
 use Rattle.answers.specs.declared.Found.{Found}
 use Rattle.answers.specs.declared.Averaged.{Averaged}
+use Rattle.answers.specs.declared.Forecast.{Forecast}
 use Rattle.answers.specs.declared.Hit.{Hit}
 use Rattle.state.specs.declared.State.{State}
 use Rattle.identifiers.specs.Names.{Name}
@@ -17,9 +18,11 @@ use Rattle.windows.specs.declared.Replied.{Replied}
 pub use Rattle.queries.specs.Finds.{AsksValue}
 use Rattle.queries.specs.declared.Answered.{Answered}
 pub use Rattle.means.specs.Mean.{Averages}
+pub use Rattle.forecasts.specs.Outlook.{Foretells}
 pub use Rattle.removals.specs.Promises.{Removes}
 pub use Rattle.batches.specs.Batch.{RemovesAll}
 pub use Rattle.merges.specs.Promises.{Steps}
+use Rattle.engine.specs.Calls as calls
 use Rattle.engine.specs.Calls.{Call, Open, Event, Close, Remove, RemoveAll, Flush, Step, Query, Mean}
 pub use Rattle.hits.specs.Lent.{Asks}
 
@@ -49,6 +52,9 @@ pub data Row : State → List ℕ → List ℕ → List Call → List Answer →
   -- a mean
   averaging : {s : State} {card register : List ℕ} {cs : List Call} {told : List Answer} {id : Name} (r : Averaged)
       → Averages s card register id r → Row s card register cs told → Row s card register (Mean id ∷ cs) (averagedAs r ∷ told)
+  -- a forecast
+  foretelling : {s : State} {card register : List ℕ} {cs : List Call} {told : List Answer} {plan counts : List ℕ} (r : Forecast)
+      → Foretells s register plan counts r → Row s card register cs told → Row s card register (calls.Forecast plan counts ∷ cs) (forecastAs r ∷ told)
 
 -- a start on these bytes, and calls in a row on what it leaves
 pub record Begun (card register : List ℕ) (cs : List Call) (told : List Answer) : Type 0 where

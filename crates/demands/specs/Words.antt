@@ -1,20 +1,22 @@
 -- Words that the demands are stated with.
-use mathlib.Core.Bool.{Bool, true, false, _&&_, not}
+use mathlib.Core.Bool.{Bool, true, false, _&&_, not, cond}
 use mathlib.Core.List.{List, [], _∷_, _++_, map}
 use mathlib.Core.Path.{_≡_}
 use Prim.Native.Nat.{ℕ, suc, _+_, _*_, _/_, _<_}
-use lib.Dec.{eqb}
+use lib.Dec.{eqb, ltb}
 use lib.ListN.{length, take, replicate}
 use Rattle.lists.specs.Lists.{every, any, elem}
 use Rattle.words.specs.Words.{words}
-use Rattle.answers.specs.Answers.{done, refused, Outcome, refuse, leave}
+use Rattle.answers.specs.Answers.{Halt, never, halted, Answer, done, number, hits, mean, forecast, refused, Outcome, refuse, leave, answerOf, stateOf}
 use Rattle.answers.specs.declared.Hit.{Hit}
 use Rattle.state.specs.Rules.{stateRule}
 use Rattle.state.specs.Probe.{Probe, sameLength}
-use Rattle.identifiers.specs.Register.{registerRule}
+use Rattle.identifiers.specs.Register.{names, registerRule}
+use Rattle.flushes.specs.Flush.{finishedBlocks}
+use Rattle.forecasts.specs.Plan.{Placed}
 use Rattle.windows.specs.Calls.{fresh}
 use Rattle.ranking.specs.Hits.{outranks, score, matching}
-use Rattle.engine.specs.Calls.{Call, Remove, probeCall, run, afterwards}
+use Rattle.engine.specs.Calls.{Call, Remove, probeCall, plannedCall, probeGauge, run, afterwards}
 use Rattle.accounts.specs.Account.{emptyAccount}
 use Rattle.accounts.specs.Ledger.{emptyLedger}
 use Rattle.accounts.specs.Books.{Books, booksCall}
@@ -63,6 +65,37 @@ pub data Together (p : Probe) (ws : List ℕ) : Outcome Probe → Type 0 where
   allRemoved : run probeCall p (map Remove ws) ≡ replicate (length ws) done → Together p ws (leave done (afterwards probeCall p (map Remove ws)))
   -- i of them are done and the next one is refused: so is it, with that number
   oneRefused : (n i : ℕ) → i < length ws → take (suc i) (run probeCall p (map Remove ws)) ≡ replicate i done ++ (refused n ∷ []) → Together p ws (refuse n)
+
+-- is an answer no refusal
+abbrev pub isGranted : Answer → Bool
+isGranted done = true
+isGranted (number n) = true
+isGranted (hits l n) = true
+isGranted (mean q r f) = true
+isGranted (forecast k b m h) = true
+isGranted (refused n) = false
+
+-- a plan's calls
+abbrev pub callsOf : List Placed → List Call
+callsOf cs = map (λ (c : Placed). plannedCall (c .call)) cs
+
+-- how many of them, each made on what the one before left, leave more partitions at level 0 than they find
+abbrev pub wrote : Probe → List Placed → ℕ
+wrote p [] = 0
+wrote p (c ∷ cs) =
+    cond (ltb (probeGauge .low p) (probeGauge .low (stateOf p (probeCall p (plannedCall (c .call)))))) 1 0 + wrote (stateOf p (probeCall p (plannedCall (c .call)))) cs
+
+-- what is told where these calls are done and the plan stops so: the flushes, and the blocks and register entries that they leave used
+abbrev pub toldOf : Probe → List Placed → Halt → Answer
+toldOf p cs h = forecast (wrote p cs) (finishedBlocks (afterwards probeCall p (callsOf cs) .state)) (length (names (afterwards probeCall p (callsOf cs) .register))) h
+
+-- what a forecast is to answer, by the plan's calls really made, one after another
+pub data Foreseen (p : Probe) (calls : List Placed) : Answer → Type 0 where
+  -- none of them is refused
+  allDone : every isGranted (run probeCall p (callsOf calls)) ≡ true → Foreseen p calls (toldOf p calls never)
+  -- none of the first is, and the next one is refused with n: the plan stops there
+  nextRefused : (first : List Placed) (c : Placed) (rest : List Placed) (n : ℕ) → calls ≡ first ++ (c ∷ rest) → every isGranted (run probeCall p (callsOf first)) ≡ true
+      → answerOf (probeCall (afterwards probeCall p (callsOf first)) (plannedCall (c .call))) ≡ refused n → Foreseen p calls (toldOf p first (halted (c .window) (c .event) n))
 
 -- the probe, and ledger and account, after a list of calls on a fresh card of c bytes with a register of r
 abbrev pub probeAfter : ℕ → ℕ → List Call → Probe

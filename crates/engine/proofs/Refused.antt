@@ -13,13 +13,15 @@ use Rattle.queries.specs.Query.{queryOf}
 use Rattle.queries.proofs.Refused.{query-unchanged}
 use Rattle.means.specs.Mean.{meanOf}
 use Rattle.means.proofs.Refused.{mean-unchanged}
+use Rattle.forecasts.specs.Outlook.{forecastOf}
+use Rattle.forecasts.proofs.Refused.{forecast-unchanged}
 use Rattle.removals.specs.Removal.{removeOf}
 use Rattle.removals.proofs.Refused.{removal-unchanged}
 use Rattle.batches.specs.Batch.{removeAllOf}
 use Rattle.batches.proofs.Refused.{batch-unchanged}
 use Rattle.plans.specs.Step.{stepOf}
 use Rattle.merges.proofs.Refused.{step-unchanged}
-use Rattle.engine.specs.Calls.{Call, Open, Event, Close, Remove, RemoveAll, Flush, Step, Query, Mean, storeIn, withStore, withState, noHit, probeCall}
+use Rattle.engine.specs.Calls.{Call, Open, Event, Close, Remove, RemoveAll, Flush, Step, Query, Mean, Forecast, storeIn, withStore, withState, noHit, probeCall}
 
 pub call-unchanged : (p : Probe) (c : Call) → Unchanged p (probeCall p c)
 unfolding probeCall
@@ -33,3 +35,5 @@ call-unchanged p Step = unchanged-carry (withStore p) (storeIn p) p (stepOf (sto
 call-unchanged p (Query k ns) =
     unchanged-carry (λ (l : List Hit). p) (replicate k noHit) p (queryOf p ns (replicate k noHit)) refl (query-unchanged p ns (replicate k noHit))
 call-unchanged p (Mean n) = unchanged-carry (λ (u : Unit {0}). p) tt p (meanOf p n) refl (mean-unchanged p n)
+call-unchanged p (Forecast plan counts) =
+    unchanged-carry (λ (u : Unit {0}). p) tt p (forecastOf (p .state) (p .register) plan counts) refl (forecast-unchanged (p .state) (p .register) plan counts)

@@ -3,6 +3,7 @@
 pub use batches::remove_all;
 pub use events::event;
 pub use flushes::flush;
+pub use forecasts::forecast;
 pub use means::mean;
 pub use merges::step as step_value;
 pub use queries::search as query_value;

@@ -1,5 +1,5 @@
 -- What counting an event asks for, from its admission and its flush's target.
-use Rattle.lists.proofs.Prelude.{Bool, true, false, _&&_, not, List, [], _≡_, refl, sym, ap, subst, _∙_, ℕ, _/_, _<_, _≤_, arith, eqb, leb, length, length-take, leb-true, leb-false, eqb-true, eqb-false, le-leb, lt-leb, not-false, any, elem, empty, by-test, empty-length}
+use Rattle.lists.proofs.Prelude.{Bool, true, false, _&&_, not, List, [], _≡_, refl, sym, ap, subst, _∙_, ℕ, _/_, _<_, _≤_, arith, eqb, leb, length, length-take, leb-false, eqb-true, eqb-false, not-false, any, elem, empty, by-test, empty-length}
 use Rattle.postings.specs.Order.{samePair}
 use Rattle.state.specs.declared.State.{State}
 use Rattle.state.specs.Views.{registerSize, listed, buffered}
@@ -8,7 +8,7 @@ use Rattle.state.proofs.Kept.{rules-of, state-kept}
 use Rattle.state.proofs.Forms.{buffer-rule}
 use Rattle.identifiers.specs.Names.{Name, numberOf}
 use Rattle.identifiers.specs.Register.{names, registerRule}
-use Rattle.identifiers.proofs.Names.{number-within}
+use Rattle.identifiers.proofs.Names.{number-within, number-full}
 use Rattle.identifiers.proofs.Entries.{names-within, length-entries, rule-formed}
 use Rattle.flushes.specs.declared.Target.{Target}
 use Rattle.flushes.specs.Flush.{flushedTo}
@@ -25,17 +25,10 @@ module _ (s : State) (register : List ℕ) (n : Name) (rule : registerRule regis
   -- a new identifier meets a full register exactly when its number is no place of it
   pub placed : (isNew register n && leb (registerSize s) (length (names register))) ≡ leb (length register / 65) (numberOf (names register) n)
   placed =
-      let i = numberOf (names register) n in
-      let m = length (names register) in
-      let a : i ≤ m = number-within (names register) n in
-      let b : m ≤ length register / 65 = rw (length-entries register) at (names-within register (rule-formed register rule)) in
       let c : registerSize s ≡ length register / 65 = ap (λ (k : ℕ). k / 65) (sym size) in
-      by-test (leb (length register / 65) i)
-      (λ y. let h : length register / 65 ≤ i = leb-true _ _ y in rw (c, y, le-leb m i (omega arith), le-leb (length register / 65) m (omega arith)))
-      (λ f. let h : i < length register / 65 = leb-false _ _ f in
-      by-test (leb m i)
-      (λ z. let k : m ≤ i = leb-true _ _ z in rw (c, f, z, lt-leb (length register / 65) m (omega arith)))
-      (λ z. rw (f, z)))
+      rw c
+      (number-full (numberOf (names register) n) (length (names register)) (length register / 65)
+      (number-within (names register) n) (rw (length-entries register) at (names-within register (rule-formed register rule))))
 
 -- ---- room in the buffer
 

@@ -1,3 +1,4 @@
+pub mod Weighed
 pub mod Verdicts
 pub mod Counts
 pub mod Turns

@@ -22,7 +22,7 @@ positive (pos m) h = refl
 positive (negsuc m) h = absurd (omega arith)
 
 -- a number above 0 is no count of 0
-some-count : (m : ℕ) → 1 ≤ m → isZero (pos m) ≡ false
+pub some-count : (m : ℕ) → 1 ≤ m → isZero (pos m) ≡ false
 some-count zero h = absurd (omega arith)
 some-count (suc m) h = refl
 

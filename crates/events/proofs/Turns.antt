@@ -18,7 +18,7 @@ use Rattle.events.specs.Verdicts.{Judged, turnTests, Turned}
 use Rattle.events.proofs.Counts.{placed}
 
 -- the first of five tests, where none of them holds
-five : (a b c d e : Bool) → 0 ≡ firstOf (4 ∷ 5 ∷ 6 ∷ 8 ∷ 9 ∷ []) (a ∷ b ∷ c ∷ d ∷ e ∷ []) → (a ≡ false) × (b ≡ false) × (c ≡ false) × (d ≡ false) × (e ≡ false)
+pub five : (a b c d e : Bool) → 0 ≡ firstOf (4 ∷ 5 ∷ 6 ∷ 8 ∷ 9 ∷ []) (a ∷ b ∷ c ∷ d ∷ e ∷ []) → (a ≡ false) × (b ≡ false) × (c ≡ false) × (d ≡ false) × (e ≡ false)
 five false false false false false h = (refl, refl, refl, refl, refl)
 five false false false false true h = absurd (omega arith)
 five false false false true e h = absurd (omega arith)

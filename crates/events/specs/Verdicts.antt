@@ -41,20 +41,27 @@ abbrev pub Judged : Probe → Name → Verdict → Type 0
 Judged p n (Verdict.Refused why) = eventOf p n ≡ refuse (refusalNumber why)
 Judged p n (Verdict.Number i) = Admitted p n i
 
--- refusals 4 to 9 as they concern an event, by the parts that they look at: a new identifier meets a full register where its number is no place of it
+-- refusals 5 to 9 of an event of the identifier with a number, by the parts that they look at, with room for so many identifiers: a new one finds none where
+-- its number is no place
+abbrev pub numberTests : Windows → Listed → ℕ → ℕ → List Bool
+numberTests w l room i = eqb (w .current) 0 ∷ leb 32767 (w .events) ∷ leb room i ∷ (not (elem i (listed l)) && leb 64 (length (listed l))) ∷ []
+
+-- refusals 4 to 9 of an event, where these identifiers are there
+abbrev pub testsAmong : Windows → Listed → ℕ → List Name → Name → List Bool
+testsAmong w l room ms n = badLength n ∷ numberTests w l room (numberOf ms n)
+
+-- the same for the identifiers of a register
 abbrev pub turnTests : Windows → Listed → List ℕ → Name → List Bool
-turnTests w l register n =
-    badLength n
-    ∷ eqb (w .current) 0
-    ∷ leb 32767 (w .events)
-    ∷ leb (length register / 65) (numberOf (names register) n)
-    ∷ (not (elem (numberOf (names register) n) (listed l)) && leb 64 (length (listed l)))
-    ∷ []
+turnTests w l register n = testsAmong w l (length register / 65) (names register) n
+
+-- a verdict by tests with these numbers, of an identifier with the number m
+abbrev pub Weighed : List ℕ → List Bool → ℕ → Verdict → Type 0
+Weighed ns ts m (Verdict.Refused why) = refusalNumber why ≡ firstOf ns ts
+Weighed ns ts m (Verdict.Number i) = (0 ≡ firstOf ns ts) × (i ≡ m)
 
 -- a verdict of refusals 4 to 9
 abbrev pub Turned : Windows → Listed → List ℕ → Name → Verdict → Type 0
-Turned w l register n (Verdict.Refused why) = refusalNumber why ≡ firstOf (past 3 order.event) (turnTests w l register n)
-Turned w l register n (Verdict.Number i) = (0 ≡ firstOf (past 3 order.event) (turnTests w l register n)) × (i ≡ numberOf (names register) n)
+Turned w l register n v = Weighed (past 3 order.event) (turnTests w l register n) (numberOf (names register) n) v
 
 -- an identifier of a good length has its number's entry in the register, used or not
 pub record Placed (register : List ℕ) (n : Name) (i : ℕ) : Type 0 where

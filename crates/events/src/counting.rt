@@ -33,7 +33,7 @@ pub fn must_flush(b: Buffer, i: u16, window: u16) -> bool
 }
 
 // One event more in the open window. N stays until it is closed.
-fn count_window(w: Windows) -> Windows
+pub fn count_window(w: Windows) -> Windows
     requires { ⌜ w .events < 32767 ⌝ }
     ensures { λ r. ⌜ r ≡ record { last = w .last; live = w .live; current = w .current; events = suc (w .events) } ⌝ }
 {
@@ -46,7 +46,7 @@ fn count_window(w: Windows) -> Windows
 }
 
 // The identifier listed at its first event in the window.
-fn count_listed(l: Listed, i: u16) -> Listed
+pub fn count_listed(l: Listed, i: u16) -> Listed
     requires { ⌜ (l .used ≤ 64) × (length (l .ids) ≡ 64 → l ≡ listedOf (listed l)) × (elem i (listed l) ≡ false → length (listed l) < 64) ⌝ }
     ensures { λ r. ⌜ r ≡ listedOf (cond (elem i (listed l)) (listed l) (listed l ++ (i ∷ []))) ⌝ }
 {
@@ -57,7 +57,7 @@ fn count_listed(l: Listed, i: u16) -> Listed
 }
 
 // One count more of the identifier in the open window.
-fn count_pair(b: Buffer, w: Windows, i: u16) -> Buffer
+pub fn count_pair(b: Buffer, w: Windows, i: u16) -> Buffer
     requires { ⌜ (bufferRule w b ≡ true) × (w .events < 32767) × (any (samePair (pair i (w .current))) (buffered b) ≡ false → length (buffered b) < 128) ⌝ }
     ensures { λ r. ⌜ r ≡ bufferOf (put (pair i (w .current)) (buffered b)) ⌝ }
 {

@@ -11,10 +11,11 @@ ghost use Prim.Native.Nat.{_≤_};
 ghost use lib.Dec.{leb};
 ghost use lib.ListN.{length};
 ghost use Rattle.lists.specs.Lists.{elem};
+ghost use Rattle.answers.specs.Order.{event, past};
 ghost use Rattle.state.specs.Views.{listed};
 ghost use Rattle.identifiers.specs.Register.{registerRule};
 ghost use Rattle.windows.specs.Promises.{probeOf};
-ghost use Rattle.events.specs.Verdicts.{Judged, Turned};
+ghost use Rattle.events.specs.Verdicts.{Judged, numberTests, Weighed, Turned};
 
 // Would the identifier be a 65th?
 fn is_full(l: Listed, i: u16) -> bool
@@ -24,8 +25,28 @@ fn is_full(l: Listed, i: u16) -> bool
     !state::ids::is_listed(l, i) & (l.used >= 64)
 }
 
-// Judges an event's identifier and its turn, where refusals 1 to 3 are ruled out: the open window, its events, and the room for the identifier. A new
-// identifier gets the number of those that there are, which is one of the register's places unless that is full.
+// Judges the turn of an identifier by its number: the open window, its events, and the room for the identifier. A new one has the number of those that there
+// are, which is no place where there is no room for it.
+pub fn judge_number(w: Windows, l: Listed, room: usize, i: usize) -> Verdict
+    requires { ⌜ (l .used ≤ 64) × (room ≤ 1024) ⌝ }
+    ensures { λ r. ⌜ Weighed (past 4 event) (numberTests w l room i) i r ⌝ }
+{
+    if w.current == 0 {
+        return Verdict::Refused(Refusal::OutOfTurn);
+    }
+    if w.events >= 32767 {
+        return Verdict::Refused(Refusal::Exhausted);
+    }
+    if i >= room {
+        return Verdict::Refused(Refusal::RegisterFull);
+    }
+    if is_full(l, i as u16) {
+        return Verdict::Refused(Refusal::WindowFull);
+    }
+    Verdict::Number(i as u16)
+}
+
+// Judges an event's identifier and its turn, where refusals 1 to 3 are ruled out.
 fn judge_turn(w: Windows, l: Listed, register: &[u8], id: &[u8]) -> Verdict
     requires { ⌜ (l .used ≤ 64) × (length (now register) ≤ 66560) × (registerRule (now register) ≡ true) ⌝ }
     ensures { λ r. ⌜ Turned w l (now (register .entry)) (now (id .entry)) r ⌝ }
@@ -33,20 +54,12 @@ fn judge_turn(w: Windows, l: Listed, register: &[u8], id: &[u8]) -> Verdict
     if identifiers::bad_length(id) {
         return Verdict::Refused(Refusal::BadIdentifier);
     }
-    if w.current == 0 {
-        return Verdict::Refused(Refusal::OutOfTurn);
-    }
-    if w.events >= 32767 {
-        return Verdict::Refused(Refusal::Exhausted);
-    }
-    let i = identifiers::find(register, id);
-    if i >= register.len() / identifiers::ENTRY {
-        return Verdict::Refused(Refusal::RegisterFull);
-    }
-    if is_full(l, i as u16) {
-        return Verdict::Refused(Refusal::WindowFull);
-    }
-    Verdict::Number(i as u16)
+    judge_number(
+        w,
+        l,
+        register.len() / identifiers::ENTRY,
+        identifiers::find(register, id),
+    )
 }
 
 // Judges an event.

@@ -7,8 +7,8 @@ ghost use Rattle.windows.specs.Promises.{probeOf};
 ghost use Rattle.events.specs.Event.{Counts};
 ghost use Rattle.events.specs.Verdicts.{Admitted};
 
-mod counting; // counting an event that is judged
-mod judging; // judging an event
+pub mod counting; // counting an event that is judged
+pub mod judging; // judging an event
 
 // What an event comes to before anything is written: its identifier's number, or a refusal.
 pub enum Verdict {

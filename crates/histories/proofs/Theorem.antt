@@ -1,9 +1,9 @@
 -- The history theorem: for all buffers within the limits and all lists of calls, the engine's answers from a fresh card are those of ledger and account.
-use Rattle.lists.proofs.Prelude.{true, List, _≡_, sym, subst, ℕ, _/_, _%_, _≤_, eqb, leb, leb-true, AllOf, and-right}
+use Rattle.lists.proofs.Prelude.{true, List, _≡_, sym, subst, ℕ, _/_, _%_, _≤_, eqb, leb, leb-true, and-right}
 use Rattle.state.specs.Rules.{cardLength, registerLength}
 use Rattle.accounts.specs.Account.{emptyAccount}
 use Rattle.accounts.specs.Ledger.{emptyLedger}
-use Rattle.accounts.specs.Books.{booksCall, expected, Granted}
+use Rattle.accounts.specs.Books.{AllGranted, booksCall, expected}
 use Rattle.accounts.specs.Lists.{noLists}
 use Rattle.windows.specs.Calls.{fresh}
 use Rattle.engine.specs.Calls.{Call, probeCall, afterwards}
@@ -23,9 +23,9 @@ same-answers c r cardFits registerFits cs =
     runs-simulated (record { card = c; register = r }) (entries-most r registerFits) cs _ _ _
     (stored-fresh c r cardFits registerFits) (stands-fresh (c / 4096) (r / 65) (entries-most r registerFits))
 
--- so no call on an own card is refused with 1, 2 or 3
-pub none-malformed : (c r : ℕ) → cardLength c ≡ true → registerLength r ≡ true → (cs : List Call) → AllOf Granted (answers c r cs)
-none-malformed c r cardFits registerFits cs = subst (AllOf Granted) (sym (theorem c r cardFits registerFits cs)) (all-granted (c / 4096) (r / 65) cs)
+-- so no call on an own card is refused with 1, 2 or 3, but with 3 for a plan that breaks the rule of plans
+pub none-malformed : (c r : ℕ) → cardLength c ≡ true → registerLength r ≡ true → (cs : List Call) → AllGranted cs (answers c r cs)
+none-malformed c r cardFits registerFits cs = subst (AllGranted cs) (sym (theorem c r cardFits registerFits cs)) (all-granted (c / 4096) (r / 65) cs)
   where
     theorem : (c r : ℕ) → cardLength c ≡ true → registerLength r ≡ true → (cs : List Call) → answers c r cs ≡ expected (c / 4096) (r / 65) cs
     theorem = unfold SameAnswers in same-answers

@@ -2,14 +2,15 @@
 use mathlib.Core.Bool.{Bool, true, false}
 use mathlib.Core.List.{List, [], _∷_, _++_, map, reverse}
 use mathlib.Core.Path.{_≡_}
-use Prim.Native.Nat.{ℕ, zero, suc, _*_, _/_}
+use Prim.Native.Nat.{ℕ, zero, suc, _-_, _*_, _/_}
 use lib.ListN.{take, length, replicate}
+use Rattle.lists.specs.Lists.{joined}
 use Rattle.weights.specs.Weights.{tfWeight, idfWeight}
-use Rattle.answers.specs.Answers.{Answer, done, number, hits, mean, refused}
+use Rattle.answers.specs.Answers.{halted, Answer, done, number, hits, mean, forecast, refused}
 use Rattle.answers.specs.declared.Hit.{Hit}
 use Rattle.identifiers.specs.Names.{Name, badLength, numberOf}
 use Rattle.identifiers.specs.Register.{names, registerRule, added}
-use Rattle.engine.specs.Calls.{Call, Open, Event, Close, Remove, RemoveAll, Flush, Step, Query, Mean}
+use Rattle.engine.specs.Calls.{Call, Open, Event, Close, Remove, RemoveAll, Flush, Step, Query, Mean, Forecast}
 use Rattle.accounts.specs.Books.{expected}
 use Rattle.histories.specs.Statement.{answers}
 
@@ -56,6 +57,10 @@ twoClosed = Open ∷ Event TILT ∷ Close ∷ Open ∷ Event DOOR ∷ Close ∷ 
 -- a query for LUCKY and TILT
 abbrev pub asked : Call
 asked = Query 32 (LUCKY ∷ TILT ∷ [])
+
+-- the entries of a plan's identifiers
+abbrev pub planOf : List Name → List ℕ
+planOf ns = joined (map (λ (n : Name). length n ∷ (n ++ replicate (64 - length n) 0)) ns)
 
 -- an empty register of three entries, to which identifiers are added in turn
 abbrev pub withNames : List ℕ → List Name → List ℕ
@@ -145,6 +150,10 @@ table =
     -- with 5; each time nothing moves. 3 and 1 go together, and LUCKY is in window 2 alone, the only one, which weighs 0
     ∷ History 4 (three ++ (RemoveAll [] ∷ RemoveAll (1 ∷ 2 ∷ 1 ∷ []) ∷ RemoveAll (1 ∷ 9 ∷ []) ∷ asked ∷ Open ∷ Event DOOR ∷ RemoveAll (1 ∷ 4 ∷ []) ∷ asked ∷ RemoveAll (3 ∷ 1 ∷ []) ∷ asked ∷ []))
     (refused 16 ∷ refused 16 ∷ refused 7 ∷ hits (hit 1 432 ∷ hit 3 144 ∷ hit 2 144 ∷ []) 4 ∷ number 4 ∷ done ∷ refused 5 ∷ hits (hit 1 432 ∷ hit 3 144 ∷ hit 2 144 ∷ []) 4 ∷ done ∷ hits (hit 2 0 ∷ []) 1 ∷ [])
+    -- forecasts, with one partition on the card and three identifiers counted: a window with LUCKY and a new identifier, one without events, and one whose second event has no
+    -- identifier, at which the plan stops with 4. A list that does not add up is refused with 3. While a window is open, a plan stops at its first open with 5
+    ∷ History 4 (three ++ (Flush ∷ Forecast (planOf (LUCKY ∷ AsB ∷ DOOR ∷ [] ∷ AsC ∷ [])) (2 ∷ 0 ∷ 3 ∷ []) ∷ Forecast (planOf (LUCKY ∷ [])) (2 ∷ []) ∷ Open ∷ Forecast (planOf (LUCKY ∷ [])) (1 ∷ []) ∷ []))
+    (forecast 0 1 4 (halted 3 2 4) ∷ refused 3 ∷ number 4 ∷ forecast 0 1 3 (halted 1 0 5) ∷ [])
     -- the command program's example
     ∷ History 16 (Open ∷ Event LUCKY ∷ Event LUCKY ∷ Event LUCKY ∷ Event TILT ∷ Close ∷ Open ∷ Event LUCKY ∷ Close ∷ Query 2 (LUCKY ∷ TILT ∷ []) ∷ [])
     (number 1 ∷ done ∷ done ∷ done ∷ done ∷ done ∷ number 2 ∷ done ∷ done ∷ hits (hit 1 256 ∷ hit 2 0 ∷ []) 3 ∷ [])

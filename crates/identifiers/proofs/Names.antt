@@ -1,5 +1,5 @@
 -- Laws of identifiers in a list: which is among them, whether they differ, and their numbers.
-use Rattle.lists.proofs.Prelude.{Bool, true, false, _&&_, _||_, not, cond, or-false, or-comm, List, [], _∷_, _++_, _≡_, refl, sym, _∙_, ℕ, zero, suc, _<_, _≤_, arith, not-true, length, getD, take, drop, take-append-drop, drop-cons, take-suc, same, by-test, and-left, and-right, or-none, same-refl, same-true, same-swap, any-at, any-append}
+use Rattle.lists.proofs.Prelude.{Bool, true, false, _&&_, _||_, not, cond, or-false, or-comm, List, [], _∷_, _++_, _≡_, refl, sym, _∙_, ℕ, zero, suc, _<_, _≤_, arith, leb, not-true, leb-true, leb-false, le-leb, lt-leb, length, getD, take, drop, take-append-drop, drop-cons, take-suc, same, by-test, and-left, and-right, or-none, same-refl, same-true, same-swap, any-at, any-append}
 use Rattle.identifiers.specs.Names.{Name, among, distinct, numberOf}
 
 -- The number of an identifier ---------------------------------------------------------------------------------------
@@ -44,6 +44,16 @@ number-added (m ∷ ms) n e = let h = or-none (same m n) _ e in rw (h .0, number
 pub number-kept : (ms ns : List Name) (n : Name) → among n ms ≡ true → numberOf (ms ++ ns) n ≡ numberOf ms n
 number-kept [] ns n e = cc
 number-kept (m ∷ ms) ns n e = by-test (same m n) (λ y. rw y) (λ y. rw (y, number-kept ms ns n (rw y at e)))
+
+-- where there is room for k identifiers and there are m, a new one finds none exactly where its number is no place
+pub number-full : (i m k : ℕ) → i ≤ m → m ≤ k → (leb m i && leb k m) ≡ leb k i
+number-full i m k a b =
+    by-test (leb k i)
+    (λ y. let h : k ≤ i = leb-true _ _ y in rw (y, le-leb m i (omega arith), le-leb k m (omega arith)))
+    (λ f. let h : i < k = leb-false _ _ f in
+    by-test (leb m i)
+    (λ z. let g : m ≤ i = leb-true _ _ z in rw (f, z, lt-leb k m (omega arith)))
+    (λ z. rw (f, z)))
 
 -- the identifiers from place i on
 pub number-step : (ms : List Name) (n : Name) (i : ℕ) → i < length ms

@@ -43,7 +43,7 @@ pub fn equal(a: &[u8], b: &[u8]) -> bool
 }
 
 // Is every byte zero?
-fn zeros(bytes: &[u8]) -> bool
+pub fn zeros(bytes: &[u8]) -> bool
     ensures { λ r. ⌜ r ≡ every (λ b. eqb b 0) (now (bytes .entry)) ⌝ }
 {
     let mut i: usize = 0;

@@ -3,7 +3,7 @@ use mathlib.Core.List.{List, []}
 use mathlib.Core.Path.{_≡_}
 use Prim.Native.Nat.{ℕ, _≤_}
 use lib.ListN.{replicate}
-use Rattle.answers.specs.Answers.{Answer, done, number, hits, mean, refused, answerOf}
+use Rattle.answers.specs.Answers.{Answer, done, number, hits, mean, forecast, refused, answerOf}
 use Rattle.answers.specs.Numbers.{foundAs}
 use Rattle.answers.specs.declared.Found.{Found}
 use Rattle.answers.specs.declared.Found.the-variants as found
@@ -23,6 +23,7 @@ hitsIn done = []
 hitsIn (number n) = []
 hitsIn (hits l n) = l
 hitsIn (mean q r f) = []
+hitsIn (forecast k b m h) = []
 hitsIn (refused n) = []
 
 -- the answer to a query with a list of k places

@@ -6,7 +6,7 @@ use Prim.Native.Nat.{ℕ, zero, suc, _+_, _/_, _%_, _≤_}
 use lib.Dec.{ltb}
 use lib.ListN.{length, take}
 use Rattle.lists.specs.Lists.{joined}
-use Rattle.answers.specs.Answers.{Answer, done, number, hits, mean, refused}
+use Rattle.answers.specs.Answers.{Answer, done, number, hits, mean, forecast, refused}
 use Rattle.answers.specs.declared.Hit.{Hit}
 use Rattle.answers.specs.declared.Found.{Found}
 use Rattle.answers.specs.declared.Found.the-variants as found
@@ -28,12 +28,13 @@ abbrev pub hitText : Hit → List ℕ
 hitText h = pairText (h .window) (h .score)
 
 -- the lines of an answer. A query's: how many hits and the postings taken, then the hits; a mean's, which no command asks for: quotient, remainder and
--- windows; a refusal's: `!` (33) and its number
+-- windows; a forecast's, which none asks for either: flushes, blocks and entries; a refusal's: `!` (33) and its number
 unfoldable pub answerText : Answer → List ℕ
 answerText done = 48 ∷ 10 ∷ []
 answerText (number n) = decimal n ++ (10 ∷ [])
 answerText (hits l taken) = pairText (length l) taken ++ joined (map hitText l)
 answerText (mean q r f) = decimal q ++ (32 ∷ pairText r f)
+answerText (forecast k b m h) = decimal k ++ (32 ∷ pairText b m)
 answerText (refused n) = 33 ∷ (decimal n ++ (10 ∷ []))
 
 -- the line for what is no command: `?`

@@ -4,6 +4,7 @@ use Rattle.words.specs.Words.{words}
 use Rattle.answers.specs.Answers.{answerOf}
 use Rattle.answers.specs.Numbers.{replied}
 use Rattle.answers.proofs.Reply.{the-type}
+use Rattle.answers.proofs.Unrefused.{reply-done}
 use Rattle.state.specs.Views.{buffered}
 use Rattle.state.specs.Probe.{storeOf}
 use Rattle.state.proofs.Kept.{state-kept}
@@ -12,7 +13,7 @@ use Rattle.sums.specs.Views.{countsIn}
 use Rattle.batches.specs.Steps.{roomOf, Roomy, removalAfter}
 use Rattle.removals.proofs.Turns.{card-words}
 use Rattle.batches.proofs.Chain.{countsAt, reckoned-none, reached-end}
-use Rattle.batches.proofs.Judging.{reached-none, reply-done, Going, going-refused, Onward, going-on}
+use Rattle.batches.proofs.Judging.{reached-none, Going, going-refused, Onward, going-on}
 use Rattle.batches.proofs.judge_all.Statement.{statement}
 use Rattle.batches.proofs.judge_all.Tie as tie
 

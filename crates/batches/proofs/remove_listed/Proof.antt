@@ -3,7 +3,8 @@ use Rattle.lists.proofs.Prelude.{refl, sym, ap, _∙_, needs}
 use Rattle.answers.specs.Answers.{done}
 use Rattle.answers.specs.Numbers.{replied}
 use Rattle.answers.proofs.Reply.{the-type}
-use Rattle.batches.proofs.Judging.{reply-done, gives-refused, gives-done}
+use Rattle.answers.proofs.Unrefused.{reply-done}
+use Rattle.batches.proofs.Judging.{gives-refused, gives-done}
 use Rattle.batches.proofs.remove_listed.Statement.{statement}
 use Rattle.batches.proofs.remove_listed.Tie as tie
 

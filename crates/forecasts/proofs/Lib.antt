@@ -1,0 +1,12 @@
+pub mod Alike
+pub mod Refused
+pub mod Names
+pub mod Buffers
+pub mod Judging
+pub mod Entering
+pub mod Beginning
+pub mod Following
+pub mod Along
+pub mod Opening
+pub mod Windows
+pub mod Told

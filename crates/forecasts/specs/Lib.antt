@@ -1,0 +1,4 @@
+pub mod Plan
+pub mod Course
+pub mod Outlook
+pub mod Sketches
