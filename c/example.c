@@ -1,5 +1,5 @@
 /* Counts events in nine windows, with a flush after each, merges the partitions a step at a time, and queries before, between and after. Tells the
- * mean count of an identifier before a removal and after, and removes windows together. */
+ * mean count of an identifier before a removal and after, removes windows together, and forecasts what two plans would take. */
 #include "gemsilver.h"
 
 #include <stdio.h>
@@ -52,6 +52,32 @@ static void remove_all(const uint32_t *windows, size_t count) {
     query();
 }
 
+/* Windows of three events each. */
+static void forecast(const char *const *identifiers, size_t windows) {
+    uint8_t plan[6 * GEMSILVER_ENTRY];
+    uint32_t counts[2];
+    for (size_t i = 0; i < 3 * windows; i++) {
+        gemsilver_lay_out(plan + GEMSILVER_ENTRY * i, (const uint8_t *)identifiers[i], strlen(identifiers[i]));
+    }
+    for (size_t i = 0; i < windows; i++) {
+        counts[i] = 3;
+    }
+    uint64_t told_of[GEMSILVER_TOLD];
+    uint32_t refusal = gemsilver_forecast(image, sizeof image, reg, sizeof reg, plan, 3 * windows * GEMSILVER_ENTRY, counts,
+                                          windows, told_of);
+    if (refusal != 0) {
+        told("forecast", refusal);
+        return;
+    }
+    printf("forecast: %u flushes, %u blocks, %u entries", (unsigned)told_of[GEMSILVER_TOLD_FLUSHES],
+           (unsigned)told_of[GEMSILVER_TOLD_BLOCKS], (unsigned)told_of[GEMSILVER_TOLD_ENTRIES]);
+    if (told_of[GEMSILVER_TOLD_REFUSAL] != 0) {
+        printf(", up to window %u, event %u: %s", (unsigned)told_of[GEMSILVER_TOLD_WINDOW], (unsigned)told_of[GEMSILVER_TOLD_EVENT],
+               gemsilver_refusal_text((uint32_t)told_of[GEMSILVER_TOLD_REFUSAL]));
+    }
+    printf("\n");
+}
+
 int main(void) {
     told("start", gemsilver_start(image, sizeof image, card, sizeof card, reg, sizeof reg));
     for (int window = 1; window <= 9; window++) {
@@ -87,6 +113,10 @@ int main(void) {
     remove_all(windows, 3); /* 9 is removed already, so that 4 and 6 stay */
     remove_all(windows, 2);
     remove_all(NULL, 0);
+    const char *const fits[] = {"LUCKY", "COIN", "LUCKY"};
+    const char *const stops[] = {"DOOR", "COIN", "BELL", "COIN", "", "LUCKY"}; /* an empty identifier is none */
+    forecast(fits, 1);
+    forecast(stops, 2);
     printf("register %s\n", gemsilver_register_ok(reg, sizeof reg) ? "well formed" : "malformed");
     event(""); /* no window is open, but an empty identifier comes first */
     return 0;

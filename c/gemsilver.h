@@ -1,5 +1,5 @@
 /* Gemsilver for C and C++: counts events by identifier in windows of play, keeps them on a card, finds the closed windows that match best,
- * tells the mean count of an identifier, and removes windows, one or several together.
+ * tells the mean count of an identifier, removes windows, one or several together, and forecasts what a planned session would take.
  *
  * The caller lends three buffers and hands them back to the next call as they were left: the state's image, the card and the register.
  * docs/FORMAT.md tells them byte by byte. They belong together: save all three or none, and at the same moment.
@@ -8,16 +8,16 @@
  * - It ends, stays inside the buffers lent, and where it refuses it changes none of them. The one exception is said at gemsilver_start.
  * - Nothing is kept between calls but these buffers: any thread may call, and any number of probes may be used at a time, each with
  *   buffers of its own. Two calls on one probe at the same time are the caller's mistake.
- * - A buffer may stand at any address, with any alignment; a list of identifiers or of windows is aligned as its type is. Buffers that a call
+ * - A buffer may stand at any address, with any alignment; a list of identifiers, of windows or of numbers is aligned as its type is. Buffers that a call
  *   writes (those without const) may overlap no other buffer of the call; those that it only reads may overlap each other.
  * - NULL with a length of 0 is an empty buffer. It is judged like any other of that length: an empty image is refused with 1, an empty card or
- *   register with 2, an empty identifier with 4, no identifiers and an empty list of hits with 14, an empty list of windows with 16.
+ *   register with 2, an empty identifier with 4, no identifiers and an empty list of hits with 14, an empty list of windows with 16. A plan may be empty.
  *
  * The archive: `rt staticlib capi` writes target/staticlib/libcapi.a, for x86-64 Linux. It uses no heap and keeps nothing of its own; of the C
  * library it needs memcpy and memset alone.
  *
  * Stack, in bytes as measured on x86-64 (docs/PERFORMANCE.md); leave some more: start 1,720, open 4,904, close 4,632, event 11,208, flush 10,312, remove 14,040,
- * remove_all 26,776, step 12,136, query 12,168, mean 9,000. */
+ * remove_all 26,776, step 12,136, query 12,168, mean 9,000, forecast 14,488. */
 #ifndef GEMSILVER_H
 #define GEMSILVER_H
 
@@ -33,13 +33,14 @@ extern "C" {
 #define GEMSILVER_BLOCK 4096            /* a block of the card */
 #define GEMSILVER_LEAST_BLOCKS 4        /* a card has 4 to 4,096 blocks */
 #define GEMSILVER_MOST_BLOCKS 4096
-#define GEMSILVER_ENTRY 65              /* an entry of the register */
+#define GEMSILVER_ENTRY 65              /* an entry of the register or of a plan */
 #define GEMSILVER_MOST_ENTRIES 1024     /* a register has 1 to 1,024 entries */
 #define GEMSILVER_LONGEST_IDENTIFIER 64 /* an identifier has 1 to 64 bytes */
 #define GEMSILVER_HIT 8                 /* a place in a list of hits */
 #define GEMSILVER_MOST_HITS 32          /* a list has 1 to 32 places */
 #define GEMSILVER_MOST_IDENTIFIERS 5    /* a query names 1 to 5 identifiers */
 #define GEMSILVER_MOST_WINDOWS 32       /* 1 to 32 windows are removed together */
+#define GEMSILVER_TOLD 6                /* how many numbers a forecast tells */
 
 /* Why a call is refused, in the order in which it is tested; but a list of windows, 16, is tested after 3. */
 enum gemsilver_refusal {
@@ -200,6 +201,36 @@ static inline uint32_t gemsilver_mean_remainder(uint64_t mean) {
 
 static inline uint32_t gemsilver_mean_quotient(uint64_t mean) {
     return (uint32_t)(mean >> 48);
+}
+
+/* What a planned session would come to if its windows were opened, their events counted and the windows closed one after the other, with no merge steps
+ * between. plan has GEMSILVER_ENTRY bytes for each event, in order, as the register has them for an identifier: the length, the bytes, then zeros. counts
+ * tells how many of them belong to each window; a window may have none. 0, or a refusal: 1; 2, for the register; 3, for the register, and where plan is not
+ * whole entries, where counts do not add up to them, or where an entry, wherever it stands, has a byte other than zero after its identifier. It only reads,
+ * and no card is lent to it.
+ *
+ * told points to room for GEMSILVER_TOLD numbers, which stay as they are where the call is refused; their places are named below. Where no call of the plan
+ * would be refused, window, event and refusal are 0. Else they name the first that would be, and what comes before it is what is counted. A length byte of 0
+ * or above 64 is an event that would be refused with 4; a window that is open already refuses the plan's first one with 5. */
+uint32_t gemsilver_forecast(const uint8_t *image, size_t image_length, const uint8_t *reg, size_t reg_length, const uint8_t *plan,
+                            size_t plan_length, const uint32_t *counts, size_t count_count, uint64_t told[GEMSILVER_TOLD]);
+
+/* The places of what a forecast tells. */
+enum gemsilver_told {
+    GEMSILVER_TOLD_FLUSHES = 0, /* how many events would write the buffer to the card first */
+    GEMSILVER_TOLD_BLOCKS = 1,  /* how many blocks finished partitions would have */
+    GEMSILVER_TOLD_ENTRIES = 2, /* how many entries of the register would be used */
+    GEMSILVER_TOLD_WINDOW = 3,  /* the window of the plan that it would stop in, from 1 */
+    GEMSILVER_TOLD_EVENT = 4,   /* the event of that window, from 1; 0 where the window would not be opened */
+    GEMSILVER_TOLD_REFUSAL = 5  /* why it would stop there */
+};
+
+/* Lays an identifier out as an entry of GEMSILVER_ENTRY bytes. One of more than 64 bytes makes an entry too, at which a plan stops as the event would. */
+static inline void gemsilver_lay_out(uint8_t *entry, const uint8_t *identifier, size_t length) {
+    entry[0] = (uint8_t)(length < 255 ? length : 255);
+    for (size_t i = 0; i + 1 < GEMSILVER_ENTRY; i++) {
+        entry[i + 1] = i < length ? identifier[i] : 0;
+    }
 }
 
 /* 1 where a register keeps its rule: 1 to 1,024 whole entries, used ones first and all different, unused ones zero; else 0. */

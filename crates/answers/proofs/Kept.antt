@@ -5,7 +5,7 @@ use mathlib.Core.Path.{_≡_, refl}
 use Prim.Native.Nat.{ℕ}
 use native.Mathlib.Omega.{arith}
 use Rattle.answers.specs.declared.Hit.{Hit}
-use Rattle.answers.specs.Answers.{Halt, done, number, hits, mean, forecast, Outcome, refuse, leave, refuseIf, choose, next, inTurn, stateOf, carry}
+use Rattle.answers.specs.Answers.{done, number, hits, mean, Outcome, refuse, leave, refuseIf, choose, next, inTurn, stateOf, carry}
 use Rattle.answers.specs.Unchanged.{Unchanged}
 
 module _ {S : Type 0} {s : S} where
@@ -30,9 +30,6 @@ module _ {S : Type 0} {s : S} where
 
   pub unchanged-mean : (q r f : ℕ) (t : S) → Unchanged s (leave (mean q r f) t)
   unchanged-mean q r f t = record { same = λ m e. let z : _≡_ {A = ℕ} 0 1 = cc in absurd (omega arith) }
-
-  pub unchanged-forecast : (k b m : ℕ) (h : Halt) (t : S) → Unchanged s (leave (forecast k b m h) t)
-  unchanged-forecast k b m h t = record { same = λ n e. let z : _≡_ {A = ℕ} 0 1 = cc in absurd (omega arith) }
 
   unchanged-next : (o : Outcome S) (k : S → Outcome S) → ((u : S) → Unchanged s (k u)) → Unchanged s (next o k)
   unfolding next

@@ -3,8 +3,6 @@ use Rattle.lists.proofs.Prelude.{Bool, true, false, cond, not, List, [], _∷_,
 use Rattle.words.specs.Words.{words, bytes}
 use Rattle.postings.specs.declared.Posting.{Posting}
 use Rattle.postings.specs.Merge.{put, nonzero, negated}
-use Rattle.answers.specs.declared.Refusal.{Refusal}
-use Rattle.answers.specs.declared.Reply.{Reply}
 use Rattle.answers.specs.Answers.{Answer, leave, done, refused, answerOf, stateOf, inTurn}
 use Rattle.answers.proofs.Kept.{unchanged-turn}
 use Rattle.state.specs.declared.Windows.{Windows}

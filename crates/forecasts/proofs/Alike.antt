@@ -1,5 +1,5 @@
 -- Plans followed on two things that stay alike are told alike.
-use Rattle.lists.proofs.Prelude.{cond, List, [], _∷_, _≡_, refl, ap, ap₂, _∙_, ℕ, suc, ltb}
+use Rattle.lists.proofs.Prelude.{cond, List, [], _∷_, _≡_, ap, ap₂, _∙_, ℕ, suc, ltb}
 use Rattle.answers.specs.Answers.{Answer, forecast, halted, never, Outcome, refuse, leave, after}
 use Rattle.forecasts.specs.Plan.{Planned, Placed}
 use Rattle.forecasts.specs.Course.{Gauge, told, writes, follow}

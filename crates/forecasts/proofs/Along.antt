@@ -1,14 +1,13 @@
 -- The events of a plan's window, one after another.
-use Rattle.lists.proofs.Prelude.{List, [], _∷_, _++_, _≡_, refl, sym, ap, ap₂, _∙_, subst, ℕ, suc, _+_, _-_, _*_, _/_, _<_, _≤_, add-one, arith, length}
+use Rattle.lists.proofs.Prelude.{List, _∷_, _++_, _≡_, refl, sym, ap, ap₂, _∙_, subst, ℕ, suc, _+_, _-_, _*_, _/_, _<_, _≤_, arith, length}
 use Rattle.answers.specs.Answers.{halted}
 use Rattle.answers.specs.declared.Refusal.{Refusal}
 use Rattle.answers.specs.declared.Reply.{Reply}
 use Rattle.answers.specs.declared.Stop.{Stop}
 use Rattle.answers.specs.Numbers.{refusalNumber}
-use Rattle.identifiers.specs.Names.{Name}
 use Rattle.identifiers.specs.Register.{entries}
 use Rattle.forecasts.specs.declared.Sketch.{Sketch}
-use Rattle.forecasts.specs.Plan.{Placed, counting, closing, eventCalls}
+use Rattle.forecasts.specs.Plan.{Placed, counting, eventCalls}
 use Rattle.forecasts.specs.Course.{told}
 use Rattle.forecasts.specs.Outlook.{outlookGauge, planned}
 use Rattle.forecasts.specs.Sketches.{identifierAt, outlook, Sound, eventAt, Done, Made, ahead, Followed, stretch, closedBy, Opened, Counting}

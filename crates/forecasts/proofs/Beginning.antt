@@ -1,5 +1,5 @@
 -- The sketch that a forecast begins with.
-use Rattle.lists.proofs.Prelude.{true, List, map, append-nil, ⊎-elim, _≡_, refl, ℕ, _*_, _≤_, zero-le, arith, eqb, length, take, length-keep, length-take}
+use Rattle.lists.proofs.Prelude.{true, append-nil, ⊎-elim, _≡_, refl, ℕ, _≤_, zero-le, arith, eqb, length-keep, length-take}
 use Rattle.state.specs.declared.Partition.{Partition}
 use Rattle.state.specs.declared.State.{State}
 use Rattle.state.specs.Views.{listed, buffered, finished}

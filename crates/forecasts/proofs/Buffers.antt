@@ -1,5 +1,5 @@
 -- The buffer keeps its rule when a window is opened or closed and when an event is counted.
-use Rattle.lists.proofs.Prelude.{Bool, true, false, cond, List, [], _∷_, _≡_, refl, sym, ℕ, zero, suc, _+_, _-_, _<_, _≤_, arith, eqb, leb, ℤ, pos, negsuc, natAbs, _+ℤ_, length, eqb-true, eqb-false, any, every, by-test, and-left, and-right, and-both, every-from}
+use Rattle.lists.proofs.Prelude.{Bool, true, false, cond, List, [], _∷_, _≡_, refl, sym, ℕ, suc, _+_, _-_, _<_, _≤_, arith, eqb, leb, ℤ, pos, negsuc, natAbs, _+ℤ_, length, eqb-true, eqb-false, any, every, by-test, and-left, and-right, and-both, every-from}
 use Rattle.postings.specs.declared.Posting.{Posting}
 use Rattle.postings.specs.Order.{precedes, samePair, ordered}
 use Rattle.postings.specs.Merge.{counting, put, isZero}

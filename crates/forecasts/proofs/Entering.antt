@@ -1,6 +1,5 @@
 -- What an event of a plan comes to, past refusals 4 to 9.
-use Rattle.lists.proofs.Prelude.{Bool, true, false, _&&_, not, cond, List, [], _∷_, _++_, map, map-append, append-assoc, _≡_, refl, sym, ap, ap₂, _∙_, subst, ℕ, suc, _+_, _*_, _/_, _<_, _≤_, arith, eqb, ltb, leb, length, take, set, length-append, length-map, length-set, length-take, length-take-le, take-suc-set, leb-true, leb-false, ltb-true, ltb-false, eqb-true, eqb-false, le-ltb, lt-ltb, lt-leb, le-leb, not-true, not-false, any, every, elem, by-test, and-both, every-append}
-use Rattle.postings.specs.declared.Posting.{Posting}
+use Rattle.lists.proofs.Prelude.{Bool, true, false, _&&_, not, cond, List, [], _∷_, _++_, map, map-append, append-assoc, _≡_, refl, sym, ap, ap₂, _∙_, subst, ℕ, suc, _+_, _*_, _/_, _<_, _≤_, arith, eqb, ltb, leb, length, take, set, length-append, length-set, length-take, take-suc-set, leb-true, leb-false, ltb-false, eqb-false, le-ltb, lt-ltb, any, elem, by-test, and-both, every-append}
 use Rattle.postings.specs.Order.{samePair}
 use Rattle.postings.specs.Merge.{put}
 use Rattle.answers.specs.declared.Refusal.{Refusal}
@@ -21,7 +20,7 @@ use Rattle.admission.specs.Admission.{firstOf}
 use Rattle.admission.proofs.Laws.{barred, granted}
 use Rattle.events.proofs.Turns.{five}
 use Rattle.forecasts.specs.declared.Sketch.{Sketch}
-use Rattle.forecasts.specs.Outlook.{Outlook, once, isNew, counted, overflows, flushed, flushTests, flushingIf}
+use Rattle.forecasts.specs.Outlook.{Outlook, counted, overflows, flushed, flushTests, flushingIf}
 use Rattle.forecasts.specs.Sketches.{identifierAt, isPlace, namesWith, outlook, Sound, flushedSketch, countedSketch, Enterable, Done}
 use Rattle.forecasts.proofs.Buffers.{buffer-counted}
 use Rattle.forecasts.proofs.Judging.{names-count}

@@ -1,14 +1,11 @@
 -- A plan followed call by call.
-use Rattle.lists.proofs.Prelude.{cond, List, [], _∷_, _++_, map, _≡_, refl, sym, ap, ap₂, _∙_, ℕ, suc, _+_, _-_, _/_, _<_, _≤_, add-one, arith, ltb, length, take, drop, length-map, drop-cons}
-use Rattle.answers.specs.Answers.{Answer, forecast, halted, Outcome, refuse, leave, after}
-use Rattle.answers.specs.declared.Refusal.{Refusal}
-use Rattle.answers.specs.Numbers.{refusalNumber}
-use Rattle.identifiers.specs.Names.{Name}
+use Rattle.lists.proofs.Prelude.{cond, List, [], _∷_, map, _≡_, ℕ, suc, _+_, _-_, _/_, _<_, _≤_, add-one, arith, ltb, length, length-map, drop-cons}
+use Rattle.answers.specs.Answers.{Answer, halted, Outcome, refuse, leave, after}
 use Rattle.identifiers.specs.Register.{entries}
 use Rattle.recordings.specs.Recording.{identifierIn}
 use Rattle.recordings.proofs.Windows.{identifier-at-place}
 use Rattle.forecasts.specs.declared.Sketch.{Sketch}
-use Rattle.forecasts.specs.Plan.{Planned, Placed}
+use Rattle.forecasts.specs.Plan.{Placed}
 use Rattle.forecasts.specs.Course.{told, follow}
 use Rattle.forecasts.specs.Outlook.{Outlook, outlookGauge, planned}
 use Rattle.forecasts.specs.Sketches.{identifierAt, outlook, stretch, ahead}

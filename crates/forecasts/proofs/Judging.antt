@@ -1,5 +1,5 @@
 -- What an event of a plan comes to, by its verdict.
-use Rattle.lists.proofs.Prelude.{Bool, not, List, [], _∷_, map, _≡_, refl, sym, ap, ap₂, _∙_, ℕ, _+_, _/_, _≤_, arith, eqb, leb, length, take, length-append, length-map, length-take-le, Bool·not-not}
+use Rattle.lists.proofs.Prelude.{Bool, List, [], _∷_, map, _≡_, refl, sym, ap, _∙_, ℕ, _+_, _/_, arith, eqb, length, take, length-append, length-map, length-take-le, Bool·not-not}
 use Rattle.answers.specs.declared.Refusal.{Refusal}
 use Rattle.answers.specs.Answers.{Outcome, refuse, leave, done}
 use Rattle.answers.specs.Numbers.{refusalNumber}

@@ -1,18 +1,17 @@
 -- A plan's window, opened and closed.
-use Rattle.lists.proofs.Prelude.{Bool, true, false, not, cond, List, [], _∷_, _++_, _≡_, refl, sym, ap, _∙_, ℕ, suc, _+_, _-_, _*_, _/_, _<_, _≤_, zero-le, arith, eqb, ltb, leb, length, eqb-true, eqb-false, ne-eqb, leb-false, le-ltb, not-true, not-false, by-test}
+use Rattle.lists.proofs.Prelude.{Bool, true, false, not, cond, List, [], _∷_, _++_, _≡_, refl, sym, ap, _∙_, ℕ, suc, _+_, _-_, _/_, _<_, _≤_, zero-le, arith, eqb, ltb, leb, length, eqb-true, ne-eqb, leb-false, le-ltb, by-test}
 use Rattle.answers.specs.declared.Refusal.{Refusal}
 use Rattle.answers.specs.declared.Stop.{Stop}
-use Rattle.answers.specs.Answers.{Outcome, refuse, leave, refuseIf, done, number}
+use Rattle.answers.specs.Answers.{refuse, leave, refuseIf, done, number}
 use Rattle.answers.specs.Numbers.{refusalNumber}
 use Rattle.state.specs.Views.{listedOf}
 use Rattle.state.proofs.Rows.{held}
-use Rattle.identifiers.specs.Names.{Name}
 use Rattle.admission.specs.Admission.{firstOf}
-use Rattle.admission.proofs.Laws.{barred, granted}
+use Rattle.admission.proofs.Laws.{barred}
 use Rattle.forecasts.specs.declared.Sketch.{Sketch}
 use Rattle.forecasts.specs.Plan.{Placed, opening, closing, eventCalls}
 use Rattle.forecasts.specs.Outlook.{Outlook, opened, closed, planned}
-use Rattle.forecasts.specs.Sketches.{outlook, Sound, ahead, Followed, Unless, stretch, openedSketch, closedSketch, openedBy, closedBy, Opened, Counting, Early, Ready}
+use Rattle.forecasts.specs.Sketches.{outlook, ahead, Followed, stretch, openedSketch, closedSketch, openedBy, closedBy, Opened, Counting, Early, Ready}
 use Rattle.forecasts.proofs.Buffers.{buffer-opened, buffer-closed}
 use Rattle.forecasts.proofs.Following.{follow-refused, follow-done}
 

@@ -1,5 +1,5 @@
 -- Refused means unchanged, for the forecast: nothing is lent to it that it could change.
-use Rattle.lists.proofs.Prelude.{List, ℕ, refl, sym, subst, _≡_}
+use Rattle.lists.proofs.Prelude.{List, ℕ, refl}
 use Rattle.answers.specs.Unchanged.{Unchanged}
 use Rattle.state.specs.declared.State.{State}
 use Rattle.forecasts.specs.Outlook.{forecastOf}

@@ -2,7 +2,7 @@
 use Rattle.lists.proofs.Prelude.{true, _&&_, List, [], _∷_, _≡_, refl, sym, ap, ap₂, _∙_, ℕ, _+_, _/_, _≤_, arith, length, eqb-true, and-left, and-right}
 use Rattle.answers.specs.declared.Refusal.{Refusal}
 use Rattle.answers.specs.declared.Stop.{Stop}
-use Rattle.answers.specs.Answers.{never, halted, Answer, forecast, Outcome, refuse, leave, answerOf}
+use Rattle.answers.specs.Answers.{never, halted, Answer, forecast, refuse, leave}
 use Rattle.answers.specs.Numbers.{refusalNumber, haltAs}
 use Rattle.state.specs.declared.State.{State}
 use Rattle.state.specs.Views.{blocks, registerSize}
@@ -15,9 +15,9 @@ use Rattle.recordings.proofs.Windows.{recording-kept}
 use Rattle.admission.specs.Admission.{firstOf}
 use Rattle.admission.proofs.Laws.{barred, granted, all-three, register-most}
 use Rattle.forecasts.specs.declared.Sketch.{Sketch}
-use Rattle.forecasts.specs.Plan.{Placed, planCalls}
+use Rattle.forecasts.specs.Plan.{planCalls}
 use Rattle.forecasts.specs.Course.{told, follow}
-use Rattle.forecasts.specs.Outlook.{Outlook, outlookOf, outlookGauge, planned, planTests, forecastOf}
+use Rattle.forecasts.specs.Outlook.{outlookOf, outlookGauge, planned, planTests, forecastOf}
 use Rattle.forecasts.specs.Sketches.{outlook, Sound, Lent, Begun, onward, Followed}
 use Rattle.forecasts.proofs.Judging.{names-count}
 use Rattle.forecasts.proofs.Windows.{whole}

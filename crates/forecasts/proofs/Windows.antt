@@ -1,5 +1,5 @@
 -- The windows of a plan, one after another.
-use Rattle.lists.proofs.Prelude.{List, [], _∷_, map, _≡_, refl, ap, _∙_, ℕ, suc, _+_, _-_, _*_, _/_, _<_, _≤_, zero-le, add-one, arith, length, getD, take, drop, totalBy}
+use Rattle.lists.proofs.Prelude.{List, [], map, _≡_, refl, ap, _∙_, ℕ, _+_, _-_, _<_, _≤_, zero-le, add-one, arith, length, getD, take, drop, totalBy}
 use Rattle.answers.specs.declared.Refusal.{Refusal}
 use Rattle.answers.specs.declared.Stop.{Stop}
 use Rattle.identifiers.specs.Names.{Name}

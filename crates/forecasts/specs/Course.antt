@@ -1,5 +1,5 @@
 -- How far a plan comes, and what is told of it, on whatever its calls are made.
-use mathlib.Core.Bool.{Bool, cond}
+use mathlib.Core.Bool.{cond}
 use mathlib.Core.List.{List, [], _∷_}
 use Prim.Native.Nat.{ℕ, suc}
 use lib.Dec.{ltb}

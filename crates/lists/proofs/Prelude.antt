@@ -22,7 +22,7 @@ pub use Rattle.lists.proofs.Arrays.{unmapped, of-used, of-at}
 pub use Rattle.lists.proofs.Turns.{near-next, used-turn, used-end, passed, failed, turn, end, choose-place, and-judged, rest, rest-begin, rest-turn, rest-end}
 pub use Rattle.lists.proofs.Runs.{never, getD-rising, keep-here, keep-past, getD-sets-out, apart-append, apart-none, leb-less, leb-none, apart-hit, apart-more, union-more, eqb-swap, apart}
 pub use Rattle.lists.proofs.Ranges.{every-rising, different-rising, length-rising, map-where, length-all, length-joined, elem-rising, total-rising, upTo-at, total-map, map-upTo, map-middle, every-map, joined-at, keep-joined, keep-rising, map-take, map-drop, any-map, keep-map, total-more, elem-down}
-pub use Rattle.lists.proofs.Sets.{every-elem, every-upTo, different-keep, every-turned, length-keep-turned, different-turned, sets-back, pad-split, sets-before, sets-past, elem-place, none-from, part-set, elem-keep, different-insert, different-take, elem-every, elem-append, elem-left, elem-right, elem-neither, elem-none, Parted, different-parts, different-join, keep-less, keep-without, keep-others, FirstKept, first-kept, keep-turned}
+pub use Rattle.lists.proofs.Sets.{every-elem, every-upTo, different-keep, different-within, every-turned, length-keep-turned, different-turned, sets-back, pad-split, sets-before, sets-past, elem-place, none-from, part-set, elem-keep, different-insert, different-take, elem-every, elem-append, elem-left, elem-right, elem-neither, elem-none, Parted, different-parts, different-join, keep-less, keep-without, keep-others, FirstKept, first-kept, keep-turned}
 pub use Rattle.lists.proofs.Same.{same-refl, same-true, same-swap, any-at, every-set, take-sets-le, drop-sets-add, take-over, drop-over, same-length, same-step, every-step, same-false, eq-same, same-append}
 pub use Rattle.lists.proofs.Padding.{getD-same}
 pub use Rattle.lists.proofs.Sections.{take-drop, take-rest}

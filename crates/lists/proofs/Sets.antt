@@ -11,7 +11,7 @@ use lib.Seq.{sets, sets-eq, take-set-le, drop-set-lt, length-take-le, take-suc, 
 use borrow.Author.Tests.{eqb-true, eqb-false, eq-eqb, ne-eqb, ltb-true, not-true}
 use Rattle.lists.specs.Lists.{keep, any, every, elem, different, upTo}
 use Rattle.lists.proofs.Bools.{by-test, and-left, and-right, and-both, or-right, or-none}
-use Rattle.lists.proofs.Tests.{keep-append, keep-all, every-append, any-append}
+use Rattle.lists.proofs.Tests.{keep-append, keep-all, every-append, any-append, length-keep}
 use Rattle.lists.proofs.Runs.{apart as apartBy, apart-append, apart-none}
 use Rattle.lists.proofs.Ranges.{length-rising, every-rising, different-rising, elem-rising}
 
@@ -275,3 +275,29 @@ keep-turned t l b rest i f =
     let e : take (suc i) l ≡ take i l ++ (b ∷ []) = rw (← f .here) (take-suc l i 0 k) in
     keep-append t (drop (suc i) l) (take (suc i) l)
     ∙ rw (f .later, e) (ap (λ (r : List ℕ). rest ++ r) (keep-append t (take i l) (b ∷ []) ∙ rw (f .none, f .passes)))
+
+-- ---- as many as another list has
+
+-- a list is longer than what is left of it without one of its numbers
+length-without : (x : ℕ) (l : List ℕ) → elem x l ≡ true → length (keep (λ n. not (eqb n x)) l) < length l
+length-without x [] m = absurd (true≢false (sym m))
+length-without x (n ∷ l) m =
+    by-test (eqb n x)
+    (λ y. rw y (omega (arith, length-keep (λ n. not (eqb n x)) l)))
+    (λ f. rw f (omega (arith, length-without x l (rw f at m))))
+
+-- different numbers that all stand in a list are at most as many as it has
+pub different-within : (l m : List ℕ) → different l ≡ true → every (λ n. elem n m) l ≡ true → length l ≤ length m
+different-within [] m d e = omega arith
+different-within (x ∷ l) m d e =
+    let new = not-true (elem x l) (and-left (not (elem x l)) _ d) in
+    let rest : every (λ n. elem n (keep (λ k. not (eqb k x)) m)) l ≡ true =
+    elem-every _ l
+    (λ n i. elem-keep (λ k. not (eqb k x)) m n
+    (rw (ne-eqb n x (λ q. true≢false (sym i ∙ ap (λ k. elem k l) q ∙ new))))
+    (every-elem (λ k. elem k m) l n (and-right (elem x m) _ e) i)) in
+    omega (
+      arith,
+      different-within l (keep (λ k. not (eqb k x)) m) (and-right (not (elem x l)) _ d) rest,
+      length-without x m (and-left (elem x m) _ e),
+    )

@@ -1,5 +1,6 @@
 pub mod Groups
 pub mod Lengths
+pub mod Terms
 pub mod Entries
 pub mod Trips
 pub mod Rules

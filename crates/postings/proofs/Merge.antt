@@ -1,5 +1,5 @@
 -- What is put together stands in order, and an ordered list without a count of 0 is told by its sums.
-use Rattle.lists.proofs.Prelude.{Bool, true, false, not, true≢false, List, [], _∷_, foldr, List·Memᴰ, List·Memᴰ·cases-cons, List·Memᴰ·not-nil, ⊎-elim, _≡_, refl, sym, ap, ap₂, _∙_, ℕ, suc, _+_, _≤_, arith, ℤ, pos, _+ℤ_, +ℤ-idl, +ℤ-idr, length, eq-eqb, any, every, by-test, and-left, and-right, and-both, or-none, every-mem, every-kept}
+use Rattle.lists.proofs.Prelude.{Bool, true, false, not, true≢false, List, [], _∷_, foldr, List·Memᴰ, List·Memᴰ·cases-cons, List·Memᴰ·not-nil, ⊎-elim, _≡_, refl, sym, ap, ap₂, _∙_, ℕ, suc, _+_, _≤_, arith, ℤ, pos, _+ℤ_, +ℤ-idl, +ℤ-idr, length, length-keep, eq-eqb, any, every, by-test, and-left, and-right, and-both, or-none, every-mem, every-kept}
 use Rattle.lists.proofs.Ints.{sum-cancel}
 use Rattle.postings.specs.Order.{precedes, samePair, ordered}
 use Rattle.postings.specs.Merge.{counting, put, isZero, isCounted, nonzero, pairs}
@@ -134,3 +134,8 @@ same-sums (p ∷ l) (q ∷ m) o r f g e =
 
     rest : p ≡ q → (i w : ℕ) → sum l i w ≡ sum m i w
     rest s i w = sum-cancel (share p i w) (sum l i w) (sum m i w) (e i w ∙ ap (λ (x : Posting). share x i w +ℤ sum m i w) (sym s))
+
+-- postings merged are at most as many
+pub length-merged : (l : List Posting) → length (nonzero (pairs l)) ≤ length l
+unfolding nonzero pairs
+length-merged l = omega (arith, length-keep isCounted (pairs l), length-puts l [])

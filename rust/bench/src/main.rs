@@ -8,7 +8,9 @@ mod timing;
 
 use gemsilver::Identifier;
 use gemsilver::bytes::{self, HIT};
-use probes::{Probe, alike, chained, half_full, name, register, to_merge, with_full_buffer};
+use probes::{
+    Probe, alike, chained, fresh, half_full, name, plan, register, to_merge, with_full_buffer,
+};
 use second::engine;
 use second::state::{Hit, State};
 use std::hint::black_box;
@@ -148,6 +150,56 @@ fn mean(blocks: usize, probe: &Probe, name: &[u8]) {
         || {
             let told = engine::mean(&probe.state, card, register, name);
             assert_eq!(told.is_ok(), is_counted);
+        },
+    );
+}
+
+/// The most events that one window may have, and so many windows of 64 identifiers that all flushes of level 0 are made.
+const EVENTS: usize = 32_767;
+const FLUSHING: usize = 34;
+
+fn forecasts() {
+    title(
+        "a forecast, with a register of 1,024 entries",
+        "events, of which names",
+    );
+    let named: [(&str, fn(usize) -> Vec<u8>); 3] = [
+        ("the last", name),
+        ("the last of alike ones", alike),
+        ("the last of one hash", chained),
+    ];
+    for (case, name) in named {
+        let probe = fresh(64, register(ENTRIES, name));
+        for events in [8, EVENTS] {
+            let plan = plan((0..events).map(|_| name(ENTRIES - 1)));
+            let case = format!("{events}, {case}");
+            forecast(&case, &probe, &plan, &[events as u32]);
+        }
+    }
+    // The windows take turns with the names, 64 at a time.
+    let each = EVENTS / FLUSHING;
+    let event = |place: usize| name(place / each * 64 % ENTRIES + place % 64);
+    let all = plan((0..each * FLUSHING).map(event));
+    let known = fresh(64, register(ENTRIES, name));
+    let new = fresh(64, vec![0; ENTRIES * 65]);
+    for (case, probe) in [("all 1,024", known), ("1,024 new", new)] {
+        let case = format!("{}, {case}", each * FLUSHING);
+        forecast(&case, &probe, &all, &[each as u32; FLUSHING]);
+    }
+}
+
+/// Times the forecast of a plan that does not stop.
+fn forecast(case: &str, probe: &Probe, plan: &[u8], counts: &[u32]) {
+    let (image, register) = (&probe.image, &probe.register);
+    compare(
+        case,
+        || {
+            let told = bytes::forecast(image, register, plan, counts);
+            assert!(told.is_ok_and(|told| told.stop.is_none()));
+        },
+        || {
+            let told = engine::forecast(&probe.state, register, plan, counts);
+            assert!(told.is_ok_and(|told| told.stop.is_none()));
         },
     );
 }
@@ -330,6 +382,11 @@ fn stacks() {
         let (image, card, register) = (&probe.image, &probe.card, &probe.register);
         assert!(bytes::mean(image, card, register, &names[0]).is_ok());
     });
+    let planned = plan((0..4 * 60).map(|place| name(place % 60)));
+    stack("forecast", &closed, |probe| {
+        let told = bytes::forecast(&probe.image, &probe.register, &planned, &[60; 4]);
+        assert!(told.is_ok_and(|told| told.flushes > 0));
+    });
 }
 
 /// All tables; or, with `peers FOLDER`, the queries that other engines are held against.
@@ -344,6 +401,7 @@ fn main() {
     events();
     queries();
     means();
+    forecasts();
     removals();
     merges();
     stacks();

@@ -1,5 +1,6 @@
 //! Probes to measure on: cards as full as they may be, and partitions to be merged.
 
+use gemsilver::Entry;
 use second::image;
 use second::state::{Lengths, Partition, Posting, State, Windows};
 
@@ -178,6 +179,29 @@ pub fn to_merge(postings: usize) -> Probe {
     }
     probe.image = image::write(&probe.state);
     probe
+}
+
+/// A probe with a fresh card and these entries in its register.
+pub fn fresh(blocks: usize, register: Vec<u8>) -> Probe {
+    let state = State {
+        lengths: Lengths {
+            card: (blocks * BLOCK) as u32,
+            register: register.len() as u32,
+        },
+        taken: blocks as u16 - 1,
+        ..State::default()
+    };
+    Probe {
+        image: image::write(&state),
+        state,
+        card: vec![255; blocks * BLOCK],
+        register,
+    }
+}
+
+/// A plan: an entry for each event.
+pub fn plan(names: impl Iterator<Item = Vec<u8>>) -> Vec<u8> {
+    names.flat_map(|name| *Entry::from(&name).bytes()).collect()
 }
 
 /// The same probe with a full buffer.

@@ -1,5 +1,6 @@
 //! What goes into calls and comes out of them.
 
+use crate::{ENTRY, Refusal};
 use core::fmt;
 use core::marker::PhantomData;
 use core::slice;
@@ -81,6 +82,54 @@ impl Hit {
     }
 }
 
+/// An identifier as an entry of the register has it, by which plans are written: its length, its bytes, then zeros.
+///
+/// One of more than 64 bytes makes an entry too, with a length that no identifier has, so that a forecast stops there as the event would.
+///
+/// ```
+/// use gemsilver::Entry;
+///
+/// let entry = Entry::from("LUCKY");
+/// assert_eq!(entry.bytes()[..7], *b"\x05LUCKY\0");
+/// assert_eq!(Entry::from(&[b'x'; 65]).bytes()[0], 65);
+/// ```
+#[derive(Clone, Copy, PartialEq, Eq)]
+#[repr(transparent)]
+pub struct Entry([u8; ENTRY]);
+
+impl Entry {
+    /// The entry's bytes.
+    pub fn bytes(&self) -> &[u8; ENTRY] {
+        &self.0
+    }
+
+    /// Entries one after the other, as a plan is lent to the exported forecast.
+    pub(crate) fn bytes_of(entries: &[Entry]) -> &[u8] {
+        // Sound: an entry is its bytes and nothing else.
+        unsafe { slice::from_raw_parts(entries.as_ptr().cast(), size_of_val(entries)) }
+    }
+}
+
+/// Whatever lends bytes: slices, arrays, texts, vectors.
+impl<T: AsRef<[u8]> + ?Sized> From<&T> for Entry {
+    fn from(lent: &T) -> Self {
+        let bytes = lent.as_ref();
+        let mut entry = [0; ENTRY];
+        entry[0] = bytes.len().min(255) as u8;
+        for (place, byte) in entry[1..].iter_mut().zip(bytes) {
+            *place = *byte;
+        }
+        Entry(entry)
+    }
+}
+
+impl fmt::Debug for Entry {
+    fn fmt(&self, out: &mut fmt::Formatter<'_>) -> fmt::Result {
+        let length = usize::from(self.0[0]).min(ENTRY - 1);
+        write!(out, "Entry({})", self.0[1..=length].escape_ascii())
+    }
+}
+
 /// What a query answers beside its list of hits.
 #[derive(Clone, Copy, PartialEq, Eq, Debug)]
 pub struct Found {
@@ -99,4 +148,28 @@ pub struct Mean {
     pub remainder: u32,
     /// In how many closed windows the identifier has a count above 0.
     pub windows: u32,
+}
+
+/// What a planned session would come to. All is counted up to the call that would be refused first, if there is one.
+#[derive(Clone, Copy, PartialEq, Eq, Debug)]
+pub struct Forecast {
+    /// How many of its events would write the buffer to the card first.
+    pub flushes: u32,
+    /// How many blocks finished partitions would have.
+    pub blocks: u32,
+    /// How many entries of the register would be used.
+    pub entries: u32,
+    /// The call that would be refused first.
+    pub stop: Option<Stop>,
+}
+
+/// The call of a planned session that would be refused first.
+#[derive(Clone, Copy, PartialEq, Eq, Debug)]
+pub struct Stop {
+    /// The window's place in the plan, from 1.
+    pub window: u64,
+    /// The event's place in its window, from 1; 0 where the window would not be opened.
+    pub event: u64,
+    /// Why the call would be refused.
+    pub refusal: Refusal,
 }

@@ -14,7 +14,7 @@
 //! ```
 
 use crate::exported;
-use crate::{Found, Identifier, Mean, Refusal};
+use crate::{Forecast, Found, Identifier, Mean, Refusal, Stop};
 
 /// Bytes of a place in a list of hits: the window and the score, a little-endian word each.
 pub const HIT: usize = 8;
@@ -221,5 +221,65 @@ pub fn mean(
         windows: part(1),
         remainder: part(2),
         quotient: part(3),
+    })
+}
+
+/// Tells what opening, counting and closing the windows of a plan one after the other would come to, with no merge steps between. The plan has
+/// [`ENTRY`](crate::ENTRY) bytes for each event, as the register has them for an identifier, and `counts` tells how many of them belong to each window.
+///
+/// It is refused with 3 where the plan is not whole entries, where the counts do not add up to them, or where an entry has a byte other than zero after
+/// its identifier. A length byte that no identifier has is no such fault: the plan stops there.
+///
+/// ```
+/// use gemsilver::{Forecast, IMAGE, Refusal, Stop, bytes};
+///
+/// let (mut image, mut card, mut register) = ([0; IMAGE], [0; 4 * 4096], [0; 65]);
+/// bytes::start(&mut image, &mut card, &mut register)?;
+/// let mut plan = [0; 2 * 65];
+/// plan[..5].copy_from_slice(b"\x04TILT");
+/// let stop = Some(Stop { window: 2, event: 1, refusal: Refusal::BadIdentifier }); // the second entry is empty
+/// let told = bytes::forecast(&image, &register, &plan, &[1, 1]);
+/// assert_eq!(told, Ok(Forecast { flushes: 0, blocks: 0, entries: 1, stop }));
+/// assert_eq!(bytes::forecast(&image, &register, &plan, &[1]), Err(Refusal::Malformed));
+/// # Ok::<(), Refusal>(())
+/// ```
+pub fn forecast(
+    image: &[u8],
+    register: &[u8],
+    plan: &[u8],
+    counts: &[u32],
+) -> Result<Forecast, Refusal> {
+    let mut told = [0; 6];
+    // Sound: each pointer and length are those of one slice, all are only read, the counts are aligned as their numbers are, and
+    // there is room for the six numbers that are told.
+    done(unsafe {
+        exported::gemsilver_forecast(
+            image.as_ptr(),
+            image.len(),
+            register.as_ptr(),
+            register.len(),
+            plan.as_ptr(),
+            plan.len(),
+            counts.as_ptr(),
+            counts.len(),
+            told.as_mut_ptr(),
+        )
+    })?;
+    let [flushes, blocks, entries, window, event, number] = told;
+    // Flushes are at most 16, blocks 51 times 4,096, and entries 1,024.
+    let [flushes, blocks, entries] = [flushes, blocks, entries].map(|count| count as u32);
+    let stop = match number {
+        0 => None,
+        _ => Some(Stop {
+            window,
+            event,
+            refusal: refusal(number as u32),
+        }),
+    };
+    Ok(Forecast {
+        flushes,
+        blocks,
+        entries,
+        stop,
     })
 }

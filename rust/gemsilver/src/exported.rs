@@ -73,4 +73,15 @@ unsafe extern "C" {
         identifier: *const u8,
         identifier_length: usize,
     ) -> u64;
+    pub fn gemsilver_forecast(
+        image: *const u8,
+        image_length: usize,
+        register: *const u8,
+        register_length: usize,
+        plan: *const u8,
+        plan_length: usize,
+        counts: *const u32,
+        count_count: usize,
+        told: *mut u64,
+    ) -> u32;
 }

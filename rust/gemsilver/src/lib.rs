@@ -8,7 +8,7 @@
 //! No call allocates, and the crate needs neither an allocator nor an operating system. The archive that it links is for x86-64 Linux.
 //!
 //! - [`Probe`]: the calls; [`bytes`]: the same calls on three slices.
-//! - [`Identifier`], [`Hit`], [`Found`], [`Mean`]: what goes in and comes out; [`Refusal`]: why a call is refused.
+//! - [`Identifier`], [`Hit`], [`Found`], [`Mean`], [`Entry`], [`Forecast`]: what goes in and comes out; [`Refusal`]: why a call is refused.
 //! - [`Snapshot`]: a probe in one file.
 //!
 //! ```
@@ -38,7 +38,7 @@ mod probe;
 mod refusal;
 mod snapshot;
 
-pub use answers::{Found, Hit, Identifier, Mean};
+pub use answers::{Entry, Forecast, Found, Hit, Identifier, Mean, Stop};
 pub use probe::Probe;
 pub use refusal::Refusal;
 pub use snapshot::{Part, Snapshot, SnapshotError, VERSION};
@@ -49,5 +49,5 @@ pub const IMAGE: usize = 2_456;
 /// Bytes of a block of the card; a card has 4 to 4,096 blocks.
 pub const BLOCK: usize = 4_096;
 
-/// Bytes of an entry of the register; a register has 1 to 1,024 entries.
+/// Bytes of an entry of the register or of a plan; a register has 1 to 1,024 entries.
 pub const ENTRY: usize = 65;

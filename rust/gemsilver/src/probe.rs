@@ -1,13 +1,14 @@
 //! A probe: its three buffers, and the calls on them.
 
-use crate::{Found, Hit, Identifier, Mean, Refusal, Snapshot, bytes};
+use crate::{Entry, Forecast, Found, Hit, Identifier, Mean, Refusal, Snapshot, bytes};
 use core::fmt;
 
 /// A probe: the state's image, the card and the register, which belong together.
 ///
 /// `B` is what holds the bytes: a `Vec<u8>` or an array's `Box` owns them, `&mut [u8]` borrows them, and with `&[u8]` there are only the calls
 /// that read. The answers of [`query`](Probe::query) and [`mean`](Probe::mean) are those of a plain ledger of live windows after every history of
-/// calls from [`start`](Probe::start), wherever flushes and merge steps fall: that is proved of the functions called.
+/// calls from [`start`](Probe::start), wherever flushes and merge steps fall, and those of [`forecast`](Probe::forecast) are what the planned calls would
+/// then come to: that is proved of the functions called.
 #[derive(Clone, PartialEq, Eq)]
 pub struct Probe<B> {
     image: B,
@@ -146,6 +147,25 @@ impl<B: AsRef<[u8]>> Probe<B> {
             self.register(),
             identifier.as_ref(),
         )
+    }
+
+    /// What a planned session would come to, before it is begun: how many flushes, blocks of finished partitions and register entries, and
+    /// where it would stop. The plan has all events in order, and `counts` tells how many of them belong to each window; the windows are opened, their events
+    /// counted, and closed, with no merge steps between. Nothing is changed, and the card is not read.
+    ///
+    /// ```
+    /// # use gemsilver::{Forecast, IMAGE, Probe, Refusal, Stop};
+    /// # let probe = Probe::start(vec![0; IMAGE], vec![0; 4 * 4096], vec![0; 2 * 65])?;
+    /// let plan = ["COIN", "COIN", "TILT", "COIN", "DOOR"].map(Into::into);
+    /// let told = probe.forecast(&plan[..4], &[3, 0, 1])?; // three windows, the second without events
+    /// assert_eq!(told, Forecast { flushes: 0, blocks: 0, entries: 2, stop: None });
+    /// let told = probe.forecast(&plan, &[3, 2])?; // two entries are all that the register has
+    /// assert_eq!(told.stop, Some(Stop { window: 2, event: 2, refusal: Refusal::RegisterFull }));
+    /// assert_eq!(probe.forecast(&plan, &[3, 1]), Err(Refusal::Malformed)); // the plan has five events
+    /// # Ok::<(), Refusal>(())
+    /// ```
+    pub fn forecast(&self, plan: &[Entry], counts: &[u32]) -> Result<Forecast, Refusal> {
+        bytes::forecast(self.image(), self.register(), Entry::bytes_of(plan), counts)
     }
 }
 

@@ -13,6 +13,7 @@ mod json;
 mod lines;
 mod looks;
 mod places;
+mod plan;
 mod progress;
 mod reckoning;
 mod rules;

@@ -1,5 +1,5 @@
 -- `forecasts::closed` meets its contract.
-use Rattle.lists.proofs.Prelude.{cond, ⊎-elim, _≡_, refl, _-_, eqb, needs, eq-eqb, ne-eqb}
+use Rattle.lists.proofs.Prelude.{cond, ⊎-elim, _≡_, _-_, eqb, needs, eq-eqb, ne-eqb}
 use Rattle.forecasts.proofs.closed.Statement.{statement}
 use Rattle.forecasts.proofs.closed.Tie as tie
 

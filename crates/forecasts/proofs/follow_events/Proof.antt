@@ -1,5 +1,5 @@
 -- `forecasts::follow_events` meets its contract. The loop's invariant: all events before the place reached are done, and the plan goes on from there.
-use Rattle.lists.proofs.Prelude.{refl, ap, _∙_, _-_, arith, needs, length}
+use Rattle.lists.proofs.Prelude.{refl, _∙_, _-_, arith, needs}
 use denote.Enum.Declared.{tagOf}
 use Rattle.answers.proofs.Reply.{the-type}
 use Rattle.answers.proofs.Unrefused.{reply-done}

@@ -1,10 +1,10 @@
 -- `forecasts::forecast` meets its contract: what is judged first refuses, or the plan is followed.
-use Rattle.lists.proofs.Prelude.{true, _≡_, refl, sym, ap, _∙_, needs}
+use Rattle.lists.proofs.Prelude.{refl, sym, ap, _∙_, needs}
 use denote.Enum.Declared.{tagOf}
 use Rattle.answers.specs.Answers.{answerOf}
 use Rattle.admission.proofs.Admission.{the-type}
 use Rattle.admission.proofs.Laws.{register-most, goes-on}
-use Rattle.forecasts.proofs.Told.{PlanSound, plan-sound, forecast-barred, forecast-granted}
+use Rattle.forecasts.proofs.Told.{plan-sound, forecast-barred, forecast-granted}
 use Rattle.forecasts.proofs.forecast.Statement.{statement}
 use Rattle.forecasts.proofs.forecast.Tie as tie
 

@@ -1,8 +1,7 @@
 -- `forecasts::foresee` meets its contract: the plan is followed from the state's sketch, and what is left is told.
-use Rattle.lists.proofs.Prelude.{refl, ap, sym, _∙_, _+_, ℕ, needs}
+use Rattle.lists.proofs.Prelude.{refl, ap, _∙_, _+_, ℕ, needs}
 use Rattle.answers.specs.Answers.{forecast}
 use Rattle.answers.specs.Numbers.{haltAs}
-use Rattle.identifiers.specs.Register.{names}
 use Rattle.forecasts.proofs.Told.{lent, begun-sound, adds-up, known-most, course-told}
 use Rattle.forecasts.proofs.foresee.Statement.{statement}
 use Rattle.forecasts.proofs.foresee.Tie as tie

@@ -1,5 +1,5 @@
 -- `forecasts::judge_open` meets its contract.
-use Rattle.lists.proofs.Prelude.{_≤_, _<_, arith, needs, eq-eqb, ne-eqb, le-leb, lt-leb}
+use Rattle.lists.proofs.Prelude.{_≤_, _<_, arith, eq-eqb, ne-eqb, le-leb, lt-leb}
 use Rattle.forecasts.proofs.judge_open.Statement.{statement}
 use Rattle.forecasts.proofs.judge_open.Tie as tie
 

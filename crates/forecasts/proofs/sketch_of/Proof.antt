@@ -1,5 +1,4 @@
 -- `forecasts::sketch_of` meets its contract.
-use Rattle.lists.proofs.Prelude.{needs}
 use Rattle.state.proofs.Kept.{state-kept}
 use Rattle.flushes.specs.Flush.{finishedBlocks}
 use Rattle.forecasts.proofs.Beginning.{begun}

@@ -1,6 +1,6 @@
 //! One query and one mean while a window is open and after its close, counted by hand.
 
-use crate::engines::{Call, Told, proved};
+use crate::engines::{Call, proved};
 use crate::pair::Pair;
 use crate::tally::Tally;
 use crate::words::word;
@@ -27,15 +27,17 @@ fn ask(pair: &mut Pair) -> (Vec<(u32, u32)>, u64) {
     make(pair, call.clone());
     let mut hits = call.list();
     let answer = proved(&mut pair.probe().clone(), &call, &mut hits);
-    let [listed, taken, _] = answer.expect("it was answered before");
+    let [listed, taken, ..] = answer.expect("it was answered before");
     let hit = |place: usize| (word(&hits, 2 * place), word(&hits, 2 * place + 1));
     ((0..listed as usize).map(hit).collect(), taken)
 }
 
 /// The mean of LUCKY: quotient, remainder and windows.
-fn mean(pair: &mut Pair) -> Told {
+fn mean(pair: &mut Pair) -> [u64; 3] {
     let call = Call::Mean(LUCKY.to_vec());
-    pair.make(&call, &mut Tally::default()).expect("a mean")
+    let answer = pair.make(&call, &mut Tally::default());
+    let [quotient, remainder, windows, ..] = answer.expect("a mean");
+    [quotient, remainder, windows]
 }
 
 /// Window 1 has LUCKY 3, window 2 DOOR 1; both are closed. Window 3 counts LUCKY eight times, with a flush after each.

@@ -2,7 +2,7 @@
 
 use crate::damage::{any_call, damage, damage_merge, spoil};
 use crate::engines::{Call, Probe};
-use crate::history::{History, Odds, Plan, any_list};
+use crate::history::{History, Odds, Plan, any_list, any_plan};
 use crate::pair::Pair;
 use crate::parts::{BLOCK, CONTENT, Mix, advance, build, mix};
 use crate::rng::Rng;
@@ -32,7 +32,7 @@ const PLAN: Plan = Plan {
 fn both_engines_bear_damage_alike() {
     let mut tally = Tally::default();
     let mut on_the_way = Tally::default();
-    let mut lists = Rng(500);
+    let (mut lists, mut plans) = (Rng(500), Rng(502));
     for (seed, blocks) in [40, 24, 64, 36, 28, 40, 48, 32].into_iter().enumerate() {
         let plan = Plan { blocks, ..PLAN };
         let mut history = History::new(&plan, seed as u64, &mut on_the_way);
@@ -46,6 +46,10 @@ fn both_engines_bear_damage_alike() {
             }
             if lists.one_in(3) {
                 let call = history.any_list(&mut lists);
+                let _ = Pair::of(probe.clone()).make(&call, &mut tally);
+            }
+            if plans.one_in(6) {
+                let call = any_plan(&mut plans, plan.names);
                 let _ = Pair::of(probe.clone()).make(&call, &mut tally);
             }
             let mut pair = Pair::of(probe);
@@ -65,7 +69,7 @@ fn both_engines_bear_damage_alike() {
 fn both_engines_take_foreign_probes_alike() {
     let mut tally = Tally::default();
     let mut rng = Rng(2_024);
-    let mut lists = Rng(501);
+    let (mut lists, mut plans) = (Rng(501), Rng(503));
     for _ in 0..8_000 {
         let mix = mix(&mut rng);
         let mut probe = build(&mix, &mut rng);
@@ -81,6 +85,10 @@ fn both_engines_take_foreign_probes_alike() {
         if lists.one_in(3) {
             let windows = (1..=u32::from(mix.windows.min(8))).collect();
             let call = Call::RemoveAll(any_list(&mut lists, windows));
+            let _ = Pair::of(probe.clone()).make(&call, &mut tally);
+        }
+        if plans.one_in(6) {
+            let call = any_plan(&mut plans, mix.entries + 2);
             let _ = Pair::of(probe.clone()).make(&call, &mut tally);
         }
         let mut pair = Pair::of(probe);
@@ -187,4 +195,5 @@ fn expect_all(tally: &Tally, times: usize) {
     tally.expect("query", &[0, 1, 2, 3, 4, 14], times);
     tally.expect("mean", &[0, 1, 2, 3, 4, 15], times);
     tally.expect("remove_all", &[0, 1, 2, 3, 5, 7, 16], times);
+    tally.expect("forecast", &[0, 1, 2, 3], times);
 }

@@ -28,6 +28,8 @@ pub enum Call {
     /// The identifiers, and what the list of hits holds before.
     Query(Vec<Vec<u8>>, Vec<u8>),
     Mean(Vec<u8>),
+    /// The entries of a plan, and how many each window has.
+    Forecast(Vec<u8>, Vec<u32>),
 }
 
 impl Call {
@@ -43,6 +45,7 @@ impl Call {
             Call::Step => "step",
             Call::Query(..) => "query",
             Call::Mean(_) => "mean",
+            Call::Forecast(..) => "forecast",
         }
     }
 
@@ -56,20 +59,32 @@ impl Call {
 }
 
 /// What a call is answered with where it is done.
-pub type Told = [u64; 3];
+pub type Told = [u64; 6];
 
-/// What a call answers: an open its window, a query its hits and postings taken, a mean its quotient, remainder and windows, and zeros
-/// for the rest; or a refusal's number.
+/// What a call answers: an open its window, a query its hits and postings taken, a mean its quotient, remainder and windows, a forecast its
+/// flushes, blocks and entries and where it stops, and zeros for the rest; or a refusal's number.
 pub type Answer = Result<Told, u32>;
 
-pub const NOTHING: Told = [0; 3];
+pub const NOTHING: Told = [0; 6];
 
 fn window(number: impl Into<u64>) -> Told {
-    [number.into(), 0, 0]
+    [number.into(), 0, 0, 0, 0, 0]
 }
 
 fn found(hits: impl Into<u64>, taken: impl Into<u64>) -> Told {
-    [hits.into(), taken.into(), 0]
+    [hits.into(), taken.into(), 0, 0, 0, 0]
+}
+
+fn mean(numbers: [impl Into<u64>; 3]) -> Told {
+    let [quotient, remainder, windows] = numbers.map(Into::into);
+    [quotient, remainder, windows, 0, 0, 0]
+}
+
+/// Flushes, blocks and entries, and window, event and refusal of the stop, if there is one.
+fn forecast(numbers: [u64; 3], stop: Option<[u64; 3]>) -> Told {
+    let [flushes, blocks, entries] = numbers;
+    let [window, event, refusal] = stop.unwrap_or_default();
+    [flushes, blocks, entries, window, event, refusal]
 }
 
 fn slices(names: &[Vec<u8>]) -> Vec<&[u8]> {
@@ -98,7 +113,16 @@ pub fn proved(probe: &mut Probe, call: &Call, hits: &mut [u8]) -> Answer {
                 .map(|answer| found(answer.hits as u64, answer.taken))
         }
         Call::Mean(name) => bytes::mean(image, card, register, name)
-            .map(|mean| [mean.quotient, mean.remainder, mean.windows].map(u64::from)),
+            .map(|told| mean([told.quotient, told.remainder, told.windows])),
+        Call::Forecast(plan, counts) => {
+            bytes::forecast(image, register, plan, counts).map(|told| {
+                let numbers = [told.flushes, told.blocks, told.entries].map(u64::from);
+                let stop = told
+                    .stop
+                    .map(|stop| [stop.window, stop.event, stop.refusal.number().into()]);
+                forecast(numbers, stop)
+            })
+        }
     };
     answer.map_err(Refused::number)
 }
@@ -151,6 +175,16 @@ fn on_state(
             Ok(found(answer.hits, answer.taken))
         }
         Call::Mean(name) => engine::mean(state, card, register, name)
-            .map(|mean| [mean.quotient, mean.remainder, mean.windows].map(u64::from)),
+            .map(|told| mean([told.quotient, told.remainder, told.windows])),
+        Call::Forecast(plan, counts) => {
+            engine::forecast(state, register, plan, counts).map(|told| {
+                let numbers = [told.flushes, told.blocks, told.entries].map(|count| count as u64);
+                let stop = told.stop.map(|stop| {
+                    let number = stop.refusal.number().into();
+                    [stop.window as u64, stop.event as u64, number]
+                });
+                forecast(numbers, stop)
+            })
+        }
     }
 }

@@ -3,6 +3,7 @@
 use crate::history::{History, Odds, Plan};
 use crate::rng::Rng;
 use crate::tally::Tally;
+use crate::words::{at, word};
 
 const EVEN: Odds = Odds {
     turn: 10,
@@ -169,8 +170,14 @@ fn plans_of_lists() -> Vec<Plan> {
 
 fn run(plan: &Plan, seed: u64, tally: &mut Tally) {
     let mut history = History::new(plan, seed, tally);
+    let mut plans = Rng(seed + 300);
     for _ in 0..plan.calls {
         history.act(plan, tally);
+        // An open window stops every plan.
+        let is_open = word(&history.pair.probe().image, at::OPEN) > 0;
+        if plans.one_in(if is_open { 500 } else { 20 }) {
+            history.forecast(&mut plans, plan, tally);
+        }
     }
 }
 
@@ -192,6 +199,22 @@ fn both_engines_go_through_histories_alike() {
     tally.expect("query", &[0, 4, 14], 100);
     tally.expect("mean", &[0, 15], 1_000);
     tally.expect("mean", &[4], 100);
+    tally.expect("forecast", &[0], 500);
+    tally.expect("forecast", &[3], 20);
+    for (sight, times) in [
+        ("that do not stop", 200),
+        ("that stop at an open with 5", 100),
+        ("that stop at an event with 4", 30),
+        ("that stop at an event with 8", 100),
+        ("that stop at an event with 9", 4),
+        ("that stop at an event with 10", 3),
+        ("that stop at an event with 11", 30),
+        ("that stop past the first window", 80),
+        ("with several flushes", 8),
+        ("during a merge", 80),
+    ] {
+        tally.expect_plans(sight, times);
+    }
     tally.expect_left_out(100);
 }
 

@@ -1,7 +1,8 @@
 //! Random histories: calls at random, weighted by a plan.
 
 use crate::engines::Call;
-use crate::pair::Pair;
+use crate::pair::{Pair, really};
+use crate::planned::{any_windows, damage_plan, laid_out, read_back};
 use crate::rng::Rng;
 use crate::tally::Tally;
 use crate::words::{at, word};
@@ -97,6 +98,15 @@ pub fn any_list(rng: &mut Rng, mut windows: Vec<u32>) -> Vec<u32> {
     windows
 }
 
+/// A forecast of a plan, now and then of one that is damaged.
+pub fn any_plan(rng: &mut Rng, names: usize) -> Call {
+    let (mut plan, mut counts) = laid_out(&any_windows(rng, names));
+    if rng.one_in(6) {
+        damage_plan(&mut plan, &mut counts, rng);
+    }
+    Call::Forecast(plan, counts)
+}
+
 /// A history on its way.
 pub struct History {
     pub pair: Pair,
@@ -155,6 +165,18 @@ impl History {
                 return self.make(&call, tally);
             }
             place -= weight;
+        }
+    }
+
+    /// Asks for what a plan would come to, which is what its calls come to on this card.
+    pub fn forecast(&mut self, rng: &mut Rng, plan: &Plan, tally: &mut Tally) {
+        // Mostly of names that the register has room for.
+        let call = any_plan(rng, plan.names.min(plan.entries));
+        let answer = self.pair.make(&call, tally);
+        if let (Ok(told), Call::Forecast(plan, counts)) = (answer, &call) {
+            let windows = read_back(plan, counts).expect("it was no malformed one");
+            let made = really(self.pair.probe().clone(), &windows);
+            assert_eq!(told, made, "{call:?}");
         }
     }
 

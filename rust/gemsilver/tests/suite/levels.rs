@@ -115,7 +115,7 @@ fn both_engines_agree_on_a_long_history() {
         if flush % 1_000 == 999 {
             // A closed window has 100 events, of five names in turn.
             let mean = Call::Mean(name(flush % 5));
-            let [quotient, remainder, _] = pair.make(&mean, &mut tally).expect("a mean");
+            let [quotient, remainder, ..] = pair.make(&mean, &mut tally).expect("a mean");
             assert_eq!((quotient, remainder), (20, 0));
         }
     }

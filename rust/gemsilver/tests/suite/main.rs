@@ -4,12 +4,15 @@ mod closing;
 mod damage;
 mod damaged;
 mod engines;
+mod forecasts;
 mod histories;
 mod history;
 mod levels;
 mod means;
 mod pair;
 mod parts;
+#[path = "../../../second/tests/suite/planned.rs"]
+mod planned;
 mod registers;
 mod rng;
 mod rules;

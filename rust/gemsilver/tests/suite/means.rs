@@ -1,6 +1,6 @@
 //! Means counted by hand.
 
-use crate::engines::{Answer, Call, Probe};
+use crate::engines::{Call, Probe};
 use crate::history::name;
 use crate::pair::{Pair, UNCOUNTED};
 use crate::parts::{BLOCK, CONTENT, encode, lay, register};
@@ -27,8 +27,9 @@ fn window(pair: &mut Pair, counts: &[(&[u8], usize)]) {
 }
 
 /// Quotient, remainder and windows, or a refusal.
-fn mean(pair: &mut Pair, identifier: &[u8]) -> Answer {
-    pair.make(&Call::Mean(identifier.to_vec()), &mut Tally::default())
+fn mean(pair: &mut Pair, identifier: &[u8]) -> Result<[u64; 3], u32> {
+    let answer = pair.make(&Call::Mean(identifier.to_vec()), &mut Tally::default());
+    answer.map(|[quotient, remainder, windows, ..]| [quotient, remainder, windows])
 }
 
 #[test]

@@ -1,8 +1,10 @@
 //! The two engines beside each other: every call goes to both, and all that they answer and leave is compared byte by byte.
 
-use crate::engines::{Answer, Call, NOTHING, Probe, proved, second};
+use crate::engines::{Answer, Call, NOTHING, Probe, Told, proved, second};
+use crate::planned::{Windows, read_back};
 use crate::tally::Tally;
 use crate::words::{at, word};
+use gemsilver::bytes::register_ok;
 use second::image;
 use second::state::State;
 use std::collections::BTreeSet;
@@ -69,6 +71,11 @@ impl Pair {
         tally.record(call.name(), answer.err());
         if let Call::RemoveAll(windows) = call {
             self.compare_one_by_one(windows, answer, tally);
+        }
+        if let Call::Forecast(plan, counts) = call {
+            let expected = foreseen(&self.before, plan, counts);
+            assert_eq!(answer, expected, "the calls of {call:?}");
+            see_plan(&self.before, counts, answer, tally);
         }
         if is_answered(call, &answer) && leaves_out(&self.before, call) {
             tally.leave_out(call.name());
@@ -153,6 +160,88 @@ fn see_list(before: u32, grown: &[u32], told: Answer, tally: &mut Tally) {
     ] {
         if is_seen {
             tally.see_list(format!("{kind} {sight}"));
+        }
+    }
+}
+
+/// What a forecast must answer, by other calls of the proved engine alone. No card is lent to it, so that the plan's calls are made on one
+/// without a byte.
+fn foreseen(probe: &Probe, plan: &[u8], counts: &[u32]) -> Answer {
+    let opened = proved(&mut probe.clone(), &Call::Open, &mut []);
+    if opened == Err(1) {
+        return Err(1);
+    }
+    if word(&probe.image, at::REGISTER) as usize != probe.register.len() {
+        return Err(2);
+    }
+    let Some(windows) = read_back(plan, counts).filter(|_| register_ok(&probe.register)) else {
+        return Err(3);
+    };
+    let card = vec![255; word(&probe.image, at::CARD) as usize];
+    let blank = Probe {
+        card,
+        ..probe.clone()
+    };
+    Ok(really(blank, &windows))
+}
+
+/// What the calls of a plan come to.
+pub fn really(mut probe: Probe, windows: &Windows) -> Told {
+    let before = word(&probe.image, at::PARTITIONS);
+    let stop = follow(&mut probe, windows).err().unwrap_or_default();
+    // With no merge between, every flush makes a partition more.
+    let used = word(&probe.image, at::PARTITIONS);
+    let length = |record: u32| word(&probe.image, at::PARTITIONS + 3 + 3 * record as usize);
+    let blocks: u32 = (0..used).map(|record| length(record).div_ceil(4_092)).sum();
+    let entries = probe.register.chunks(65).filter(|entry| entry[0] > 0);
+    let [window, event, refusal] = stop;
+    let flushes = (used - before).into();
+    let entries = entries.count() as u64;
+    [flushes, blocks.into(), entries, window, event, refusal]
+}
+
+/// Makes the calls of a plan: window, event and refusal of the first that is refused.
+fn follow(probe: &mut Probe, windows: &Windows) -> Result<(), [u64; 3]> {
+    for (window, identifiers) in (1..).zip(windows) {
+        let mut make = |event: u64, call: Call| {
+            let answer = proved(probe, &call, &mut []);
+            answer.map_err(|number| [window, event, number.into()])
+        };
+        make(0, Call::Open)?;
+        for (event, identifier) in (1..).zip(identifiers) {
+            make(event, Call::Event(identifier.clone()))?;
+        }
+        proved(probe, &Call::Close, &mut []).expect("the window is open");
+    }
+    Ok(())
+}
+
+/// Notes where a plan stopped, and what it did before.
+fn see_plan(before: &Probe, counts: &[u32], answer: Answer, tally: &mut Tally) {
+    let Ok([flushes, _, entries, window, event, number]) = answer else {
+        return;
+    };
+    let used = before.register.chunks(65).filter(|entry| entry[0] > 0);
+    let place = match (event, number) {
+        (_, 0) => "that do not stop".to_string(),
+        (0, _) => format!("that stop at an open with {number}"),
+        _ => format!("that stop at an event with {number}"),
+    };
+    for (sight, is_seen) in [
+        (&place[..], true),
+        ("of no window", counts.is_empty()),
+        ("of a window without events", counts.contains(&0)),
+        ("that stop past the first window", window > 1),
+        ("with a flush", flushes > 0),
+        ("with several flushes", flushes > 1),
+        (
+            "with new identifiers",
+            entries as usize > used.clone().count(),
+        ),
+        ("during a merge", word(&before.image, at::STEPS) > 0),
+    ] {
+        if is_seen {
+            tally.see_plan(sight.to_string());
         }
     }
 }

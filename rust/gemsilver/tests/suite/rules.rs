@@ -11,7 +11,8 @@ use second::image;
 use second::state::{Partition, Posting, State, Windows};
 use std::collections::BTreeMap;
 
-/// Judges a state by calls that read nothing else, and by a mean and an empty list of windows, which come no further than the lengths.
+/// Judges a state by calls that read nothing else, and by a mean, an empty list of windows and an empty plan, which come no further than the
+/// lengths.
 fn judge(image: &[u8], tally: &mut Tally) {
     let mut pair = Pair::of(Probe {
         image: image.to_vec(),
@@ -20,6 +21,7 @@ fn judge(image: &[u8], tally: &mut Tally) {
     });
     let _ = pair.make(&Call::Mean(b"A".to_vec()), tally);
     let _ = pair.make(&Call::RemoveAll(Vec::new()), tally);
+    let _ = pair.make(&Call::Forecast(Vec::new(), Vec::new()), tally);
     let _ = pair.make(&Call::Open, tally);
     let _ = pair.make(&Call::Close, tally);
 }
@@ -84,6 +86,7 @@ fn both_engines_judge_every_number_alike() {
     tally.expect("close", &[0, 1], 1_000);
     tally.expect("mean", &[1, 2], 1_000);
     tally.expect("remove_all", &[1, 2], 1_000);
+    tally.expect("forecast", &[1, 2], 1_000);
 }
 
 /// The last number given, N, the open window and its events, with postings of that window.

@@ -10,6 +10,8 @@ pub struct Tally {
     left_out: BTreeMap<&'static str, usize>,
     /// How far lists of windows came, and where they flushed.
     lists: BTreeMap<String, usize>,
+    /// Where plans stopped, and what they did before.
+    plans: BTreeMap<String, usize>,
 }
 
 impl Tally {
@@ -25,6 +27,11 @@ impl Tally {
     /// Notes something of a list of windows.
     pub fn see_list(&mut self, sight: String) {
         *self.lists.entry(sight).or_default() += 1;
+    }
+
+    /// Notes something of a plan.
+    pub fn see_plan(&mut self, sight: String) {
+        *self.plans.entry(sight).or_default() += 1;
     }
 
     /// Prints what was compared, a line a call and one for all.
@@ -49,6 +56,9 @@ impl Tally {
         for (sight, count) in &self.lists {
             println!("  lists {sight}: {count}");
         }
+        for (sight, count) in &self.plans {
+            println!("  plans {sight}: {count}");
+        }
     }
 
     /// Each of these refusals of a call, and the call done (0), must have been met so many times.
@@ -63,6 +73,12 @@ impl Tally {
     pub fn expect_lists(&self, sight: &str, times: usize) {
         let seen = self.lists.get(sight).copied().unwrap_or(0);
         assert!(seen >= times, "lists {sight}: seen {seen} times");
+    }
+
+    /// So many plans must have been seen to do so.
+    pub fn expect_plans(&self, sight: &str, times: usize) {
+        let seen = self.plans.get(sight).copied().unwrap_or(0);
+        assert!(seen >= times, "plans {sight}: seen {seen} times");
     }
 
     /// So many queries and so many means must have left out counts of the open window in partitions.

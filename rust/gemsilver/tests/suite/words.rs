@@ -2,6 +2,8 @@
 
 /// The places of some words of an image.
 pub mod at {
+    pub const CARD: usize = 0;
+    pub const REGISTER: usize = 1;
     pub const LAST: usize = 2;
     pub const LIVE: usize = 3;
     pub const OPEN: usize = 4;

@@ -40,8 +40,8 @@ pub const OPEN: Command = Command {
     help: "
 Opens a snapshot: a file with state, card and register of one moment. First the
 proved engine judges it, then the same is shown as by `at`, without a ledger,
-since a snapshot has no history. The commands where, why, query and mean take a
-snapshot in place of FILE:LINE too.
+since a snapshot has no history. The commands where, why, query, mean and forecast
+take a snapshot in place of FILE:LINE too.
 
 It is an error where the proved engine refuses state, card or register: it says
 with which number, and what is wrong and where as far as the display can tell.",

@@ -2,6 +2,7 @@
 
 mod against;
 mod at;
+mod forecast;
 mod mean;
 mod moments;
 mod page;
@@ -41,7 +42,7 @@ pub struct Command {
 }
 
 /// All commands, in the order in which a user meets them.
-pub static ALL: [Command; 11] = [
+pub static ALL: [Command; 12] = [
     run::COMMAND,
     at::COMMAND,
     at::OPEN,
@@ -49,6 +50,7 @@ pub static ALL: [Command; 11] = [
     why::COMMAND,
     query::COMMAND,
     mean::COMMAND,
+    forecast::COMMAND,
     moments::COMMAND,
     against::COMMAND,
     page::COMMAND,

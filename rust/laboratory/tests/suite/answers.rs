@@ -1,6 +1,6 @@
 //! Answers: the engine's, the ledger's and the second command program's are the same, and every score is reckoned.
 
-use crate::calls::{good, run, shown};
+use crate::calls::{call, good, run, shown};
 use crate::folder::Folder;
 use crate::history::{FULL, History, LARGE, MANY, Plan, SMALL, text};
 use crate::rng::Rng;
@@ -184,6 +184,96 @@ fn the_ledger_agrees_at_every_moment() {
     }
     println!("means {counted}, none {uncounted}, windows not live {gone}");
     assert!(counted >= 8 && uncounted >= 12 && gone >= 50);
+}
+
+/// The number that stands behind these words.
+fn number_behind(text: &str, words: &str) -> usize {
+    let (_, rest) = text.split_once(words).unwrap_or_else(|| panic!("{text}"));
+    let digits: String = rest.chars().take_while(char::is_ascii_digit).collect();
+    digits.parse().expect("a number")
+}
+
+/// Blocks of finished partitions and entries of the register, as a moment is shown.
+fn shown_at(file: &str, line: usize, blocks: &str) -> [usize; 2] {
+    let text = good(&["at", &format!("{file}:{line}"), "--blocks", blocks]);
+    [
+        number_behind(&text, &format!("\nblocks {blocks}: ")),
+        number_behind(&text, "\nregister: "),
+    ]
+}
+
+/// The first line past some that `run` shows as refused, and with which number.
+fn first_refused(text: &str, past: usize) -> Option<(usize, usize)> {
+    let lines = text.lines().filter_map(|line| {
+        let (number, rest) = line.trim_start().split_once("  ")?;
+        let number: usize = number.parse().ok()?;
+        let is_refused = rest.contains(" -> refused ");
+        (number > past && is_refused).then(|| (number, number_behind(rest, " -> refused ")))
+    });
+    lines.into_iter().next()
+}
+
+/// Lines of some windows of a history's identifiers, now and then with one that is none.
+fn planned(history: &History, rng: &mut Rng) -> Vec<Vec<u8>> {
+    let mut lines = Vec::new();
+    for _ in 0..rng.pick(&[1, 4, 12]) {
+        lines.push(b"O".to_vec());
+        for _ in 0..rng.below(60) {
+            let name = match rng.below(500) {
+                0 => vec![b'x'; 65],
+                1 => vec![b'z'; 1 + rng.below(64)],
+                _ => rng.pick(&history.names),
+            };
+            lines.push([&b"E "[..], &name].concat());
+        }
+        lines.push(b"C".to_vec());
+    }
+    lines
+}
+
+/// A plan put behind the session comes to what was told of it: the same line is refused first, and up to there the card has as many finished
+/// blocks and the register as many entries.
+#[test]
+fn forecasts_come_true() {
+    let mut rng = Rng(79);
+    let (mut ended, mut stopped, mut flushes) = (0, 0, 0);
+    for (seed, plan) in [SMALL, MANY, FULL, LARGE].iter().enumerate() {
+        let written = Written::new(plan, 50 + seed as u64);
+        let (history, folder) = (&written.history, &written.folder);
+        let blocks = &history.blocks;
+        for _ in 0..12 {
+            let line = rng.pick(&history.lines_of(b"C"));
+            let lines = planned(history, &mut rng);
+            let plan = folder.write("plan.txt", text(&lines));
+            let moment = format!("{}:{line}", written.file);
+            let told = call(&["forecast", &moment, &plan, "--blocks", blocks]).text;
+            assert!(told.ends_with("\nledger: same\n"), "{told}");
+            let both = [&history.lines[..line], &lines].concat();
+            let both = folder.write("both.txt", text(&both));
+            let made = good(&["run", &both, "--blocks", blocks]);
+            let stop = told.contains("\nstops at line ").then(|| {
+                let place = line + number_behind(&told, "\nstops at line ");
+                (place, number_behind(&told, " would be refused "))
+            });
+            assert_eq!(first_refused(&made, line), stop, "{told}");
+            let last = stop.map_or(line + lines.len(), |(place, _)| place - 1);
+            let [finished, used] = shown_at(&both, last, blocks);
+            assert_eq!(
+                number_behind(&told, "\nblocks of finished partitions: "),
+                finished
+            );
+            assert_eq!(number_behind(&told, "\nregister entries used: "), used);
+            let flushed = number_behind(&told, "\nflushes: ");
+            assert_eq!(finished - shown_at(&both, line, blocks)[0], flushed);
+            flushes += flushed;
+            match stop {
+                Some(_) => stopped += 1,
+                None => ended += 1,
+            }
+        }
+    }
+    println!("{ended} to their end, {stopped} stopped, {flushes} flushes");
+    assert!(ended >= 20 && stopped >= 8 && flushes >= 15);
 }
 
 #[test]

@@ -1,6 +1,6 @@
 //! Exact small cases of each command, by hand.
 
-use crate::calls::{bad, good, run};
+use crate::calls::{bad, call, good, run};
 use crate::folder::Folder;
 use laboratory::Outcome;
 
@@ -299,6 +299,116 @@ fn a_query_and_means_are_answered() {
     assert_eq!(good(&["mean", &open, "LUCKY"]), expected);
 }
 
+/// Flushes, blocks and entries as they stand, and how a plan goes on from there.
+fn forecast(numbers: [&str; 3], end: &str) -> String {
+    let [flushes, blocks, entries] = numbers;
+    format!(
+        "flushes: {flushes}\nblocks of finished partitions: {blocks}, half of the card\n\
+         register entries used: {entries}\n{end}\nledger: same\n"
+    )
+}
+
+const TO_ITS_END: &str = "goes to its end: no line would be refused";
+
+/// Window 1 is closed at line 6 and window 2 open from line 7 to line 9.
+#[test]
+fn a_plan_is_told_to_its_end_or_to_where_it_stops() {
+    let folder = Folder::new();
+    let file = written(&folder, LINES);
+    let plan = folder.write("plan.txt", "O\nE TILT\nE DOOR\nC\n# none\nO\nC\n");
+    let ask = |line: usize| {
+        let moment = format!("{file}:{line}");
+        call(&["forecast", &moment, &plan, "--entries", "3"])
+    };
+    let start = "plan: 2 windows, 2 events\n";
+    let fresh = forecast(["0", "0 of 8", "2 of 3"], TO_ITS_END);
+    let known = forecast(["0", "0 of 8", "3 of 3"], TO_ITS_END);
+    for (line, told) in [(0, fresh), (6, known.clone()), (10, known)] {
+        let called = ask(line);
+        assert_eq!(called.text, format!("{start}{told}"));
+        assert!(matches!(called.result, Ok(Outcome::Good)), "{line}");
+    }
+    let stop = "stops at line 1, O: the open of the plan's window 1 would be refused 5: \
+                no window is open, one is, or the open one is named\n      \
+                a window is open at that moment: a plan can begin after its C, no earlier";
+    let called = ask(8);
+    let told = forecast(["0", "0 of 8", "2 of 3"], stop);
+    assert_eq!(called.text, format!("{start}{told}"));
+    assert!(matches!(called.result, Ok(Outcome::Bad)));
+}
+
+/// Plans that stop on a fresh card of four blocks, and where.
+#[test]
+fn the_line_is_told_at_which_a_plan_stops() {
+    let folder = Folder::new();
+    let file = written(&folder, LINES);
+    let fresh = format!("{file}:0");
+    let names = |count: usize| -> String { (0..count).map(|n| format!("E {n}\n")).collect() };
+    let window = |count: usize| format!("O\n{}C\n", names(count));
+    let long = "x".repeat(65);
+    let cases = [
+        (
+            format!("O\nC\n# long\nO\nE A\nE {long}\nE B\nC\n"),
+            ["0", "0 of 2", "1 of 70"],
+            format!("line 6, E {long}: event 2 of the plan's window 2 would be refused 4: an identifier is empty or longer than 64 bytes"),
+        ),
+        (
+            format!("{}O\n{}E more\nC\n", window(64), names(64)),
+            ["0", "0 of 2", "64 of 70"],
+            "line 132, E more: event 65 of the plan's window 2 would be refused 9: a 65th identifier in one window".into(),
+        ),
+        (
+            format!("{}O\nE a\nE b\nE c\nE d\nE e\nE f\nE g\nC\n", window(64)),
+            ["0", "0 of 2", "70 of 70"],
+            "line 74, E g: event 7 of the plan's window 2 would be refused 8: a new identifier finds the register full".into(),
+        ),
+        (
+            window(64).repeat(7),
+            ["2", "2 of 2", "64 of 70"],
+            "line 398, E 0: event 1 of the plan's window 7 would be refused 11: finished partitions would take more than half of the card".into(),
+        ),
+    ];
+    for (plan, numbers, stop) in cases {
+        let plan = folder.write("plan.txt", plan);
+        let text = bad(&[
+            "forecast",
+            &fresh,
+            &plan,
+            "--blocks",
+            "4",
+            "--entries",
+            "70",
+        ]);
+        let expected = forecast(numbers, &format!("stops at {stop}"));
+        assert!(text.ends_with(&format!(" events\n{expected}")), "{text}");
+    }
+    let nothing = folder.write("plan.txt", "# nothing yet\n");
+    let told = forecast(["0", "0 of 8", "2 of 64"], TO_ITS_END);
+    let expected = format!("plan: 0 windows, 0 events\n{told}");
+    assert_eq!(good(&["forecast", &file, &nothing]), expected);
+}
+
+/// A snapshot has no ledger; what does not show in a plan is warned of, each thing once.
+#[test]
+fn a_plan_is_told_from_a_snapshot_and_with_warnings() {
+    let folder = Folder::new();
+    let file = written(&folder, LINES);
+    let saved = folder.path("moment.snapshot");
+    good(&["save", &file, &saved]);
+    let plan = folder.write("plan.txt", b"O\nE A\r\nE B\r\nE C\tD\nC\n");
+    let told = forecast(["0", "0 of 8", "5 of 64"], TO_ITS_END);
+    let told = told.replace(
+        "ledger: same",
+        "ledger: none, since a snapshot has no history",
+    );
+    let expected = format!(
+        "plan: 1 window, 3 events\n\
+         warning: line 2: the line has a carriage return, and it counts as a byte of its field\n\
+         warning: line 4: the line has a tab, and a tab parts no fields: it counts as a byte of its field\n{told}"
+    );
+    assert_eq!(good(&["forecast", &saved, &plan]), expected);
+}
+
 /// An identifier is written as it is shown.
 #[test]
 fn identifiers_are_read_as_they_are_shown() {
@@ -360,6 +470,7 @@ fn a_page_has_its_data_and_no_identifier_ends_its_script() {
 fn lines_passed_over_are_told_of() {
     let folder = Folder::new();
     let file = written(&folder, "O\nX\nE A\nC\n\nQ 1 A\n");
+    let plan = folder.write("plan.txt", "# nothing yet\n");
     let first = |text: String| text.lines().next().unwrap_or_default().to_string();
     let last = |text: String| text.lines().last().unwrap_or_default().to_string();
     let one = format!("after line 3 of {file}; 1 line was not understood");
@@ -371,6 +482,7 @@ fn lines_passed_over_are_told_of() {
         &["why", &moment, "1", "A"],
         &["query", &moment, "1", "A"],
         &["mean", &moment, "A"],
+        &["forecast", &moment, &plan],
     ] {
         assert_eq!(first(good(words)), format!("# {one}"), "{words:?}");
     }

@@ -1,6 +1,6 @@
 //! Damaged snapshots and damaged files of lines: never a panic, and a clear word.
 
-use crate::calls::{Called, call, good, read_card};
+use crate::calls::{Called, call, good, of_repository, read_card};
 use crate::folder::Folder;
 use crate::rng::Rng;
 use laboratory::{Failure, Outcome};
@@ -118,13 +118,15 @@ fn any_call(file: &str, rng: &mut Rng) -> Called {
     let looks = ["card", "buffer", "register", "merge"];
     let window = (1 + rng.below(12)).to_string();
     let number = rng.below(4).to_string();
-    match rng.below(7) {
+    let plan = of_repository("lessons/4-between-merge-steps/plan.txt");
+    match rng.below(8) {
         0 => call(&["open", file]),
         1 => call(&["open", file, "look", rng.pick(&looks)]),
         2 => call(&["open", file, "look", "partition", &number]),
         3 => call(&["where", file, &window]),
         4 => call(&["why", file, &window, "LUCKY", "A"]),
         5 => call(&["query", file, "5", "LUCKY", "TILT"]),
+        6 => call(&["forecast", file, &plan]),
         _ => call(&["mean", file, "LUCKY"]),
     }
 }

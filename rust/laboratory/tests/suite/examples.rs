@@ -5,8 +5,9 @@ use crate::folder::Folder;
 use laboratory::examples;
 
 /// The names of the commands.
-const NAMES: [&str; 11] = [
-    "run", "at", "open", "where", "why", "query", "mean", "moments", "against", "page", "save",
+const NAMES: [&str; 12] = [
+    "run", "at", "open", "where", "why", "query", "mean", "forecast", "moments", "against", "page",
+    "save",
 ];
 
 #[test]

@@ -10,9 +10,10 @@ use std::path::Path;
 use std::process::{Command, Stdio};
 
 const LINES: &str = "O\nE A\nC\nQ 1 A\n";
+const PLAN: &str = "# a window\nO\nE A\nC\n";
 
 /// Words of a call, parted by spaces, and what is said of it.
-const REFUSED: [(&str, &str); 61] = [
+const REFUSED: [(&str, &str); 71] = [
     (
         "dance",
         "no such command: dance; gemsilver --help tells more",
@@ -132,6 +133,40 @@ const REFUSED: [(&str, &str); 61] = [
     ),
     ("mean lines.txt", "IDENTIFIER is missing; "),
     ("mean lines.txt A B", "B is too much; "),
+    (
+        "forecast",
+        "FILE:LINE or a snapshot is missing; gemsilver --help tells more",
+    ),
+    ("forecast lines.txt", "PLAN is missing; "),
+    ("forecast lines.txt plan.txt more", "more is too much; "),
+    (
+        "forecast lines.txt missing.txt",
+        "missing.txt: No such file or directory",
+    ),
+    (
+        "forecast lines.txt:9 plan.txt",
+        "lines.txt: there is no line 9",
+    ),
+    (
+        "forecast torn.snapshot plan.txt",
+        "torn.snapshot: cut off: it has 12 bytes of 32",
+    ),
+    (
+        "forecast lines.txt torn.snapshot",
+        "torn.snapshot: it is a snapshot and no file of lines",
+    ),
+    (
+        "forecast lines.txt lines.txt",
+        "lines.txt: line 4, Q 1 A: a plan has lines O, E and C alone",
+    ),
+    (
+        "forecast lines.txt junk.txt",
+        "junk.txt: line 1, not one command: not understood: its first field is none of ",
+    ),
+    (
+        "forecast lines.txt:0 plan.txt --blocks 3",
+        "a card has 4 to 4096 blocks, ",
+    ),
     ("moments lines.txt", "QUERY is missing; "),
     (
         "moments lines.txt O",
@@ -154,10 +189,11 @@ const REFUSED: [(&str, &str); 61] = [
     ),
 ];
 
-/// A folder with a file of lines, a folder, a torn snapshot and a file that is neither.
+/// A folder with a file of lines, a plan, a folder, a torn snapshot and a file that is neither.
 fn folder() -> Folder {
     let folder = Folder::new();
     folder.write("lines.txt", LINES);
+    folder.write("plan.txt", PLAN);
     folder.write("torn.snapshot", b"GEMSILVER\r\n\x1a");
     folder.write("junk.txt", "not one command\n");
     fs::create_dir(folder.path("sub")).expect("a folder");
@@ -195,6 +231,8 @@ fn the_exit_status_tells_what_was_found() {
         ("help", 0),
         ("run --help", 0),
         ("why lines.txt 1", 1),
+        ("forecast lines.txt plan.txt", 0),
+        ("forecast lines.txt:1 plan.txt", 1),
     ];
     for (line, status) in statuses {
         let output = program(Path::new(&folder.path("")), &parted(line));
@@ -207,7 +245,7 @@ fn the_exit_status_tells_what_was_found() {
 }
 
 /// A call of each command.
-const CALLS: [&str; 13] = [
+const CALLS: [&str; 14] = [
     "run lines.txt",
     "at lines.txt:2",
     "at lines.txt:2 look merge",
@@ -215,6 +253,7 @@ const CALLS: [&str; 13] = [
     "why lines.txt 1 A",
     "query lines.txt 1 A",
     "mean lines.txt A",
+    "forecast lines.txt plan.txt",
     "moments lines.txt",
     "against all lines.txt",
     "against read-output lines.txt",
@@ -226,7 +265,7 @@ const CALLS: [&str; 13] = [
 /// The words of a call, with paths in a folder, and the query that has spaces.
 fn call_words(line: &str, folder: &Folder) -> Vec<String> {
     let place = |word: String| {
-        let files = ["lines.txt", "out.snapshot"];
+        let files = ["lines.txt", "plan.txt", "out.snapshot"];
         let place = |word: String, file: &&str| word.replace(file, &folder.path(file));
         files.iter().fold(word, place)
     };

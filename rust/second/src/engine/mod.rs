@@ -7,6 +7,7 @@
 mod close;
 mod event;
 mod flush;
+mod forecast;
 mod mean;
 mod open;
 mod query;
@@ -19,6 +20,7 @@ mod wrong_ways;
 pub use close::close;
 pub use event::event;
 pub use flush::flush;
+pub use forecast::{Forecast, Stop, forecast};
 pub use mean::{Mean, mean};
 pub use open::open;
 pub use query::{Found, query};

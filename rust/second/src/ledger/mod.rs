@@ -3,8 +3,9 @@
 //! The ledger has the counts of every live window, and answers queries and
 //! means from those of the closed ones alone: the open one shows from its close.
 //! Beside it runs an account of the card: how many postings lie where, which
-//! decides when there is no room and what a query takes up. Neither uses any
-//! code or type of the engine, so that an error is not made twice.
+//! decides when there is no room and what a query takes up. A forecast makes
+//! the planned calls on a copy of both. Neither uses any code or type of the
+//! engine, so that an error is not made twice.
 
 pub mod account;
 
@@ -32,6 +33,30 @@ pub struct Mean {
     pub remainder: u32,
     /// How many closed windows have the identifier.
     pub windows: u32,
+}
+
+/// What a planned session would come to, up to the first refusal.
+#[derive(Clone, PartialEq, Eq, Debug)]
+pub struct Forecast {
+    /// How many of its calls would write a partition.
+    pub flushes: usize,
+    /// How many blocks finished partitions would have.
+    pub blocks: usize,
+    /// How many identifiers would be known.
+    pub entries: usize,
+    /// Where it would stop.
+    pub stop: Option<Stop>,
+}
+
+/// The first call of a plan that would be refused.
+#[derive(Clone, PartialEq, Eq, Debug)]
+pub struct Stop {
+    /// The window's place in the plan, from 1.
+    pub window: usize,
+    /// The event's place in its window, from 1; 0 for the open.
+    pub event: usize,
+    /// The refusal's number.
+    pub number: u8,
 }
 
 /// The live windows and what the calls have done to them.
@@ -205,6 +230,38 @@ impl Ledger {
             remainder: sum % windows,
             windows,
         })
+    }
+
+    /// What the windows of a plan would come to, each with its identifiers in order:
+    /// the calls are made on a copy.
+    pub fn forecast(&self, plan: &[Vec<Vec<u8>>]) -> Forecast {
+        let mut after = self.clone();
+        let stop = after.play(plan).err();
+        Forecast {
+            // With no merge between, a flush makes one partition more, and nothing else does.
+            flushes: after.account.parts.len() - self.account.parts.len(),
+            blocks: after.account.finished_blocks(),
+            entries: after.known.len(),
+            stop,
+        }
+    }
+
+    /// Opens, counts and closes window after window, up to the first refusal.
+    fn play(&mut self, plan: &[Vec<Vec<u8>>]) -> Result<(), Stop> {
+        for (place, identifiers) in plan.iter().enumerate() {
+            let stop = |event: usize, number: u8| Stop {
+                window: place + 1,
+                event,
+                number,
+            };
+            self.open().map_err(|number| stop(0, number))?;
+            for (event, identifier) in identifiers.iter().enumerate() {
+                self.event(identifier)
+                    .map_err(|number| stop(event + 1, number))?;
+            }
+            self.close().expect("the plan's window is open");
+        }
+        Ok(())
     }
 
     /// The open window's events.

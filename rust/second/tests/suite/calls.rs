@@ -1,8 +1,10 @@
 //! Calls as values, made on any state, card and register.
 
+use crate::made::{expected, told};
+use crate::planned::laid_out;
 use crate::twin::check_byte_rule;
 use second::commands::Probe;
-use second::engine::{self, Mean};
+use second::engine::{self, Forecast, Mean};
 use second::refusal::Refusal;
 use second::state::Hit;
 use std::collections::BTreeSet;
@@ -18,6 +20,8 @@ pub enum Call {
     Step,
     Query(Vec<Vec<u8>>, usize),
     Mean(Vec<u8>),
+    /// The entries of a plan, and how many each window has.
+    Forecast(Vec<u8>, Vec<u32>),
 }
 
 /// Makes a call and gives the refusal, if any. A refusal must change nothing,
@@ -59,6 +63,7 @@ fn call_engine(probe: &mut Probe, call: &Call) -> Result<(), Refusal> {
             found.map(drop)
         }
         Call::Mean(name) => mean_of(probe, name).map(drop),
+        Call::Forecast(plan, counts) => forecast_of(probe, plan, counts).map(drop),
     }
 }
 
@@ -112,6 +117,14 @@ pub fn mean_of(probe: &Probe, name: &[u8]) -> Result<Mean, Refusal> {
     answer
 }
 
+/// What a plan would come to, which must be what its calls come to.
+pub fn forecast_of(probe: &Probe, plan: &[u8], counts: &[u32]) -> Result<Forecast, Refusal> {
+    let answer = engine::forecast(&probe.state, &probe.register, plan, counts);
+    let by_calls = expected(probe, plan, counts);
+    assert_eq!(answer.map(told).map_err(Refusal::number), by_calls);
+    answer
+}
+
 /// The refusal of a call on a copy; 0 if it is done.
 pub fn outcome(probe: &Probe, call: &Call) -> u8 {
     make(&mut probe.clone(), call).err().unwrap_or(0)
@@ -127,4 +140,9 @@ pub fn query(names: &[&[u8]]) -> Call {
 
 pub fn mean(name: &[u8]) -> Call {
     Call::Mean(name.to_vec())
+}
+
+pub fn forecast(windows: &[Vec<Vec<u8>>]) -> Call {
+    let (plan, counts) = laid_out(windows);
+    Call::Forecast(plan, counts)
 }

@@ -1,8 +1,9 @@
 //! Random damage to state, card and register: a call may refuse, but never
 //! panics, and a refusal changes nothing.
 
-use crate::calls::{Call, make, outcome};
+use crate::calls::{Call, forecast, make, outcome};
 use crate::history::{Odds, Plan, act, any_list, name};
+use crate::planned::{any_windows, damage_plan};
 use crate::rng::Rng;
 use crate::tally::Tally;
 use crate::twin::Twin;
@@ -176,23 +177,21 @@ fn kind(call: &Call) -> &'static str {
         Call::Step => "step",
         Call::Query(..) => "query",
         Call::Mean(_) => "mean",
+        Call::Forecast(..) => "forecast",
     }
 }
 
 #[test]
 fn damage_is_refused_or_borne() {
     let (mut tally, mut together) = (Tally::default(), Tally::default());
+    let mut planned = Tally::default();
     let mut rng = Rng(2024);
-    let mut lists = Rng(2025);
+    let (mut lists, mut plans) = (Rng(2025), Rng(2026));
     for _ in 0..8 {
         let mut twin = Twin::new(PLAN.blocks, PLAN.entries);
         for _ in 0..1500 {
             act(&mut twin, &mut rng, &PLAN);
-            let mut probe = Probe {
-                state: twin.state.clone(),
-                card: twin.card.clone(),
-                register: twin.register.clone(),
-            };
+            let mut probe = twin.probe();
             for _ in 0..1 + rng.below(2) {
                 damage(&mut probe, &mut rng);
             }
@@ -200,6 +199,11 @@ fn damage_is_refused_or_borne() {
                 let call = Call::RemoveAll(any_list(&mut lists, &twin.ledger));
                 let refusal = Some(outcome(&probe, &call)).filter(|&number| number > 0);
                 together.record(kind(&call), refusal);
+            }
+            if plans.one_in(4) {
+                let call = any_plan(&mut plans);
+                let refusal = Some(outcome(&probe, &call)).filter(|&number| number > 0);
+                planned.record(kind(&call), refusal);
             }
             for _ in 0..2 {
                 let call = random_call(&mut rng, probe.state.windows.last);
@@ -223,13 +227,30 @@ fn damage_is_refused_or_borne() {
         together.expect_refused(number, 50);
     }
     together.expect_refused(5, 10);
+    planned.print("Plans on these:");
+    planned.expect_done("forecast", 1_000);
+    for number in [1, 2, 3] {
+        planned.expect_refused(number, 50);
+    }
+}
+
+/// A forecast of a plan, now and then of a damaged one.
+fn any_plan(rng: &mut Rng) -> Call {
+    let call = forecast(&any_windows(rng, PLAN.names));
+    let Call::Forecast(mut plan, mut counts) = call else {
+        unreachable!("a forecast was made")
+    };
+    if rng.one_in(3) {
+        damage_plan(&mut plan, &mut counts, rng);
+    }
+    Call::Forecast(plan, counts)
 }
 
 /// States of random numbers altogether, on cards of any length.
 #[test]
 fn random_states_are_refused_or_borne() {
     let mut rng = Rng(99);
-    let mut lists = Rng(100);
+    let (mut lists, mut plans) = (Rng(100), Rng(101));
     for _ in 0..20_000 {
         let mut state = State::default();
         state.lengths.card = rng.pick(&[0, 16_384, 20_480, 16_383]);
@@ -253,6 +274,7 @@ fn random_states_are_refused_or_borne() {
         };
         let windows = (0..lists.below(4)).map(|_| number(&mut lists)).collect();
         let _ = outcome(&probe, &Call::RemoveAll(windows));
+        let _ = outcome(&probe, &any_plan(&mut plans));
         let _ = make(&mut probe, &random_call(&mut rng, 9));
     }
 }

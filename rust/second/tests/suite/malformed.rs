@@ -1,7 +1,7 @@
 //! Each way in which what a call must read can be malformed.
 
 use crate::build::build;
-use crate::calls::{Call, event, make, mean, mean_of, outcome, query};
+use crate::calls::{Call, event, forecast, make, mean, mean_of, outcome, query};
 use crate::image::{BLOCK, CONTENT, encode, place, word};
 use second::commands::Probe;
 use second::ledger::Ledger;
@@ -346,6 +346,7 @@ fn the_register_is_read_whole() {
         assert_eq!(outcome(&probe, &event(b"")), 3);
         assert_eq!(outcome(&probe, &mean(b"")), 3);
         assert_eq!(outcome(&probe, &Call::Query(Vec::new(), 0)), 3);
+        assert_eq!(outcome(&probe, &forecast(&[])), 3);
     }
 }
 

@@ -197,11 +197,7 @@ fn well_formed_damage_is_read_as_it_stands() {
         let mut twin = Twin::new(PLAN.blocks, PLAN.entries);
         for _ in 0..1000 {
             act(&mut twin, &mut rng, &PLAN);
-            let mut probe = Probe {
-                state: twin.state.clone(),
-                card: twin.card.clone(),
-                register: twin.register.clone(),
-            };
+            let mut probe = twin.probe();
             for _ in 0..1 + rng.below(3) {
                 damage(&mut probe, &mut rng);
             }
@@ -259,11 +255,7 @@ fn lists_on_well_formed_damage_are_taken_as_it_stands() {
         let mut twin = Twin::new(together::PLAN.blocks, together::PLAN.entries);
         for _ in 0..together::PLAN.calls {
             act(&mut twin, &mut rng, &together::PLAN);
-            let mut probe = Probe {
-                state: twin.state.clone(),
-                card: twin.card.clone(),
-                register: twin.register.clone(),
-            };
+            let mut probe = twin.probe();
             damage(&mut probe, &mut rng);
             compare_list(&probe, &any_list(&mut rng, &twin.ledger), &mut done);
         }

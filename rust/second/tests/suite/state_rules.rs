@@ -1,6 +1,6 @@
 //! Each rule of the state, broken and kept to its limit.
 
-use crate::calls::{Call, event, mean, outcome, query};
+use crate::calls::{Call, event, forecast, mean, outcome, query};
 use crate::twin::Twin;
 use second::commands::Probe;
 use second::state::{MergeJob, Partition, Posting, State};
@@ -34,7 +34,7 @@ fn probe() -> Probe {
     }
 }
 
-fn all_calls() -> [Call; 11] {
+fn all_calls() -> [Call; 14] {
     [
         Call::Open,
         event(b"A"),
@@ -47,6 +47,9 @@ fn all_calls() -> [Call; 11] {
         Call::Step,
         query(&[b"A"]),
         mean(b"A"),
+        forecast(&[]),
+        forecast(&[vec![b"A".to_vec()], Vec::new()]),
+        Call::Forecast(vec![0; 64], vec![1]),
     ]
 }
 
@@ -309,6 +312,7 @@ fn buffers_must_have_the_lengths_of_the_start() {
                 Call::Remove(_) | Call::RemoveAll(_) => card_is_wrong,
                 Call::Flush | Call::Step => card_is_wrong,
                 Call::Event(_) | Call::Query(..) | Call::Mean(_) => true,
+                Call::Forecast(..) => register != 8,
             };
             assert_eq!(outcome(&probe, &call) == 2, refused, "{call:?}");
         }

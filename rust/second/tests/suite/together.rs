@@ -42,14 +42,6 @@ fn on_card(blocks: usize, names: &[usize]) -> Twin {
     twin
 }
 
-fn probe_of(twin: &Twin) -> Probe {
-    Probe {
-        state: twin.state.clone(),
-        card: twin.card.clone(),
-        register: twin.register.clone(),
-    }
-}
-
 fn together(windows: &[u32]) -> Call {
     Call::RemoveAll(windows.to_vec())
 }
@@ -271,7 +263,7 @@ fn a_card_half_full_refuses_the_whole_list() {
 #[test]
 fn too_few_free_blocks_refuse_the_whole_list() {
     for (free, expected) in [(0, 12), (1, 12), (2, 0)] {
-        let mut probe = probe_of(&on_card(64, &FIVE));
+        let mut probe = on_card(64, &FIVE).probe();
         for number in 5 + free..64 {
             probe.card[number * BLOCK + 4095] = 254;
         }
@@ -526,7 +518,7 @@ fn histories_take_lists_as_single_removals() {
             act(&mut twin, &mut rng, &PLAN);
             if lists.one_in(2) {
                 let list = any_list(&mut lists, &twin.ledger);
-                record(&mut tally, &probe_of(&twin), &list);
+                record(&mut tally, &twin.probe(), &list);
             }
         }
     }
@@ -641,8 +633,8 @@ fn the_order_changes_no_answer() {
         assert_eq!(forward.mean(&id), backward.mean(&id));
     }
     // The bytes are those of single removals in the order given.
-    let (probe, list) = (probe_of(&on_card(32, &names)), [1, 2, 3, 4]);
+    let (probe, list) = (on_card(32, &names).probe(), [1, 2, 3, 4]);
     let (after, result) = one_by_one(&probe, &list);
     assert_eq!(result, Ok(()));
-    assert!(after == probe_of(&forward) && after != probe_of(&backward));
+    assert!(after == forward.probe() && after != backward.probe());
 }

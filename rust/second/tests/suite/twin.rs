@@ -2,7 +2,10 @@
 
 use crate::build::{register_of, state_of};
 use crate::image::{BLOCK, FREE, check_card, walk};
+use crate::made::{Told, really, told, told_by_ledger};
+use crate::planned::{Windows, laid_out};
 use crate::tally::Tally;
+use second::commands::Probe;
 use second::engine;
 use second::ledger::Ledger;
 use second::ledger::account::{Due, Entry, Part};
@@ -164,6 +167,26 @@ impl Twin {
         self.compare("mean", engine, ledger)
     }
 
+    /// What a plan would come to, which is what its calls come to on this card.
+    pub fn forecast(&mut self, windows: &Windows) -> Told {
+        let (plan, counts) = laid_out(windows);
+        let engine = engine::forecast(&self.state, &self.register, &plan, &counts);
+        let ledger = told_by_ledger(self.ledger.forecast(windows));
+        assert_eq!(really(&self.probe(), windows), ledger, "forecast");
+        self.see_forecast(windows, ledger);
+        let compared = self.compare("forecast", engine.map(told), Ok(ledger));
+        compared.expect("the ledger refuses no plan")
+    }
+
+    /// A copy of what the engine has.
+    pub fn probe(&self) -> Probe {
+        Probe {
+            state: self.state.clone(),
+            card: self.card.clone(),
+            register: self.register.clone(),
+        }
+    }
+
     /// Compares the answers, then everything else.
     fn compare<T: PartialEq + Debug>(
         &mut self,
@@ -174,7 +197,7 @@ impl Twin {
         let engine = engine.map_err(Refusal::number);
         assert_eq!(engine, ledger, "{call}");
         self.tally.record(call, ledger.as_ref().err().copied());
-        if ledger.is_err() || matches!(call, "query" | "mean") {
+        if ledger.is_err() || matches!(call, "query" | "mean" | "forecast") {
             assert!(self.state == self.before.state, "{call} changed the state");
             assert!(self.card == self.before.card, "{call} changed the card");
             let same = self.register == self.before.register;
@@ -367,6 +390,35 @@ impl Twin {
             }
             Err(15) => self.tally.see("means of removed counts alone"),
             Err(_) => {}
+        }
+    }
+
+    /// Notes where a plan stops, and what it does before.
+    fn see_forecast(&mut self, windows: &Windows, told: Told) {
+        let (flushes, _, entries, stop) = told;
+        let place = match stop {
+            None => "to the end".to_string(),
+            Some((_, 0, number)) => format!("to an open refused with {number}"),
+            Some((_, _, number)) => format!("to an event refused with {number}"),
+        };
+        self.tally.see(&format!("forecasts {place}"));
+        let sights = [
+            ("of no window", windows.is_empty()),
+            ("of a window without events", windows.contains(&Vec::new())),
+            ("with a flush", flushes > 0),
+            ("with several flushes", flushes > 1),
+            ("with new identifiers", entries > self.ledger.known.len()),
+            ("past the first window", stop.is_none_or(|stop| stop.0 > 1)),
+            ("during a merge", self.ledger.account.steps > 0),
+            (
+                "beside removed counts",
+                self.ledger.account.buffer.values().any(|&count| count < 0),
+            ),
+        ];
+        for (sight, is_seen) in sights {
+            if is_seen {
+                self.tally.see(&format!("forecasts {sight}"));
+            }
         }
     }
 

@@ -1,6 +1,5 @@
 //! Wrong engines: what each answers where its fault shows, and near by where it does not.
 
-use crate::twin::Twin;
 use second::commands::Probe;
 use second::engine;
 use second::faults::Fault;
@@ -26,15 +25,6 @@ pub fn probe((blocks, entries): (usize, usize)) -> Probe {
         state,
         card,
         register,
-    }
-}
-
-/// The engine of a twin as it stands.
-pub fn probe_of(twin: &Twin) -> Probe {
-    Probe {
-        state: twin.state.clone(),
-        card: twin.card.clone(),
-        register: twin.register.clone(),
     }
 }
 

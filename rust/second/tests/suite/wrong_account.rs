@@ -6,7 +6,7 @@ use crate::history::{act, name};
 use crate::image::{decode, encode_unfinished, walk};
 use crate::rng::Rng;
 use crate::twin::{Twin, check_byte_rule};
-use crate::wrong::{Answer, ask, count, probe_of, step};
+use crate::wrong::{Answer, ask, count, step};
 use second::commands::Probe;
 use second::engine;
 use second::faults::Fault;
@@ -131,7 +131,7 @@ fn wrong_queries_are_as_the_account_says() {
         let mut twin = Twin::new(PLAN.blocks, PLAN.entries);
         for _ in 0..800 {
             act(&mut twin, &mut rng, &PLAN);
-            let probe = probe_of(&twin);
+            let probe = twin.probe();
             let names = some_names(&mut rng);
             let ids: Vec<&[u8]> = names.iter().map(|name| &name[..]).collect();
             let room = rng.pick(&[1, 2, 3, 5, 32]);
@@ -214,7 +214,7 @@ fn merges_without_negatives_are_as_the_account_says() {
             act(&mut twin, &mut rng, &PLAN);
             let due = due_above_0(&twin.ledger).filter(|_| twin.ledger.account.steps == 0);
             if let Some(due) = due {
-                merge_above_0(&probe_of(&twin), &due);
+                merge_above_0(&twin.probe(), &due);
                 let right = twin.ledger.account.due().expect("it is due");
                 merges += 1;
                 dropping += usize::from(right.result != due.result);
@@ -232,7 +232,7 @@ fn cut_identifiers_are_those_left_of_them() {
     let mut twin = Twin::new(PLAN.blocks, PLAN.entries);
     for _ in 0..800 {
         act(&mut twin, &mut rng, &PLAN);
-        let mut right = probe_of(&twin);
+        let mut right = twin.probe();
         let mut wrong = right.clone();
         let names = some_names(&mut rng);
         let ids: Vec<&[u8]> = names.iter().map(|name| &name[..]).collect();

@@ -7,7 +7,7 @@ use crate::history::act;
 use crate::malformed::{card_of, part};
 use crate::rng::Rng;
 use crate::twin::{Twin, check_byte_rule};
-use crate::wrong::{ask, count, probe_of, step};
+use crate::wrong::{ask, count, step};
 use second::commands::Probe;
 use second::engine;
 use second::faults::Fault;
@@ -53,7 +53,7 @@ fn wrong_engines_refuse_or_bear_damage() {
         let mut twin = Twin::new(PLAN.blocks, PLAN.entries);
         for _ in 0..800 {
             act(&mut twin, &mut rng, &PLAN);
-            let mut probe = probe_of(&twin);
+            let mut probe = twin.probe();
             for _ in 0..1 + rng.below(3) {
                 damage(&mut probe, &mut rng);
             }

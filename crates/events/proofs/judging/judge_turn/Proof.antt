@@ -1,5 +1,5 @@
 -- `events::judging::judge_turn` meets its contract: refused for its length, or judged by its number.
-use Rattle.lists.proofs.Prelude.{[], _∷_, ap, sym, _∙_, subst, ℕ, _/_, length, needs}
+use Rattle.lists.proofs.Prelude.{[], _∷_, sym, _∙_, subst, ℕ, _/_, length, needs}
 use Rattle.identifiers.specs.Names.{badLength}
 use Rattle.events.specs.Verdicts.{numberTests, Weighed}
 use Rattle.events.proofs.Weighed.{weighed-on}

@@ -1,5 +1,5 @@
 -- `forecasts::counting::flushed` meets its contract.
-use Rattle.lists.proofs.Prelude.{suc, add-one, needs, not-true, not-false}
+use Rattle.lists.proofs.Prelude.{add-one, needs, not-true, not-false}
 use Rattle.forecasts.proofs.counting.flushed.Statement.{statement}
 use Rattle.forecasts.proofs.counting.flushed.Tie as tie
 
