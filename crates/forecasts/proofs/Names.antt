@@ -1,8 +1,8 @@
 -- The numbers of identifiers of which some stand in the register and the others at places of a plan.
-use Rattle.lists.proofs.Prelude.{true, false, List, [], _∷_, _++_, map, _≡_, refl, ap, _∙_, ℕ, zero, suc, _+_, _<_, _≤_, arith, ltb, length, getD, take, ltb-true, not-true, length-take-le, getD-take, every, same, by-test, and-left, and-right, every-at}
+use Rattle.lists.proofs.Prelude.{true, false, cond, List, [], _∷_, _++_, map, _≡_, refl, ap, _∙_, ℕ, zero, suc, _+_, _<_, _≤_, arith, ltb, length, getD, take, drop, drop-of-length-le, length-map, ltb-true, not-true, length-take-le, getD-take, every, same, by-test, and-left, and-right, every-at}
 use Rattle.identifiers.specs.Names.{Name, badLength, numberOf}
 use Rattle.identifiers.specs.Register.{entries}
-use Rattle.identifiers.proofs.Names.{number-among, number-kept}
+use Rattle.identifiers.proofs.Names.{number-among, number-kept, number-step}
 use Rattle.forecasts.specs.Sketches.{identifierAt, isPlace}
 
 -- an identifier of the first list has its number there
@@ -30,9 +30,22 @@ map-at f (x ∷ l) (suc i) d e h = map-at f l i d e (omega arith)
 
 module _ (plan places : List ℕ) (k i : ℕ) (long : k ≤ length places) (h : i < k) where
   -- the identifier at one of the places
-  pub name-at : getD (map (identifierAt plan) (take k places)) i [] ≡ identifierAt plan (getD places i 0)
+  name-at : getD (map (identifierAt plan) (take k places)) i [] ≡ identifierAt plan (getD places i 0)
   name-at =
       map-at (identifierAt plan) (take k places) i 0 [] (omega (arith, length-take-le k places long)) ∙ ap (identifierAt plan) (getD-take k places i 0 h)
 
   pub place-at : every (isPlace plan) (take k places) ≡ true → isPlace plan (getD places i 0) ≡ true
   place-at e = rw (getD-take k places i 0 h) at (every-at (isPlace plan) (take k places) 0 e i (omega (arith, length-take-le k places long)))
+
+  -- the identifiers at the places from i on
+  pub new-step : (id : Name)
+      → numberOf (drop i (map (identifierAt plan) (take k places))) id ≡ cond (same (identifierAt plan (getD places i 0)) id) zero (suc (numberOf (drop (suc i) (map (identifierAt plan) (take k places))) id))
+  new-step id =
+      let ms = map (identifierAt plan) (take k places) in
+      number-step ms id i (omega (arith, length-map (take k places) (identifierAt plan), length-take-le k places long)) ∙ ap (λ n. cond (same n id) zero (suc (numberOf (drop (suc i) ms) id))) name-at
+
+-- none is left past the last
+pub new-end : (plan places : List ℕ) (k i : ℕ) (id : Name) → k ≤ length places → k ≤ i → numberOf (drop i (map (identifierAt plan) (take k places))) id ≡ zero
+new-end plan places k i id long h =
+    let ms = map (identifierAt plan) (take k places) in
+    ap (λ l. numberOf l id) (drop-of-length-le ms {i = i} (omega (arith, length-map (take k places) (identifierAt plan), length-take-le k places long)))

@@ -1,9 +1,8 @@
 -- `forecasts::naming::find_new` meets its contract. The loop's invariant: the number is that of the place reached and that among the identifiers to come.
-use Rattle.lists.proofs.Prelude.{true, false, List, [], map, _≡_, sym, ap, _∙_, zero, suc, _+_, _-_, _<_, _≤_, zero-le, add-one, arith, needs, length, take, getD, drop, drop-of-length-le, length-map, length-take-le, same}
+use Rattle.lists.proofs.Prelude.{map, _≡_, sym, ap, _∙_, _+_, _-_, _≤_, zero-le, add-one, arith, needs, take, drop, same}
 use Rattle.identifiers.specs.Names.{Name, numberOf}
-use Rattle.identifiers.proofs.Names.{number-step}
 use Rattle.forecasts.specs.Sketches.{identifierAt}
-use Rattle.forecasts.proofs.Names.{place-kept, name-at, place-at}
+use Rattle.forecasts.proofs.Names.{place-kept, place-at, new-step, new-end}
 use Rattle.forecasts.proofs.naming.find_new.Statement.{statement}
 use Rattle.forecasts.proofs.naming.find_new.Tie as tie
 
@@ -28,36 +27,23 @@ returns : tie.Need-returns Inv-loop μ-loop
 returns c =
     let l = c .before .before .before .before .before in
     let s = l .before .before .before .before in
-    let ms = map (identifierAt (s .args .plan .now)) (take (s .args .known) (s .args .places .now)) in
-    let id = s .args .id .now in
-    let i = l .loop .i in
-    let h : i < length ms = omega (arith, s .pre .0, length-map (take (s .args .known) (s .args .places .now)) (identifierAt (s .args .plan .now)), length-take-le (s .args .known) (s .args .places .now) (s .pre .0)) in
-    let e : same (getD ms i []) id ≡ true
-    = ap (λ (m : Name). same m id) (name-at (s .args .plan .now) (s .args .places .now) (s .args .known) i (s .pre .0) (omega arith) ∙ sym (c .before .before .identifier-at .ensures)) ∙ sym (c .before .equal .ensures) ∙ c .if1 .taken in
-    let t : numberOf (drop i ms) id ≡ zero = number-step ms id i h ∙ rw e in
-    omega (arith, l .loop .inv .1, t)
+    let n = new-step (s .args .plan .now) (s .args .places .now) (s .args .known) (l .loop .i) (s .pre .0) (omega arith) (s .args .id .now) in
+    let e = ap (λ (m : Name). same m (s .args .id .now)) (sym (c .before .before .identifier-at .ensures)) ∙ sym (c .before .equal .ensures) ∙ c .if1 .taken in
+    omega (arith, l .loop .inv .1, rw e at n)
 
 loop-again : tie.Need-loop-again Inv-loop μ-loop
 loop-again c =
     let l = c .before .before .before .before .before in
     let s = l .before .before .before .before in
-    let ms = map (identifierAt (s .args .plan .now)) (take (s .args .known) (s .args .places .now)) in
-    let id = s .args .id .now in
-    let i = l .loop .i in
-    let h : i < length ms = omega (arith, s .pre .0, length-map (take (s .args .known) (s .args .places .now)) (identifierAt (s .args .plan .now)), length-take-le (s .args .known) (s .args .places .now) (s .pre .0)) in
-    let e : same (getD ms i []) id ≡ false
-    = ap (λ (m : Name). same m id) (name-at (s .args .plan .now) (s .args .places .now) (s .args .known) i (s .pre .0) (omega arith) ∙ sym (c .before .before .identifier-at .ensures)) ∙ sym (c .before .equal .ensures) ∙ c .if1 .left in
-    let t : numberOf (drop i ms) id ≡ suc (numberOf (drop (suc i) ms) id) = number-step ms id i h ∙ rw e in
-    (omega arith, rw (add-one i) (omega (arith, l .loop .inv .1, t)))
+    let n = new-step (s .args .plan .now) (s .args .places .now) (s .args .known) (l .loop .i) (s .pre .0) (omega arith) (s .args .id .now) in
+    let e = ap (λ (m : Name). same m (s .args .id .now)) (sym (c .before .before .identifier-at .ensures)) ∙ sym (c .before .equal .ensures) ∙ c .if1 .left in
+    (omega arith, rw (add-one (l .loop .i)) (omega (arith, l .loop .inv .1, rw e at n)))
 
 returns-2 : tie.Need-returns-2 Inv-loop μ-loop
 returns-2 c =
     let l = c .before in
     let s = l .before .before .before .before in
-    let ms = map (identifierAt (s .args .plan .now)) (take (s .args .known) (s .args .places .now)) in
-    let d : drop (l .loop .i) ms ≡ []
-    = drop-of-length-le ms {i = l .loop .i} (omega (arith, s .pre .0, length-map (take (s .args .known) (s .args .places .now)) (identifierAt (s .args .plan .now)), length-take-le (s .args .known) (s .args .places .now) (s .pre .0))) in
-    omega (arith, l .loop .inv .1, ap (λ (ns : List Name). numberOf ns (s .args .id .now)) d)
+    omega (arith, l .loop .inv .1, new-end (s .args .plan .now) (s .args .places .now) (s .args .known) (l .loop .i) (s .args .id .now) (s .pre .0) (omega arith))
 
 pub find-new-spec : {M : Type 1} → statement M
 find-new-spec =
