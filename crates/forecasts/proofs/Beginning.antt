@@ -42,7 +42,6 @@ begun s rule b v fits isBlocks isLow = record {
     blocks = fits;
   };
   flushes = refl;
-  known = refl;
 }
   where
     k : Kept s

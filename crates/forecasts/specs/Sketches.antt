@@ -77,7 +77,6 @@ pub record Begun (s : State) (q : Sketch) : Type 0 where
   pub stands : (register plan places : List ℕ) → outlook register plan places q ≡ outlookOf s register
   pub sound : (register plan places : List ℕ) → length (names register) ≤ length register / 65 → length register / 65 ≤ length places → Sound register plan places q
   pub flushes : q .flushes ≡ 0
-  pub known : q .known ≡ 0
 
 -- ---- an event
 

@@ -29,8 +29,8 @@ ghost use Rattle.forecasts.specs.Course.{follow as followed};
 ghost use Rattle.forecasts.specs.Outlook.{outlookGauge, outlookOf, planned, planTests, Foretells};
 ghost use Rattle.forecasts.specs.Sketches.{Sound, Lent, Begun, Followed, Unless, stretch, openedSketch, closedSketch, openedBy, closedBy, Opened, Counting, Early, Ready};
 
-pub mod counting; // an event of a plan
-pub mod naming; // the numbers of a plan's identifiers
+mod counting; // an event of a plan
+mod naming; // the numbers of a plan's identifiers
 
 // Entries of a register, at most.
 const MOST_ENTRIES: usize = 1024;
