@@ -1,5 +1,5 @@
-/* Counts events in nine windows, with a flush after each, merges the partitions a step at a time, and queries before, between and after. Tells the
- * mean count of an identifier before a removal and after, removes windows together, and forecasts what two plans would take. */
+/* Counts events in nine windows, with a flush after each, merges the partitions a step at a time, and queries before, between and after, also over a few
+ * windows alone. Tells the mean count of an identifier before a removal and after, removes windows together, and forecasts what two plans would take. */
 #include "gemsilver.h"
 
 #include <stdio.h>
@@ -20,11 +20,11 @@ static void event(const char *identifier) {
                                   strlen(identifier)));
 }
 
-static void query(void) {
+static void query_over(uint16_t first, uint16_t last) {
     struct gemsilver_bytes identifiers[] = {{(const uint8_t *)"LUCKY", 5}, {(const uint8_t *)"TILT", 4}};
     uint8_t hits[3 * GEMSILVER_HIT];
-    uint64_t found =
-        gemsilver_query(image, sizeof image, card, sizeof card, reg, sizeof reg, identifiers, 2, hits, sizeof hits);
+    uint64_t found = gemsilver_query(image, sizeof image, card, sizeof card, reg, sizeof reg, identifiers, 2, first, last, hits,
+                                     sizeof hits);
     if (gemsilver_query_refusal(found) != 0) {
         told("query", gemsilver_query_refusal(found));
         return;
@@ -34,6 +34,10 @@ static void query(void) {
         printf(" window %u (%u)", (unsigned)gemsilver_hit_window(hits, i), (unsigned)gemsilver_hit_score(hits, i));
     }
     printf("\n");
+}
+
+static void query(void) {
+    query_over(GEMSILVER_FIRST_WINDOW, GEMSILVER_LAST_WINDOW);
 }
 
 static void mean(const char *identifier) {
@@ -98,6 +102,8 @@ int main(void) {
         told("flush", gemsilver_flush(image, sizeof image, card, sizeof card));
     }
     query();
+    query_over(2, 4); /* six of nine partitions are passed over */
+    query_over(4, 2);
     mean("LUCKY");
     told("remove", gemsilver_remove(image, sizeof image, card, sizeof card, 9));
     query();

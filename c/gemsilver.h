@@ -1,4 +1,4 @@
-/* Gemsilver for C and C++: counts events by identifier in windows of play, keeps them on a card, finds the closed windows that match best,
+/* Gemsilver for C and C++: counts events by identifier in windows of play, keeps them on a card, finds the closed windows of a stretch that match best,
  * tells the mean count of an identifier, removes windows, one or several together, and forecasts what a planned session would take.
  *
  * The caller lends three buffers and hands them back to the next call as they were left: the state's image, the card and the register.
@@ -16,8 +16,8 @@
  * The archive: `rt staticlib capi` writes target/staticlib/libcapi.a, for x86-64 Linux. It uses no heap and keeps nothing of its own; of the C
  * library it needs memcpy and memset alone.
  *
- * Stack, in bytes as measured on x86-64 (docs/PERFORMANCE.md); leave some more: start 1,720, open 4,904, close 4,632, event 11,208, flush 10,312, remove 14,040,
- * remove_all 26,776, step 12,136, query 12,168, mean 9,000, forecast 14,488. */
+ * Stack, in bytes as measured on x86-64 (docs/PERFORMANCE.md); leave some more: start 2,120, open 5,720, close 6,984, event 11,560, flush 10,984, remove 14,536,
+ * remove_all 27,224, step 14,968, query 16,344, mean 15,016, forecast 14,712. */
 #ifndef GEMSILVER_H
 #define GEMSILVER_H
 
@@ -29,7 +29,7 @@ extern "C" {
 #endif
 
 /* Sizes in bytes, and how many. */
-#define GEMSILVER_IMAGE 2456            /* the state's image */
+#define GEMSILVER_IMAGE 2864            /* the state's image */
 #define GEMSILVER_BLOCK 4096            /* a block of the card */
 #define GEMSILVER_LEAST_BLOCKS 4        /* a card has 4 to 4,096 blocks */
 #define GEMSILVER_MOST_BLOCKS 4096
@@ -40,6 +40,8 @@ extern "C" {
 #define GEMSILVER_MOST_HITS 32          /* a list has 1 to 32 places */
 #define GEMSILVER_MOST_IDENTIFIERS 5    /* a query names 1 to 5 identifiers */
 #define GEMSILVER_MOST_WINDOWS 32       /* 1 to 32 windows are removed together */
+#define GEMSILVER_FIRST_WINDOW 1        /* a query over all windows is one from the first of these two to the last */
+#define GEMSILVER_LAST_WINDOW 65535
 #define GEMSILVER_TOLD 6                /* how many numbers a forecast tells */
 
 /* Why a call is refused, in the order in which it is tested; but a list of windows, 16, is tested after 3. */
@@ -59,7 +61,8 @@ enum gemsilver_refusal {
     GEMSILVER_NOTHING_DUE = 13,
     GEMSILVER_BAD_QUERY = 14,
     GEMSILVER_UNCOUNTED = 15,
-    GEMSILVER_BAD_LIST = 16
+    GEMSILVER_BAD_LIST = 16,
+    GEMSILVER_BAD_STRETCH = 17
 };
 
 /* A refusal's number in words; of any other number that it is none. */
@@ -97,6 +100,8 @@ static inline const char *gemsilver_refusal_text(uint32_t refusal) {
         return "the identifier counts in no closed window";
     case GEMSILVER_BAD_LIST:
         return "a list of windows is empty, has more than 32, or names one twice";
+    case GEMSILVER_BAD_STRETCH:
+        return "a stretch whose first window exceeds its last";
     default:
         return "no refusal";
     }
@@ -142,19 +147,22 @@ uint32_t gemsilver_flush(uint8_t *image, size_t image_length, uint8_t *card, siz
 /* Takes a merge one step further, or begins one. 0, or a refusal. */
 uint32_t gemsilver_step(uint8_t *image, size_t image_length, uint8_t *card, size_t card_length);
 
-/* Finds the closed windows that match the identifiers best; the open one is no hit and moves no score, wherever its counts lie. hits has
- * GEMSILVER_HIT bytes for each place; bytes past the last whole place, and places past the last hit, stay as they are. What it gives is taken apart by
- * the functions below.
+/* Finds the closed windows from first to last that match the identifiers best; the open one is no hit and moves no score, wherever its counts lie. hits
+ * has GEMSILVER_HIT bytes for each place; bytes past the last whole place, and places past the last hit, stay as they are. What it gives is taken apart
+ * by the functions below. A first above the last is refused with 17, after all else; 0 is no window, so that 0 to 0 has no hits.
  *
  * A window's score is the sum of S(count + 1) x (S(N) - S(F)) over the identifiers that count in it. S(n) is the largest a with 2^a <= n^16, N the
- * number of closed windows, and F the number of those in which the identifier counts; where F exceeds N, S(N) - S(F) is taken as 0. So a count of 1
- * weighs 16, and two windows of three weigh 25 - 16. A score is at most 5 x 240 x 255 = 306,000. Hits come by falling score, those of equal scores by
- * falling window. */
+ * number of closed windows from first to last, and F the number of those in which the identifier counts. So a count of 1 weighs 16, and two windows of
+ * three weigh 25 - 16. A score is at most 5 x 240 x 255 = 306,000. Hits come by falling score, those of equal scores by falling window.
+ *
+ * A partition whose windows all lie below first or all above last is passed over: its lists are not read, and its postings are not taken up. Of the others
+ * every list is read, to count N, so that few windows of a large card take less time than all. */
 uint64_t gemsilver_query(const uint8_t *image, size_t image_length, const uint8_t *card, size_t card_length, const uint8_t *reg,
-                         size_t reg_length, const struct gemsilver_bytes *identifiers, size_t identifier_count, uint8_t *hits,
-                         size_t hits_length);
+                         size_t reg_length, const struct gemsilver_bytes *identifiers, size_t identifier_count,
+                         uint16_t first, uint16_t last, uint8_t *hits, size_t hits_length);
 
-/* Of what a query gave: its refusal, 0 where it is none; how many hits are listed; how many stored postings it took up, the open window's too. */
+/* Of what a query gave: its refusal, 0 where it is none; how many hits are listed; how many stored postings it took up, of the buffer and of the partitions
+ * not passed over, the open window's too. */
 static inline uint32_t gemsilver_query_refusal(uint64_t found) {
     return (uint32_t)(found % 256);
 }
@@ -181,7 +189,8 @@ static inline uint32_t gemsilver_hit_score(const uint8_t *hits, size_t place) {
 }
 
 /* The mean count of an identifier over the closed windows in which it counts: the sum of its counts there, divided by the number of these windows, as a
- * quotient and a remainder. The open window is none of them, wherever its counts lie. It only reads. What it gives is taken apart by the functions below. */
+ * quotient and a remainder. The open window is none of them, wherever its counts lie. It only reads, and that is what a query over all windows reads. What
+ * it gives is taken apart by the functions below. */
 uint64_t gemsilver_mean(const uint8_t *image, size_t image_length, const uint8_t *card, size_t card_length, const uint8_t *reg,
                         size_t reg_length, const uint8_t *identifier, size_t identifier_length);
 

@@ -1,13 +1,11 @@
 -- The engine on lists answers every call as ledger and account do, and leaves the lists that stand for what they leave.
-use Rattle.lists.proofs.Prelude.{Bool, true, false, _||_, _&&_, not, cond, true≢false, List, [], _∷_, map, _≡_, refl, sym, ap, ap₂, _∙_, fun-ext, subst, ℕ, suc, _+_, _-_, _*_, _<_, _≤_, arith, eqb, ltb, leb, pos, length, getD, length-map, eqb-true, eqb-false, ne-eqb, ltb-true, ltb-false, le-ltb, not-true, not-false, empty, by-test, empty-is}
+use Rattle.lists.proofs.Prelude.{Bool, true, false, _||_, _&&_, not, true≢false, List, [], _∷_, map, _≡_, refl, sym, ap, ap₂, _∙_, subst, ℕ, suc, _+_, _*_, _≤_, arith, eqb, ltb, leb, pos, length, length-map, eqb-true, eqb-false, ne-eqb, ltb-true, ltb-false, le-ltb, not-false, empty, by-test, empty-is}
 use Rattle.postings.specs.declared.Posting.{Posting}
 use Rattle.postings.specs.Merge.{put, nonzero, negated}
-use Rattle.postings.specs.Sums.{above}
 use Rattle.answers.specs.Answers.{Answer, done, hits, Outcome, refuse, leave, refuseIf, choose, next, inTurn}
 use Rattle.state.specs.declared.Windows.{Windows}
 use Rattle.state.specs.Views.{bufferOf}
 use Rattle.state.specs.Levels.{ofLevel}
-use Rattle.state.specs.Shown as S
 use Rattle.buffer.proofs.Canonical.{buffered-of}
 use Rattle.identifiers.specs.Names.{Name, badLength, among, numberOf, numbersOf}
 use Rattle.recordings.specs.Recording.{recorded}
@@ -19,19 +17,19 @@ use Rattle.ranking.specs.Hits.{frequency, ranked}
 use Rattle.averages.specs.Average.{total, averaged}
 use Rattle.removals.specs.Removal.{countsOf, isLive}
 use Rattle.engine.specs.Calls.{Call, Open, Event, Close, Remove, RemoveAll, Flush, Step, Query, Mean, Forecast}
-use Rattle.accounts.specs.Account.{Account, storedIn, takenFrom, blocksIn, blocksAhead, steppedAccount, flushedAccount, overflows, exceeds, addedTo, stepping, flushing, flushingIf}
-use Rattle.accounts.specs.Ledger.{Ledger, live, shown, existing, opens, closes, including, counts, removes, byNumber}
+use Rattle.accounts.specs.Account.{Account, storedIn, takenFrom, readBy, blocksIn, blocksAhead, steppedAccount, flushedAccount, overflows, exceeds, addedTo, stepping, flushing, flushingIf}
+use Rattle.accounts.specs.Ledger.{Ledger, live, shown, existing, shownWithin, existingWithin, opens, closes, including, counts, removes}
 use Rattle.accounts.specs.Books.{once, takenBack, Books, booksGauge, removalIn, plannedIn, books}
-use Rattle.accounts.specs.Lists.{Lists, isOpen, openedLists, closedLists, onceOf, countedLists, removedLists, countOf, frequencyOf, totalOf, listsGauge, removingLists, removalOf, plannedLists, pursued, listsCall}
+use Rattle.accounts.specs.Lists.{Lists, isOpen, openedLists, closedLists, onceOf, countedLists, removedLists, listsGauge, removingLists, removalOf, plannedLists, pursued, listsCall}
 use Rattle.accounts.proofs.Stored.{levelOf}
 use Rattle.accounts.proofs.Shaped.{Roomed, asBefore, emptied, event-room, removal-room}
 use Rattle.accounts.proofs.Numbers.{new-is, noted-is, elem-numbers, numbers-including}
-use Rattle.accounts.proofs.Ranked.{frequency-windows, total-windows, ranked-windows, frequency-none, total-none, one-query, ranked-names}
 use Rattle.accounts.proofs.Live.{not-live, existing-opens, existing-closes, existing-counts, existing-removes}
 use Rattle.accounts.proofs.Lawful.{Lawful}
 use Rattle.accounts.proofs.Held.{counts-back, counts-live, counts-length, length-back}
 use Rattle.accounts.proofs.Kept.{Kept, kept-flushed, kept-stepped, kept-opens, kept-closes, kept-counts, kept-removes}
 use Rattle.accounts.proofs.Sound.{windowsOf, listsOf, current-open, current-shut, buffer-hold, rules-hold, call-formed}
+use Rattle.accounts.proofs.Queries.{query-within, frequency-same, total-same}
 
 -- ---- the lists after each change
 
@@ -155,62 +153,6 @@ module _ (blocks entries : ℕ) (l : Ledger) (a : Account) (k : Kept blocks entr
         listed-same : map (numberOf (l .identifiers)) (l .listed) ≡ map (numberOf (removes l w .identifiers)) (removes l w .listed)
         listed-same = unfold removes in refl
 
-  -- ---- a query
-
-  counts-read : countOf a ≡ byNumber l
-  unfolding countOf
-  counts-read = fun-ext λ i. fun-ext λ w. ap above (k .sums i w)
-
-  -- of the windows that show in the lists, those that the ledger has not count nothing
-  highest : ℕ
-  highest = cond (l .isOpen) (l .last - 1) (l .last)
-
-  fits : highest ≤ 65535
-  unfolding highest
-  fits = by-test (l .isOpen) (λ o. rw o (omega (arith, k .lawful .lastFits))) (λ n. rw n (k .lawful .lastFits))
-
-  low : (v : ℕ) → v < highest → S.shows (windowsOf l .current) (suc v) ≡ true
-  unfolding highest
-  low v h =
-      by-test (l .isOpen)
-      (λ o. let b : v < l .last - 1 = rw o at h in rw o (ap not (ne-eqb (suc v) (l .last) (λ q. omega arith))))
-      (λ n. rw n (ap not (ne-eqb (suc v) 0 (λ q. omega arith))))
-
-  high : (i v : ℕ) → highest < v → S.shows (windowsOf l .current) v ≡ true → byNumber l i v ≡ 0
-  unfolding highest
-  high i v h e =
-      by-test (l .isOpen)
-      (λ o. let b : l .last - 1 < v = rw o at h in
-      let d = eqb-false v (l .last) (not-true _ (rw o at e)) in
-      k .lawful .unborn (getD (l .identifiers) i []) v (omega arith))
-      (λ n. k .lawful .unborn (getD (l .identifiers) i []) v (rw n at h))
-
-  shown-same : (m : ℕ) (is : List ℕ) → ranked (existing l) (byNumber l) (S.shown (windowsOf l)) m is ≡ ranked (existing l) (byNumber l) (shown l) m is
-  unfolding S.shown shown highest
-  shown-same m is = ranked-windows (existing l) (byNumber l) (S.shows (windowsOf l .current)) highest 65535 m is fits low high
-
-  pub query-same : (m : ℕ) (ns : List Name) → ranked (existing l) (countOf a) (S.shown (windowsOf l)) m (numbersOf (l .identifiers) ns) ≡ ranked (existing l) (l .count) (shown l) m ns
-  query-same m ns =
-      ap (λ (c : ℕ → ℕ → ℕ). ranked (existing l) c (S.shown (windowsOf l)) m (numbersOf (l .identifiers) ns)) counts-read
-      ∙ shown-same m (numbersOf (l .identifiers) ns)
-      ∙ ranked-names (existing l) (l .count) (l .identifiers) ns (shown l) m (λ n w z. k .lawful .uncounted n w z)
-
-  -- ---- a mean
-
-  frequency-same : (n : Name) → frequencyOf (listsOf l a) n ≡ frequency (l .count) (shown l) n
-  unfolding frequencyOf frequency S.shown shown highest
-  frequency-same n =
-      one-query _ (frequency (l .count) (shown l)) (l .identifiers) n
-      (λ i. ap (λ (c : ℕ → ℕ → ℕ). frequency c (S.shown (windowsOf l)) i) counts-read ∙ frequency-windows (byNumber l) (S.shows (windowsOf l .current)) highest 65535 fits low i (high i))
-      (λ m z. frequency-none (l .count) m (λ w. k .lawful .uncounted m w z) (shown l))
-
-  total-same : (n : Name) → totalOf (listsOf l a) n ≡ total (l .count) (shown l) n
-  unfolding totalOf total S.shown shown highest
-  total-same n =
-      one-query _ (total (l .count) (shown l)) (l .identifiers) n
-      (λ i. ap (λ (c : ℕ → ℕ → ℕ). total c (S.shown (windowsOf l)) i) counts-read ∙ total-windows (byNumber l) (S.shows (windowsOf l .current)) highest 65535 fits low i (high i))
-      (λ m z. total-none (l .count) m (λ w. k .lawful .uncounted m w z) (shown l))
-
 -- ---- outcomes that are alike
 
 -- both refuse with one number, or both answer the same, and the lists stand for what ledger and account are, which keep the invariant
@@ -274,11 +216,11 @@ module _ (blocks entries : ℕ) where
     unfolding removingLists
     remove-alike w =
         refusing _ _ 5 _ _ (named (l .isOpen) refl) λ other.
-        refusing _ _ 7 _ _ (seven-is blocks entries l a k w other (countsOf w (storedIn a)) (counts-live entries l (k .lawful) a (k .sums) w)) λ seven.
+        refusing _ _ 7 _ _ (seven-is blocks entries l a k w other (countsOf w (storedIn a)) (counts-live entries l (k .lawful) (storedIn a) w (λ i. k .sums i w))) λ seven.
         subst (λ t. Alike blocks entries (flushingIf blocks t a (λ b. leave done (removedLists (listsOf l a) (countsOf w (storedIn a)) b))) (flushingIf blocks (exceeds (takenBack l w) a) a (λ b. leave done (record { ledger = removes l w; account = addedTo (takenBack l w) b }))))
         exceeding
         (flushIf-alike l a k _ _ (exceeds (takenBack l w) a)
-        (λ b q r. bothLeave (remove-same blocks entries l a k w other (countsOf w (storedIn a)) b (counts-back entries l (k .lawful) a (k .sums) w) (not-false _ seven))
+        (λ b q r. bothLeave (remove-same blocks entries l a k w other (countsOf w (storedIn a)) b (counts-back entries l (k .lawful) (storedIn a) w (λ i. k .sums i w)) (not-false _ seven))
         (kept-removes blocks entries l b q w other (removal-room (takenBack l w) a b few r))))
       where
         named : (t : Bool) → l .isOpen ≡ t → (isOpen (listsOf l a) && eqb w (windowsOf l .current)) ≡ (l .isOpen && eqb w (l .last))
@@ -286,10 +228,10 @@ module _ (blocks entries : ℕ) where
         named false n = ap (λ s. s && eqb w (windowsOf l .current)) (opened-is ∙ n) ∙ sym (ap (λ s. s && eqb w (l .last)) n)
 
         exceeding : exceeds (takenBack l w) a ≡ exceeds (countsOf w (storedIn a)) a
-        exceeding = unfold exceeds in ap (λ m. ltb 128 (length (a .buffer) + m)) (length-back entries l (k .lawful) a (k .sums) w)
+        exceeding = unfold exceeds in ap (λ m. ltb 128 (length (a .buffer) + m)) (length-back entries l (k .lawful) (storedIn a) w (λ i. k .sums i w))
 
         few : length (takenBack l w) ≤ 64
-        few = omega (arith, length-back entries l (k .lawful) a (k .sums) w, counts-length entries l (k .lawful) a (k .sums) w, k .lawful .held w)
+        few = omega (arith, length-back entries l (k .lawful) (storedIn a) w (λ i. k .sums i w), counts-length entries l (k .lawful) (storedIn a) w (λ i. k .sums i w), k .lawful .held w)
 
   -- several removals, one after another
   next-alike : {o : Outcome Lists} {q : Outcome Books} → Alike blocks entries o q → (f : Lists → Outcome Lists) (g : Books → Outcome Books)
@@ -360,10 +302,14 @@ module _ (blocks entries : ℕ) where
     pursued-alike (RemoveAll ws) = refusing _ _ 16 _ _ refl λ _. turn-alike small ws l a k
     pursued-alike Flush = flush-alike l a k _ _ λ b q e. bothLeave refl q
     pursued-alike Step = step-alike l a k _ _ λ b q. bothLeave refl q
-    pursued-alike (Query m ns) =
-        refusing _ _ 4 _ _ refl λ _. refusing _ _ 14 _ _ refl λ _.
-        subst (λ hs. Alike blocks entries (leave (hits hs (takenFrom (numbersOf (l .identifiers) ns) a)) (listsOf l a)) (leave (hits (ranked (existing l) (l .count) (shown l) m ns) (takenFrom (numbersOf (l .identifiers) ns) a)) (record { ledger = l; account = a })))
-        (sym (query-same blocks entries l a k m ns)) (bothLeave refl k)
+    pursued-alike (Query m t ns) =
+        refusing _ _ 4 _ _ refl λ _. refusing _ _ 14 _ _ refl λ _. refusing _ _ 17 _ _ refl λ _.
+        subst
+        (λ hs. Alike blocks entries (leave (hits hs taken) (listsOf l a)) (leave (hits (ranked (existingWithin t l) (l .count) (shownWithin t l) m ns) taken) (record { ledger = l; account = a })))
+        (sym (query-within blocks entries l a k t m ns)) (bothLeave refl k)
+      where
+        taken : ℕ
+        taken = takenFrom (numbersOf (l .identifiers) ns) (readBy t a)
     pursued-alike (Mean n) =
         refusing _ _ 4 _ _ refl λ _. refusing _ _ 15 _ _ (ap (λ f. eqb f 0) (frequency-same blocks entries l a k n)) λ _.
         subst (λ x. Alike blocks entries (leave x (listsOf l a)) (leave (averaged (frequency (l .count) (shown l) n) (total (l .count) (shown l) n)) (record { ledger = l; account = a })))

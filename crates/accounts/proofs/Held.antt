@@ -9,7 +9,6 @@ use Rattle.postings.proofs.Sums.{is-zero}
 use Rattle.postings.proofs.Merge.{pairs-ordered, nonzero-ordered, nonzero-counts, same-sums}
 use Rattle.identifiers.specs.Names.{Name, among}
 use Rattle.removals.specs.Removal.{ofWindow, countsOf, isLive}
-use Rattle.accounts.specs.Account.{Account, storedIn}
 use Rattle.accounts.specs.Ledger.{Ledger, live, byNumber}
 use Rattle.accounts.specs.Books.{negatedBy, takenBack}
 use Rattle.accounts.proofs.Parts.{sum-apart}
@@ -174,38 +173,39 @@ nameless ((x ∷ m) ∷ ms) g = nameless ms (and-right (goodLength (x ∷ m)) _ 
 pub unnumbered : (entries : ℕ) (l : Ledger) → Lawful entries l → (i w : ℕ) → length (l .identifiers) ≤ i → byNumber l i w ≡ 0
 unnumbered entries l s i w h = ap (λ n. l .count n w) (List·getD-eq-default (l .identifiers) [] h) ∙ s .uncounted [] w (nameless (l .identifiers) (s .good))
 
-module _ (entries : ℕ) (l : Ledger) (s : Lawful entries l) (a : Account) (sums : (i w : ℕ) → sum (storedIn a) i w ≡ pos (byNumber l i w)) (w : ℕ) where
+-- of postings that have the ledger's sums in the window
+module _ (entries : ℕ) (l : Ledger) (s : Lawful entries l) (m : List Posting) (w : ℕ) (sums : (i : ℕ) → sum m i w ≡ pos (byNumber l i w)) where
   -- the counts read are those that the ledger has
-  counts-ledger : countsOf w (storedIn a) ≡ heldBy (λ i. pos (byNumber l i w)) w (upTo (length (l .identifiers)))
+  counts-ledger : countsOf w m ≡ heldBy (λ i. pos (byNumber l i w)) w (upTo (length (l .identifiers)))
   counts-ledger =
-      counts-held w (storedIn a) (length (l .identifiers)) (λ i h. sums i w ∙ ap pos (unnumbered entries l s i w h))
-      ∙ ap (λ (c : ℕ → ℤ). heldBy c w (upTo (length (l .identifiers)))) (fun-ext λ i. sums i w)
+      counts-held w m (length (l .identifiers)) (λ i h. sums i ∙ ap pos (unnumbered entries l s i w h))
+      ∙ ap (λ (c : ℕ → ℤ). heldBy c w (upTo (length (l .identifiers)))) (fun-ext sums)
 
   -- what a removal takes back
-  pub counts-back : negated (countsOf w (storedIn a)) ≡ takenBack l w
+  pub counts-back : negated (countsOf w m) ≡ takenBack l w
   unfolding takenBack
   counts-back = ap negated counts-ledger ∙ held-negated (λ i. pos (byNumber l i w)) w (upTo (length (l .identifiers)))
 
   -- whether the window is live
-  pub counts-live : isLive (countsOf w (storedIn a)) ≡ live l w
+  pub counts-live : isLive (countsOf w m) ≡ live l w
   unfolding live
   counts-live = ap isLive counts-ledger ∙ held-live (λ i. pos (byNumber l i w)) w (upTo (length (l .identifiers))) ∙ any-by-number (λ n. ltb 0 (l .count n w)) (l .identifiers)
 
   -- and how many identifiers it has
-  pub counts-length : length (countsOf w (storedIn a)) ≡ countedIn l w
+  pub counts-length : length (countsOf w m) ≡ countedIn l w
   unfolding countedIn
   counts-length =
       ap length counts-ledger ∙ held-length (λ i. pos (byNumber l i w)) w (upTo (length (l .identifiers)))
       ∙ ap (λ (t : ℕ → Bool). length (keep t (upTo (length (l .identifiers))))) (fun-ext λ i. some-is (byNumber l i w))
       ∙ keep-by-number (λ n. ltb 0 (l .count n w)) (l .identifiers)
 
--- as many postings are taken back as there are counts
-pub length-back : (entries : ℕ) (l : Ledger) → Lawful entries l → (a : Account) → ((i w : ℕ) → sum (storedIn a) i w ≡ pos (byNumber l i w)) → (w : ℕ) → length (takenBack l w) ≡ length (countsOf w (storedIn a))
-length-back entries l s a sums w = sym (ap length (counts-back entries l s a sums w)) ∙ lengths (countsOf w (storedIn a)) (unfold countsOf in nonzero-counts (pairs (ofWindow w (storedIn a))))
-  where
-    lengths : (m : List Posting) → every isCounted m ≡ true → length (negated m) ≡ length m
-    lengths m e = unfold negated nonzero in go m e
-      where
-        go : (m : List Posting) → every isCounted m ≡ true → length (map (λ p. counting p (negℤ (p .count))) (keep isCounted m)) ≡ length m
-        go [] e = refl
-        go (p ∷ m) e = rw (and-left (isCounted p) _ e) (ap suc (go m (and-right (isCounted p) _ e)))
+  -- as many postings are taken back as there are counts
+  pub length-back : length (takenBack l w) ≡ length (countsOf w m)
+  length-back = sym (ap length counts-back) ∙ lengths (countsOf w m) (unfold countsOf in nonzero-counts (pairs (ofWindow w m)))
+    where
+      lengths : (cs : List Posting) → every isCounted cs ≡ true → length (negated cs) ≡ length cs
+      lengths cs e = unfold negated nonzero in go cs e
+        where
+          go : (cs : List Posting) → every isCounted cs ≡ true → length (map (λ p. counting p (negℤ (p .count))) (keep isCounted cs)) ≡ length cs
+          go [] e = refl
+          go (p ∷ cs) e = rw (and-left (isCounted p) _ e) (ap suc (go cs (and-right (isCounted p) _ e)))

@@ -1,16 +1,16 @@
 -- What holds of ledger and account together, after every list of calls: the invariant of the history theorem, and that each change keeps it.
-use Rattle.lists.proofs.Prelude.{Bool, true, false, _&&_, not, cond, false≢true, [], _∷_, foldr, _≡_, refl, sym, ap, _∙_, subst, ℕ, suc, _+_, _<_, _≤_, arith, eqb, ltb, leb, pos, _+ℤ_, +ℤ-idl, length, every, empty}
+use Rattle.lists.proofs.Prelude.{Bool, true, false, _&&_, not, cond, [], _∷_, List, _++_, foldr, _≡_, refl, sym, ap, _∙_, subst, ℕ, suc, _+_, _<_, _≤_, arith, eqb, ltb, leb, pos, natAbs, _+ℤ_, +ℤ-idl, length, every, empty}
 use Rattle.postings.specs.Merge.{put, nonzero, negated}
 use Rattle.removals.specs.Removal.{countsOf}
 use Rattle.postings.specs.Sums.{sum}
 use Rattle.state.specs.Levels.{ofLevel}
 use Rattle.identifiers.specs.Names.{Name, among, numberOf}
 use Rattle.identifiers.proofs.Names.{number-there}
-use Rattle.accounts.specs.Account.{Account, emptyAccount, storedIn, blocksIn, blocksOf, merged, blocksAhead, steppedAccount, flushedAccount, addedTo}
+use Rattle.accounts.specs.Account.{Portion, Account, emptyAccount, postingsIn, storedIn, dueOf, inputsOf, blocksIn, blocksOf, merged, blocksAhead, steppedAccount, flushedAccount, addedTo}
 use Rattle.accounts.specs.Ledger.{Ledger, emptyLedger, opens, closes, including, counts, removes, byNumber}
 use Rattle.accounts.specs.Books.{once, takenBack}
 use Rattle.accounts.proofs.Stored.{levelOf, sum-flushed, sum-stored-stepped, sum-added, sum-removed}
-use Rattle.accounts.proofs.Prefixes.{Small}
+use Rattle.accounts.proofs.Rises.{Chosen, chosen-all, chosen-none, chosen-inputs, chosen-small, chosen-with-buffer}
 use Rattle.accounts.proofs.Shaped.{Shaped, shaped-empty, shaped-flushed, shaped-stepped, shaped-added}
 use Rattle.accounts.proofs.Fits.{Fits, fits-flushed, fits-stepped, fits-added}
 use Rattle.accounts.proofs.Numbers.{goodLength, among-itself, number-including}
@@ -18,7 +18,7 @@ use Rattle.accounts.proofs.Lawful.{Lawful, lawful-empty, lawful-opens, 
 use Rattle.accounts.proofs.Counted.{lawful-counts, identifiers-fit}
 use Rattle.accounts.proofs.Held.{counts-back}
 use Rattle.accounts.proofs.Ranged.{storedRule, stored-rule, Ranged, ranged-up, ranged-flushed, ranged-stepped, ranged-added, ranged-back}
-use Rattle.accounts.proofs.Behind.{top, top-le, top-opens, top-closes, top-counts, top-removes, number-counts, number-removes, Behind, behind-opens, behind-closes, behind-flushed, behind-stepped, behind-counts, behind-removes}
+use Rattle.accounts.proofs.Steady.{top, top-le, top-opens, top-closes, top-counts, top-removes, number-counts, number-removes, Steady, steady-empty, steady-flushed, steady-stepped, steady-opens, steady-closes, steady-counts, steady-removes}
 
 -- every sum of what is stored is the ledger's count
 abbrev pub Agrees : Ledger → Account → Type 0
@@ -30,7 +30,7 @@ pub record Kept (blocks entries : ℕ) (l : Ledger) (a : Account) : Type 0 where
   pub shaped : Shaped a
   pub fits : Fits blocks a
   pub ranged : Ranged (top l) a
-  pub behind : Behind l a
+  pub steady : Steady l a
 
 module _ (blocks entries : ℕ) where
   pub kept-empty : Kept blocks entries emptyLedger emptyAccount
@@ -40,13 +40,31 @@ module _ (blocks entries : ℕ) where
     shaped = unfold emptyAccount in shaped-empty;
     fits = unfold emptyAccount Fits blocksIn blocksAhead in omega arith;
     ranged = unfold emptyAccount in refl;
-    behind = unfold emptyLedger in (λ o. absurd (false≢true o));
+    steady = steady-empty;
   }
 
   module _ (l : Ledger) (a : Account) (k : Kept blocks entries l a) where
-    -- every sum of what is stored is a count
-    pub stored-small : (i w : ℕ) → Small (sum (storedIn a) i w)
-    stored-small i w = record { size = byNumber l i w; is = k .sums i w; fits = k .lawful .bounded _ w }
+    -- ---- no sum over some of the partitions, whichever they are, with the buffer or without it, leaves ±32,767
+
+    pub some-small : {some others : List Portion} → Chosen (a .partitions) some others → (i w : ℕ) → natAbs (sum (postingsIn some) i w) ≤ 32767
+    some-small c i w = omega (arith, chosen-small a c i w (byNumber l i w) (k .sums i w), k .steady .most i w)
+
+    pub some-buffer-small : {some others : List Portion} → Chosen (a .partitions) some others → (i w : ℕ) → natAbs (sum (postingsIn some ++ a .buffer) i w) ≤ 32767
+    some-buffer-small c i w = omega (arith, chosen-with-buffer a c i w (byNumber l i w) (k .sums i w), k .steady .most i w)
+
+    -- of all, of a step's inputs, and of none but the buffer
+    pub partitions-small : (i w : ℕ) → natAbs (sum (postingsIn (a .partitions)) i w) ≤ 32767
+    partitions-small = some-small (chosen-all (a .partitions))
+
+    pub stored-small : (i w : ℕ) → natAbs (sum (storedIn a) i w) ≤ 32767
+    stored-small = some-buffer-small (chosen-all (a .partitions))
+
+    pub inputs-small : (i w : ℕ) → natAbs (sum (inputsOf a) i w) ≤ 32767
+    unfolding inputsOf
+    inputs-small = some-small (chosen-inputs (dueOf a) (a .partitions) .1)
+
+    pub buffer-small : (i w : ℕ) → natAbs (sum (a .buffer) i w) ≤ 32767
+    buffer-small = some-buffer-small (chosen-none (a .partitions))
 
     -- ---- flush and step
 
@@ -54,10 +72,10 @@ module _ (blocks entries : ℕ) where
     kept-flushed some ten twelve = record {
       lawful = k .lawful;
       sums = λ i w. sum-flushed a i w ∙ k .sums i w;
-      shaped = shaped-flushed a (k .shaped) stored-small some ten;
+      shaped = shaped-flushed a (k .shaped) some ten;
       fits = fits-flushed blocks a (k .shaped .progress) (k .shaped .room) some twelve;
       ranged = ranged-flushed (top l) a (k .ranged);
-      behind = behind-flushed l a (k .sums);
+      steady = steady-flushed l a (k .steady);
     }
 
     pub kept-stepped : (eqb (a .steps) 0 && ltb blocks (blocksIn a + blocksOf (merged a))) ≡ false → Kept blocks entries l (steppedAccount a)
@@ -67,7 +85,7 @@ module _ (blocks entries : ℕ) where
       shaped = shaped-stepped a (k .shaped);
       fits = fits-stepped blocks a (k .fits) twelve;
       ranged = ranged-stepped (top l) a (k .ranged);
-      behind = behind-stepped l a (k .behind);
+      steady = steady-stepped l a (k .steady);
     }
 
     -- ---- open and close
@@ -79,7 +97,7 @@ module _ (blocks entries : ℕ) where
       shaped = k .shaped;
       fits = k .fits;
       ranged = ranged-up (top l) (top (opens l)) (omega (arith, top-le l, top-opens l)) (storedIn a) (k .ranged);
-      behind = behind-opens l a (k .ranged);
+      steady = steady-opens l a (k .ranged) (k .steady);
     }
 
     pub kept-closes : l .isOpen ≡ true → Kept blocks entries (closes l) a
@@ -89,7 +107,7 @@ module _ (blocks entries : ℕ) where
       shaped = k .shaped;
       fits = k .fits;
       ranged = rw (top-closes l o) (k .ranged);
-      behind = behind-closes l a;
+      steady = steady-closes l a (k .steady);
     }
 
     -- ---- an event
@@ -111,16 +129,19 @@ module _ (blocks entries : ℕ) where
       event-ranged =
           rw (stored-rule (top (counts l n)) (once l n) (omega (arith, event-number)) (k .lawful .given o) (omega (arith, top-counts l n)))
 
+      event-lawful : Lawful entries (counts l n)
+      event-lawful = lawful-counts entries l (k .lawful) n good o six eight nine
+
       pub kept-counts : length (nonzero (foldr put (a .buffer) (once l n ∷ []))) ≤ 128 → Kept blocks entries (counts l n) (addedTo (once l n ∷ []) a)
       kept-counts room = record {
-        lawful = lawful-counts entries l (k .lawful) n good o six eight nine;
+        lawful = event-lawful;
         sums = λ i v. sum-added (once l n ∷ []) a i v ∙ ap (λ z. sum (once l n ∷ []) i v +ℤ z) (k .sums i v)
             ∙ one-more i v ∙ ap pos (sym (number-counts entries l (k .lawful) n good i v));
         shaped = shaped-added (once l n ∷ []) a (k .shaped) room;
         fits = fits-added blocks (once l n ∷ []) a (k .fits);
         ranged = ranged-added (top (counts l n)) (once l n ∷ []) a event-ranged
             (ranged-up (top l) (top (counts l n)) (omega (arith, top-le l, top-counts l n)) (storedIn a) (k .ranged));
-        behind = behind-counts entries l (k .lawful) n good a (once l n ∷ []) (k .behind);
+        steady = steady-counts entries l (k .lawful) n good event-lawful o a (k .steady);
       }
         where
           one-more : (i v : ℕ) → sum (once l n ∷ []) i v +ℤ pos (byNumber l i v) ≡ pos (cond (eqb (numberOf (l .identifiers) n) i && eqb (l .last) v) (suc (byNumber l i v)) (byNumber l i v))
@@ -140,11 +161,11 @@ module _ (blocks entries : ℕ) where
       shaped = shaped-added (takenBack l w) a (k .shaped) room;
       fits = fits-added blocks (takenBack l w) a (k .fits);
       ranged = rw (top-removes l w) (ranged-added (top l) (takenBack l w) a (subst (λ ps. every (storedRule (top l)) ps ≡ true) back (ranged-back (top l) w (storedIn a) (k .ranged))) (k .ranged));
-      behind = behind-removes l w a (takenBack l w) other (k .behind);
+      steady = steady-removes entries l (k .lawful) a (k .sums) w other (k .steady);
     }
       where
         back : negated (countsOf w (storedIn a)) ≡ takenBack l w
-        back = counts-back entries l (k .lawful) a (k .sums) w
+        back = counts-back entries l (k .lawful) (storedIn a) w (λ i. k .sums i w)
 
         out : (t : Bool) (c : ℕ) → cond t (pos 0) (pos c) ≡ pos (cond t 0 c)
         out true c = refl

@@ -2,7 +2,7 @@ pub mod Parts
 pub mod Stored
 pub mod Inputs
 pub mod Steps
-pub mod Prefixes
+pub mod Rises
 pub mod Shaped
 pub mod Fits
 pub mod Ahead
@@ -15,9 +15,11 @@ pub mod Counted
 pub mod Showing
 pub mod Held
 pub mod Ranged
-pub mod Behind
+pub mod Steady
 pub mod Kept
+pub mod Stretches
 pub mod Sound
+pub mod Queries
 pub mod Agree
 pub mod Foreseen
 pub mod History

@@ -1,5 +1,5 @@
--- Query and mean by number and by name, over all windows that show and over those given, find the same.
-use Rattle.lists.proofs.Prelude.{Bool, true, false, _||_, cond, List, [], _∷_, foldr, map, _≡_, refl, sym, ap, ap₂, _∙_, fun-ext, ℕ, suc, _+_, _*_, _<_, _≤_, arith, ltb, ltb-false, length, getD, take, keep, any, totalBy, down, by-test, any-none, keep-down, keep-low, map-kept}
+-- Query and mean by number and by name, over windows that differ in such alone in which nothing counts, find the same.
+use Rattle.lists.proofs.Prelude.{Bool, true, false, _||_, _&&_, cond, List, [], _∷_, foldr, map, _≡_, refl, sym, ap, ap₂, _∙_, fun-ext, ℕ, _+_, _*_, arith, ltb, ltb-false, length, getD, take, keep, any, every, totalBy, by-test, any-none, keep-both, keep-agree, map-kept}
 use Rattle.weights.specs.Weights.{tfWeight, idfWeight}
 use Rattle.answers.specs.declared.Hit.{Hit}
 use Rattle.identifiers.specs.Names.{Name, among, numbersOf}
@@ -8,48 +8,58 @@ use Rattle.ranking.specs.Hits.{place, frequency, score, matching, ranked}
 use Rattle.averages.specs.Average.{total}
 use Rattle.accounts.proofs.Numbers.{known-is}
 
--- ---- windows above m that are left out, or in which nothing counts, do not matter
+-- ---- windows in which nothing counts do not matter
 
-module _ {I : Type 0} (count : I → ℕ → ℕ) (p : ℕ → Bool) (m M : ℕ) (h : m ≤ M) (low : (v : ℕ) → v < m → p (suc v) ≡ true) (i : I)
-    (z : (v : ℕ) → m < v → p v ≡ true → count i v ≡ 0) where
-  -- the windows in which something counts
-  counted-windows : keep (λ w. ltb 0 (count i w)) (keep p (down M)) ≡ keep (λ w. ltb 0 (count i w)) (down m)
-  counted-windows = keep-low (λ w. ltb 0 (count i w)) p m M h low (λ v l y. ap (ltb 0) (z v l y))
+-- two lists of windows that differ in such alone: a test that they do not pass keeps the same of both
+abbrev pub SameCounted : {I : Type 0} → (I → ℕ → ℕ) → List ℕ → List ℕ → Type 0
+SameCounted {I} count ws vs = (t : ℕ → Bool) → ((v : ℕ) → ((i : I) → count i v ≡ 0) → t v ≡ false) → keep t ws ≡ keep t vs
 
-  pub frequency-windows : frequency count (keep p (down M)) i ≡ frequency count (down m) i
+module _ {I : Type 0} (count : I → ℕ → ℕ) (ws vs : List ℕ) (h : SameCounted count ws vs) where
+  -- the same of both kept by any test
+  pub counted-kept : (p : ℕ → Bool) → SameCounted count (keep p ws) (keep p vs)
+  counted-kept p t silent =
+      sym (keep-both t p both (λ v. refl) ws) ∙ h both (λ v z. rw (silent v z)) ∙ keep-both t p both (λ v. refl) vs
+    where
+      both : ℕ → Bool
+      both v = t v && p v
+
+  -- the windows in which an identifier counts
+  counted-windows : (i : I) → keep (λ w. ltb 0 (count i w)) ws ≡ keep (λ w. ltb 0 (count i w)) vs
+  counted-windows i = h (λ w. ltb 0 (count i w)) (λ v z. ap (ltb 0) (z i))
+
+  pub frequency-windows : (i : I) → frequency count ws i ≡ frequency count vs i
   unfolding frequency
-  frequency-windows = ap length counted-windows
+  frequency-windows i = ap length (counted-windows i)
 
   -- the others add nothing
-  total-counted : (l : List ℕ) → totalBy (count i) (keep (λ w. ltb 0 (count i w)) l) ≡ totalBy (count i) l
-  total-counted [] = refl
-  total-counted (w ∷ l) =
-      by-test (ltb 0 (count i w)) (λ y. rw (y, total-counted l)) (λ y. let n = ltb-false 0 (count i w) y in rw (y, total-counted l) (omega arith))
+  total-counted : (i : I) (l : List ℕ) → totalBy (count i) (keep (λ w. ltb 0 (count i w)) l) ≡ totalBy (count i) l
+  total-counted i [] = refl
+  total-counted i (w ∷ l) =
+      by-test (ltb 0 (count i w)) (λ y. rw (y, total-counted i l)) (λ y. let n = ltb-false 0 (count i w) y in rw (y, total-counted i l) (omega arith))
 
-  pub total-windows : total count (keep p (down M)) i ≡ total count (down m) i
+  pub total-windows : (i : I) → total count ws i ≡ total count vs i
   unfolding total
-  total-windows = sym (total-counted (keep p (down M))) ∙ ap (totalBy (count i)) counted-windows ∙ total-counted (down m)
+  total-windows i = sym (total-counted i ws) ∙ ap (totalBy (count i)) (counted-windows i) ∙ total-counted i vs
 
-pub ranked-windows : {I : Type 0} (n : ℕ) (count : I → ℕ → ℕ) (p : ℕ → Bool) (m M k : ℕ) (is : List I) → m ≤ M → ((v : ℕ) → v < m → p (suc v) ≡ true) → ((i : I) (v : ℕ) → m < v → p v ≡ true → count i v ≡ 0)
-    → ranked n count (keep p (down M)) k is ≡ ranked n count (down m) k is
-unfolding ranked matching score frequency
-ranked-windows {I} n count p m M k is h low z =
-    ap₂ (λ (fr : I → ℕ) (fo : List ℕ). take k (foldr place [] (map (λ w. record { window = w; score = totalBy (λ i. cond (ltb 0 (count i w)) (tfWeight (count i w) * idfWeight n (fr i)) 0) is }) fo)))
-    (fun-ext λ i. frequency-windows count p m M h low i (z i))
-    (keep-low (λ w. any (λ i. ltb 0 (count i w)) is) p m M h low (λ v l y. any-none (λ i. ltb 0 (count i v)) (λ i. ap (ltb 0) (z i v l y)) is))
+  pub ranked-windows : (n k : ℕ) (is : List I) → ranked n count ws k is ≡ ranked n count vs k is
+  unfolding ranked matching score
+  ranked-windows n k is =
+      ap₂ (λ (fr : I → ℕ) (fo : List ℕ). take k (foldr place [] (map (λ w. record { window = w; score = totalBy (λ i. cond (ltb 0 (count i w)) (tfWeight (count i w) * idfWeight n (fr i)) 0) is }) fo)))
+      (fun-ext frequency-windows)
+      (h (λ w. any (λ i. ltb 0 (count i w)) is) (λ v z. any-none (λ i. ltb 0 (count i v)) (λ i. ap (ltb 0) (z i)) is))
 
 -- ---- nor do counts outside the windows looked at
 
-pub ranked-agree : {I : Type 0} (n : ℕ) (count others : I → ℕ → ℕ) (m k : ℕ) (is : List I) → ((i : I) (v : ℕ) → v ≤ m → count i v ≡ others i v)
-    → ranked n count (down m) k is ≡ ranked n others (down m) k is
+pub ranked-agree : {I : Type 0} (n : ℕ) (count others : I → ℕ → ℕ) (p : ℕ → Bool) (ws : List ℕ) (k : ℕ) (is : List I) → every p ws ≡ true → ((i : I) (v : ℕ) → p v ≡ true → count i v ≡ others i v)
+    → ranked n count ws k is ≡ ranked n others ws k is
 unfolding ranked matching score frequency
-ranked-agree {I} n count others m k is e =
+ranked-agree {I} n count others p ws k is within e =
     ap (λ (l : List Hit). take k (foldr place [] l))
-    (map-kept _ _ _ _ m
+    (map-kept _ _ _ _ p ws within
     (λ v h. ap (λ (t : I → Bool). any t is) (fun-ext λ i. ap (ltb 0) (e i v h)))
     (λ v h. ap {B = Hit} (λ (g : I → ℕ). record { window = v; score = totalBy g is })
     (fun-ext λ i. ap₂ (λ (c f : ℕ). cond (ltb 0 c) (tfWeight c * idfWeight n f) 0) (e i v h)
-    (ap length (keep-down (λ w. ltb 0 (count i w)) (λ w. ltb 0 (others i w)) m (λ w l. ap (ltb 0) (e i w l)))))))
+    (ap length (keep-agree (λ w. ltb 0 (count i w)) (λ w. ltb 0 (others i w)) p (λ w l. ap (ltb 0) (e i w l)) ws within)))))
 
 -- ---- identifiers that the register does not have add nothing
 

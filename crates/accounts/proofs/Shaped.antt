@@ -1,19 +1,17 @@
 -- The account's own shape: partitions and buffer in order and without a count of 0, levels within their limits and never rising, and the merge in
 -- progress. Flushes, steps and what is added to the buffer keep it.
-use Rattle.lists.proofs.Prelude.{Bool, true, false, _||_, _&&_, not, List, [], _∷_, foldr, _≡_, refl, sym, ap, ap₂, _∙_, subst, ℕ, zero, suc, _+_, _*_, _≤_, arith, eqb, leb, pos, length, take, drop, eqb-true, eqb-false, eq-eqb, le-leb, leb-false, ltb-false, any, every, empty, by-test, and-both, every-append, every-take, every-drop, every-from, length-keep, not-false}
+use Rattle.lists.proofs.Prelude.{Bool, true, false, _||_, _&&_, not, List, [], _∷_, foldr, _≡_, refl, sym, ap, ap₂, _∙_, subst, ℕ, suc, _+_, _*_, _≤_, arith, eqb, leb, length, take, drop, eqb-true, eqb-false, eq-eqb, le-leb, leb-false, ltb-false, any, every, empty, by-test, and-both, every-append, every-take, every-drop, every-from, length-keep, not-false}
 use Rattle.postings.specs.declared.Posting.{Posting}
 use Rattle.postings.specs.Order.{samePair, ordered}
 use Rattle.postings.specs.Merge.{put, isCounted, nonzero}
-use Rattle.postings.specs.Sums.{sum}
 use Rattle.postings.proofs.Order.{same-swap}
 use Rattle.postings.proofs.Merge.{puts-ordered, nonzero-ordered, nonzero-counts, length-put, length-puts, length-put-there}
 use Rattle.state.specs.Levels.{dueAt, nextLevel, levelLimit, levels, ofLevel, oldestAt, replaced}
 use Rattle.levels.proofs.Runs.{falls, due-first}
 use Rattle.levels.proofs.Replaced.{falls-add, replaced-falls, replaced-limits, added-limits}
-use Rattle.accounts.specs.Account.{Portion, Account, postingsIn, storedIn, dueOf, inputsOf, merged, portionOf, completed, furthered, steppedAccount, flushedAccount, overflows, exceeds, addedTo}
+use Rattle.accounts.specs.Account.{Portion, Account, dueOf, inputsOf, merged, portionOf, completed, furthered, steppedAccount, flushedAccount, overflows, exceeds, addedTo}
 use Rattle.accounts.proofs.Stored.{levelOf, merged-ordered, merged-counts, step-ends, step-goes, buffer-stepped}
 use Rattle.accounts.proofs.Steps.{pairCount, Progress, progress-flushed, progress-stepped}
-use Rattle.accounts.proofs.Prefixes.{Small, Prefixes, prefixes-flushed, prefixes-stepped, portion-one}
 
 -- a partition has postings, in order and without a count of 0
 abbrev pub portionRule : Portion → Bool
@@ -24,7 +22,6 @@ abbrev pub withinLimits : List Portion → Bool
 withinLimits ps = every (λ u. leb (ofLevel levelOf u ps) (levelLimit u)) levels
 
 pub record Shaped (a : Account) : Type 0 where
-  pub prefixes : Prefixes (a .partitions)
   pub parts : every portionRule (a .partitions) ≡ true
   pub order : ordered (a .buffer) ≡ true
   pub counted : every isCounted (a .buffer) ≡ true
@@ -36,7 +33,6 @@ pub record Shaped (a : Account) : Type 0 where
 
 pub shaped-empty : Shaped (record { buffer = []; partitions = []; steps = 0 })
 shaped-empty = record {
-  prefixes = λ k i w. record { size = 0; is = nothing k i w; fits = omega arith };
   parts = refl;
   order = refl;
   counted = refl;
@@ -46,16 +42,11 @@ shaped-empty = record {
   limits = refl;
   fall = refl;
 }
-  where
-    nothing : (k i w : ℕ) → sum (postingsIn (take k [])) i w ≡ pos 0
-    nothing zero i w = refl
-    nothing (suc k) i w = refl
 
 -- ---- a flush
 
-pub shaped-flushed : (a : Account) → Shaped a → ((i w : ℕ) → Small (sum (storedIn a) i w)) → empty (a .buffer) ≡ false → leb 16 (ofLevel levelOf 0 (a .partitions)) ≡ false → Shaped (flushedAccount a)
-shaped-flushed a s total some ten = record {
-  prefixes = prefixes-flushed a (s .prefixes) total;
+pub shaped-flushed : (a : Account) → Shaped a → empty (a .buffer) ≡ false → leb 16 (ofLevel levelOf 0 (a .partitions)) ≡ false → Shaped (flushedAccount a)
+shaped-flushed a s some ten = record {
   parts = unfold flushedAccount in (every-append portionRule (a .partitions) (new ∷ []) ∙ rw (s .parts, some, s .order, s .counted));
   order = unfold flushedAccount in refl;
   counted = unfold flushedAccount in refl;
@@ -80,7 +71,11 @@ every-replaced level t (v ∷ vs) ps R e f =
     ∙ and-both (every t (take k ps)) _ (every-take t k ps e)
     (every-append t R _ ∙ and-both (every t R) _ f (every-drop t (dueAt v) (drop k ps) (every-drop t k ps e)))
 
--- the result keeps the partitions' rule
+-- a result is one partition at most
+portion-one : (a : Account) → length (portionOf a) ≤ 1
+portion-one a = by-test (empty (merged a)) (λ y. rw y (omega arith)) (λ n. rw n (omega arith))
+
+-- it keeps the partitions' rule
 portion-rule : (a : Account) → every portionRule (portionOf a) ≡ true
 portion-rule a = by-test (empty (merged a)) (λ y. rw y) (λ n. rw (n, n, merged-ordered a, merged-counts a))
 
@@ -116,7 +111,6 @@ module _ (a : Account) (s : Shaped a) where
 
   pub shaped-stepped : Shaped (steppedAccount a)
   shaped-stepped = record {
-    prefixes = prefixes-stepped a (s .prefixes);
     parts = by-test last (λ y. rw (step-ends a y) completed-parts) (λ n. rw (step-goes a n) (unfold furthered in (s .parts)));
     order = rw (buffer-stepped a) (s .order);
     counted = rw (buffer-stepped a) (s .counted);
@@ -135,7 +129,6 @@ module _ (a : Account) (s : Shaped a) where
 pub shaped-added : (ps : List Posting) (a : Account) → Shaped a → length (nonzero (foldr put (a .buffer) ps)) ≤ 128 → Shaped (addedTo ps a)
 unfolding addedTo inputsOf
 shaped-added ps a s h = record {
-  prefixes = s .prefixes;
   parts = s .parts;
   order = nonzero-ordered (foldr put (a .buffer) ps) (puts-ordered ps (a .buffer) (s .order));
   counted = nonzero-counts (foldr put (a .buffer) ps);

@@ -1,28 +1,35 @@
 -- What moves the hits of a query: a close and a removal, and no other call.
-use Rattle.lists.proofs.Prelude.{Bool, true, false, cond, List, _≡_, refl, sym, ap, ap₂, _∙_, ℕ, suc, _-_, _≤_, arith, down, not-false}
+use Rattle.lists.proofs.Prelude.{Bool, true, false, cond, List, _≡_, refl, sym, ap, _∙_, ℕ, suc, _-_, _≤_, arith, ltb, length, ltb-true, lt-ltb, keep, every, down, keep-agree, every-down, every-keep, every-member, keep-all, not-false}
+use Rattle.postings.specs.declared.Stretch.{Stretch}
 use Rattle.answers.specs.Answers.{Outcome, stateOf}
 use Rattle.answers.specs.declared.Hit.{Hit}
 use Rattle.answers.proofs.Kept.{after-if, after-choose}
+use Rattle.state.specs.Shown.{within}
 use Rattle.identifiers.specs.Names.{Name, among}
 use Rattle.ranking.specs.Hits.{ranked}
 use Rattle.engine.specs.Calls.{Call, Open, Event, Close, Remove, RemoveAll, Flush, Step, Query, Mean, Forecast}
 use Rattle.accounts.specs.Account.{Account, stepping, flushing, flushingIf}
-use Rattle.accounts.specs.Ledger.{Ledger, shown, existing, opens, counts}
+use Rattle.accounts.specs.Ledger.{Ledger, live, shown, shownWithin, existingWithin, opens, counts}
 use Rattle.accounts.specs.Books.{Books, showing, plannedIn, books, booksCall}
 use Rattle.accounts.proofs.Ranked.{ranked-agree}
-use Rattle.accounts.proofs.Live.{existing-opens, existing-counts}
+use Rattle.accounts.proofs.Live.{live-counts-other}
 use Rattle.accounts.proofs.Lawful.{Lawful}
 use Rattle.accounts.proofs.Counted.{more-elsewhere}
 
 -- ---- the hits by a ledger
 
-abbrev pub hitsBy : ℕ → List Name → Ledger → List Hit
-hitsBy k ns l = ranked (existing l) (l .count) (shown l) k ns
+-- of the windows that show and pass a test
+abbrev hitsAmong : (ℕ → Bool) → ℕ → List Name → Ledger → List Hit
+hitsAmong p k ns l = ranked (length (keep (live l) (keep p (shown l)))) (l .count) (keep p (shown l)) k ns
 
-module _ (k : ℕ) (ns : List Name) (l : Ledger) where
+-- of a stretch
+abbrev pub hitsWithin : Stretch → ℕ → List Name → Ledger → List Hit
+hitsWithin t k ns l = ranked (existingWithin t l) (l .count) (shownWithin t l) k ns
+
+module _ (p : ℕ → Bool) (k : ℕ) (ns : List Name) (l : Ledger) where
   -- opening a window leaves them
-  hits-opens : l .isOpen ≡ false → hitsBy k ns (opens l) ≡ hitsBy k ns l
-  hits-opens n = ap₂ (λ (N : ℕ) (ws : List ℕ). ranked N (opens l .count) ws k ns) (existing-opens l n) same ∙ counted
+  hits-opens : l .isOpen ≡ false → hitsAmong p k ns (opens l) ≡ hitsAmong p k ns l
+  hits-opens n = ap (λ (ws : List ℕ). ranked (length (keep (live (opens l)) (keep p ws))) (opens l .count) (keep p ws) k ns) same ∙ (unfold opens live in refl)
     where
       one : suc (l .last) - 1 ≡ l .last
       one = omega arith
@@ -30,21 +37,28 @@ module _ (k : ℕ) (ns : List Name) (l : Ledger) where
       same : shown (opens l) ≡ shown l
       same = unfold shown opens in (ap down one ∙ sym (ap (λ t. down (cond t (l .last - 1) (l .last))) n))
 
-      counted : ranked (existing l) (opens l .count) (shown l) k ns ≡ ranked (existing l) (l .count) (shown l) k ns
-      counted = unfold opens in refl
-
   -- and so does an event
-  hits-counts : (n : Name) → l .isOpen ≡ true → 1 ≤ l .last → ((v : ℕ) → among n (l .identifiers) ≡ false → l .count n v ≡ 0) → hitsBy k ns (counts l n) ≡ hitsBy k ns l
+  hits-counts : (n : Name) → l .isOpen ≡ true → 1 ≤ l .last → ((v : ℕ) → among n (l .identifiers) ≡ false → l .count n v ≡ 0) → hitsAmong p k ns (counts l n) ≡ hitsAmong p k ns l
   hits-counts n o given new =
-      ap₂ (λ (N : ℕ) (ws : List ℕ). ranked N (counts l n .count) ws k ns) (existing-counts l n o given new) (same ∙ below)
-      ∙ ranked-agree (existing l) (counts l n .count) (l .count) (l .last - 1) k ns (λ i v h. unfold counts in more-elsewhere l n i v (λ q. omega arith))
-      ∙ ap (λ (ws : List ℕ). ranked (existing l) (l .count) ws k ns) (sym below)
+      ap (λ (ws : List ℕ). ranked (length (keep (live (counts l n)) (keep p ws))) (counts l n .count) (keep p ws) k ns) same
+      ∙ ap (λ (ws : List ℕ). ranked (length ws) (counts l n .count) (keep p (shown l)) k ns)
+      (keep-agree (live (counts l n)) (live l) earlier (λ v h. live-counts-other l n v (new v) (apart v h)) (keep p (shown l)) before)
+      ∙ ranked-agree (length (keep (live l) (keep p (shown l)))) (counts l n .count) (l .count) earlier (keep p (shown l)) k ns before (λ i v h. unfold counts in more-elsewhere l n i v (apart v h))
     where
       same : shown (counts l n) ≡ shown l
       same = unfold shown counts in refl
 
-      below : shown l ≡ down (l .last - 1)
-      below = unfold shown in ap (λ t. down (cond t (l .last - 1) (l .last))) o
+      -- the windows that show were given before the open one
+      earlier : ℕ → Bool
+      earlier v = ltb v (l .last)
+
+      apart : (v : ℕ) → earlier v ≡ true → l .last ≡ v → ⊥
+      apart v h e = omega (arith, ltb-true v (l .last) h)
+
+      before : every earlier (keep p (shown l)) ≡ true
+      before =
+          every-keep p earlier (shown l)
+          (unfold shown in rw o (every-down earlier (l .last - 1) (λ v h. lt-ltb (suc v) (l .last) (omega arith))))
 
 -- ---- every call
 
@@ -63,21 +77,27 @@ module _ (b : Books) (P : Books → Type 0) (here : P b) (blocks : ℕ) (a : Acc
   stays-step = after-if P b here _ 12 _ λ _. after-if P b here _ 13 _ λ _. left _
 
 module _ (blocks entries : ℕ) (b : Books) (s : Lawful entries (b .ledger)) (k : ℕ) (ns : List Name) where
-  -- books with the hits that there were
-  abbrev Same : Books → Type 0
-  Same c = hitsBy k ns (c .ledger) ≡ hitsBy k ns (b .ledger)
+  module _ (p : ℕ → Bool) where
+    -- books with the hits that there were
+    abbrev Same : Books → Type 0
+    Same c = hitsAmong p k ns (c .ledger) ≡ hitsAmong p k ns (b .ledger)
 
-  pub hits-stay : (q : Call) → showing q ≡ false → Same (stateOf b (booksCall blocks entries b q))
-  unfolding plannedIn books
-  hits-stay Open e = after-if Same b refl _ 5 _ λ n. after-if Same b refl _ 6 _ λ _. hits-opens k ns (b .ledger) n
-  hits-stay (Event n) e =
-      after-if Same b refl _ 4 _ λ _. after-if Same b refl _ 5 _ λ o. after-if Same b refl _ 6 _ λ _. after-if Same b refl _ 8 _ λ _. after-if Same b refl _ 9 _ λ _.
-      stays-flushIf b Same refl blocks (b .account) _ (λ a. let y = not-false _ o in hits-counts k ns (b .ledger) n y (s .given y) (λ v z. s .uncounted n v z)) _
-  hits-stay Close e = absurd (let z : _≡_ {A = ℕ} 0 1 = cc in omega arith)
-  hits-stay (Remove w) e = absurd (let z : _≡_ {A = ℕ} 0 1 = cc in omega arith)
-  hits-stay (RemoveAll ws) e = absurd (let z : _≡_ {A = ℕ} 0 1 = cc in omega arith)
-  hits-stay Flush e = stays-flush b Same refl blocks (b .account) _ (λ a. refl)
-  hits-stay Step e = stays-step b Same refl blocks (b .account) _ (λ a. refl)
-  hits-stay (Query j ms) e = after-if Same b refl _ 4 _ λ _. after-if Same b refl _ 14 _ λ _. refl
-  hits-stay (Mean n) e = after-if Same b refl _ 4 _ λ _. after-if Same b refl _ 15 _ λ _. refl
-  hits-stay (Forecast plan numbers) e = after-if Same b refl _ 3 _ λ _. refl
+    hits-among-stay : (q : Call) → showing q ≡ false → Same (stateOf b (booksCall blocks entries b q))
+    unfolding plannedIn books
+    hits-among-stay Open e = after-if Same b refl _ 5 _ λ n. after-if Same b refl _ 6 _ λ _. hits-opens p k ns (b .ledger) n
+    hits-among-stay (Event n) e =
+        after-if Same b refl _ 4 _ λ _. after-if Same b refl _ 5 _ λ o. after-if Same b refl _ 6 _ λ _. after-if Same b refl _ 8 _ λ _. after-if Same b refl _ 9 _ λ _.
+        stays-flushIf b Same refl blocks (b .account) _ (λ a. let y = not-false _ o in hits-counts p k ns (b .ledger) n y (s .given y) (λ v z. s .uncounted n v z)) _
+    hits-among-stay Close e = absurd (let z : _≡_ {A = ℕ} 0 1 = cc in omega arith)
+    hits-among-stay (Remove w) e = absurd (let z : _≡_ {A = ℕ} 0 1 = cc in omega arith)
+    hits-among-stay (RemoveAll ws) e = absurd (let z : _≡_ {A = ℕ} 0 1 = cc in omega arith)
+    hits-among-stay Flush e = stays-flush b Same refl blocks (b .account) _ (λ a. refl)
+    hits-among-stay Step e = stays-step b Same refl blocks (b .account) _ (λ a. refl)
+    hits-among-stay (Query j t ms) e = after-if Same b refl _ 4 _ λ _. after-if Same b refl _ 14 _ λ _. after-if Same b refl _ 17 _ λ _. refl
+    hits-among-stay (Mean n) e = after-if Same b refl _ 4 _ λ _. after-if Same b refl _ 15 _ λ _. refl
+    hits-among-stay (Forecast plan numbers) e = after-if Same b refl _ 3 _ λ _. refl
+
+  -- of a stretch
+  pub hits-within-stay : (t : Stretch) (q : Call) → showing q ≡ false → hitsWithin t k ns (stateOf b (booksCall blocks entries b q) .ledger) ≡ hitsWithin t k ns (b .ledger)
+  unfolding existingWithin shownWithin
+  hits-within-stay t = hits-among-stay (within t)

@@ -1,7 +1,8 @@
 -- Lists that stand for a ledger and its account keep every rule of the state, and what a call uses of them is well formed: refusals 1 and 3 have no
 -- cause.
-use Rattle.lists.proofs.Prelude.{Bool, true, false, _||_, _&&_, not, cond, List, [], _∷_, map, List·Memᴰ, _⊎_, inl, inr, _≡_, refl, sym, ap, ap₂, _∙_, ℕ, zero, suc, _+_, _-_, _*_, _<_, _≤_, arith, eqb, leb, pos, natAbs, _+ℤ_, length, getD, length-map, eqb-false, le-leb, lt-leb, leb-true, not-true, keep, every, empty, totalBy, down, by-test, and-left, and-right, and-both, every-from, every-keep, every-mem, length-keep, elem-every, every-map, every-member, empty-is}
+use Rattle.lists.proofs.Prelude.{Bool, true, false, _||_, _&&_, not, cond, true≢false, List, [], _∷_, map, List·Memᴰ, _⊎_, inl, inr, _≡_, refl, sym, ap, ap₂, _∙_, ℕ, zero, suc, _+_, _-_, _*_, _<_, _≤_, arith, eqb, leb, ℤ, pos, negsuc, _+ℤ_, pos-ne-negsuc, length, getD, length-map, eqb-false, le-leb, lt-leb, leb-true, not-true, keep, every, empty, totalBy, down, by-test, and-left, and-right, and-both, every-from, every-keep, every-mem, length-keep, elem-every, every-map, every-member, empty-is, every-both}
 use Rattle.postings.specs.declared.Posting.{Posting}
+use Rattle.postings.specs.declared.Stretch.{Stretch}
 use Rattle.postings.specs.Order.{ordered}
 use Rattle.postings.specs.Merge.{isZero, isCounted, pairs}
 use Rattle.postings.specs.Sums.{sum, under, above}
@@ -19,16 +20,17 @@ use Rattle.levels.proofs.Replaced.{at-levels, levels-room}
 use Rattle.identifiers.specs.Names.{numberOf, numbersOf}
 use Rattle.partitions.specs.Layout.{lengthOf}
 use Rattle.partitions.specs.Formed.{listRule, inRange, sumsInRange}
+use Rattle.stretches.specs.Reached.{whole}
 use Rattle.removals.specs.Removal.{countsOf}
 use Rattle.plans.specs.Merging.{isLast}
 use Rattle.engine.specs.Calls.{Call, Open, Event, Close, Remove, RemoveAll, Flush, Step, Query, Mean, Forecast}
-use Rattle.accounts.specs.Account.{Portion, Account, postingsIn, storedIn, blocksOf, blocksIn, blocksAhead, dueOf, inputsOf}
+use Rattle.accounts.specs.Account.{Portion, Account, postingsIn, storedIn, reaches, readBy, blocksOf, blocksIn, blocksAhead, dueOf, inputsOf}
 use Rattle.accounts.specs.Ledger.{Ledger, live, existing, byNumber}
-use Rattle.accounts.specs.Lists.{Lists, recordLike, listsRule, identifierRule, listsRuled, windowSums, windowRule, inputsRule, callRule}
+use Rattle.accounts.specs.Lists.{Lists, recordLike, listsRule, identifierRule, listsRuled, readRule, windowSums, windowRule, inputsRule, callRule}
 use Rattle.accounts.proofs.Parts.{sums-in-range, window-in-range, identifier-in-range}
 use Rattle.accounts.proofs.Stored.{levelOf, sum-stored}
 use Rattle.accounts.proofs.Steps.{progress-due}
-use Rattle.accounts.proofs.Prefixes.{small-abs, whole-small, inputs-small, buffer-small}
+use Rattle.accounts.proofs.Rises.{rises-most, part-counts}
 use Rattle.accounts.proofs.Shaped.{portionRule}
 use Rattle.accounts.proofs.Fits.{Fits, cost, lengths-fit}
 use Rattle.accounts.proofs.Numbers.{numbers-different, numbers-small}
@@ -36,8 +38,9 @@ use Rattle.accounts.proofs.Live.{existing-shut, existing-open}
 use Rattle.accounts.proofs.Lawful.{Lawful}
 use Rattle.accounts.proofs.Held.{counts-length}
 use Rattle.accounts.proofs.Ranged.{storedRule, stored-kept, ranged-partitions, ranged-buffer, every-portion, every-oldest}
-use Rattle.accounts.proofs.Behind.{top, top-le, rest}
-use Rattle.accounts.proofs.Kept.{Kept, stored-small}
+use Rattle.accounts.proofs.Steady.{top, top-le}
+use Rattle.accounts.proofs.Stretches.{spanRule, span-kept, spans-hold, some-in-range, some-buffer-in-range}
+use Rattle.accounts.proofs.Kept.{Kept, partitions-small, stored-small, inputs-small, buffer-small}
 
 -- the ledger's numbers as the state has them
 abbrev pub windowsOf : Ledger → Windows
@@ -123,10 +126,18 @@ module _ (blocks entries : ℕ) (l : Ledger) (a : Account) (k : Kept blocks entr
   records-hold : every (recordRule blocks) (map recordLike (a .partitions)) ≡ true
   records-hold =
       every-map (recordRule blocks) recordLike (a .partitions)
-      ∙ every-from (λ p. leb (levelOf p) 5) (λ (p : Portion). leb (lengthOf (p .postings)) (4092 * blocks)) (λ p. recordRule blocks (recordLike p))
-      (λ p x y. record-rule blocks (recordLike p) (record { level = leb-true _ _ x; length = leb-true _ _ y })) (a .partitions) (k .shaped .low)
-      (lengths-fit blocks (a .partitions) (k .shaped .parts) room)
+      ∙ every-from (λ p. leb (levelOf p) 5) (λ p. fit p && spanRule (p .postings)) (λ p. recordRule blocks (recordLike p)) ruled (a .partitions) (k .shaped .low)
+      (every-both fit (λ (p : Portion). spanRule (p .postings)) (a .partitions)
+      ∙ and-both (every fit (a .partitions)) _ (lengths-fit blocks (a .partitions) (k .shaped .parts) room) (spans-hold blocks entries l a k))
     where
+      fit : Portion → Bool
+      fit p = leb (lengthOf (p .postings)) (4092 * blocks)
+
+      ruled : (p : Portion) → leb (levelOf p) 5 ≡ true → (fit p && spanRule (p .postings)) ≡ true → recordRule blocks (recordLike p) ≡ true
+      ruled p x y =
+          let s = span-kept (p .postings) (and-right (fit p) _ y) in
+          record-rule blocks (recordLike p) (record { level = leb-true _ _ x; length = leb-true _ _ (and-left (fit p) _ y); some = s .some; span = s .least })
+
       room : cost (a .partitions) ≤ blocks
       room = omega (arith, all)
         where
@@ -162,17 +173,24 @@ module _ (blocks entries : ℕ) (l : Ledger) (a : Account) (k : Kept blocks entr
             some = r .some;
             given = omega (arith, r .most, top-le l);
             counts = some;
-            small = rw (← one) (buffer-small a (k .shaped .prefixes) (stored-small blocks entries l a k) (p .id) (p .window));
+            small = rw (← one) (buffer-small blocks entries l a k (p .id) (p .window));
             own = λ q. by-test (l .isOpen) (λ o. own p o (q ∙ current-open l o) one some) (λ n. absurd (omega (arith, r .some, q, current-shut l n)));
           }
         where
+          -- a count that is not 0 is at least 1
+          not-none : (z : ℤ) → z ≡ pos (above z) → isZero z ≡ false → 1 ≤ above z
+          not-none (pos zero) e f = absurd (true≢false f)
+          not-none (pos (suc n)) e f = omega arith
+          not-none (negsuc n) e f = absurd (pos-ne-negsuc 0 n (sym e))
+
           own : (p : Posting) → l .isOpen ≡ true → p .window ≡ l .last → sum (a .buffer) (p .id) (p .window) ≡ p .count → isZero (p .count) ≡ false → (1 ≤ above (p .count)) × (above (p .count) ≤ l .events)
           own p o q one some =
-              let b = k .behind o (p .id) in
-              let whole : pos (byNumber l (p .id) (l .last)) ≡ pos (b .size) +ℤ p .count
-              = sym (k .sums (p .id) (l .last)) ∙ sum-stored (p .id) (l .last) a ∙ ap₂ _+ℤ_ (b .is) (ap (sum (a .buffer) (p .id)) (sym q) ∙ one) in
-              let m = rest (b .size) (byNumber l (p .id) (l .last)) (p .count) whole (b .le) some in
-              rw (m .1) (m .2, omega (arith, m .3, k .lawful .within o (getD (l .identifiers) (p .id) [])))
+              let i = p .id in
+              let here : sum (a .buffer) i (l .last) ≡ p .count = ap (sum (a .buffer) i) (sym q) ∙ one in
+              let parts = sum (postingsIn (a .partitions)) i (l .last) in
+              let above-none : above parts + above (p .count) ≤ byNumber l i (l .last) = omega (arith, rises-most i (l .last) (a .partitions), ap above here, k .steady .own o i) in
+              let m = part-counts parts (p .count) (byNumber l i (l .last)) (ap (λ z. parts +ℤ z) (sym here) ∙ sym (sum-stored i (l .last) a) ∙ k .sums i (l .last)) above-none in
+              (not-none (p .count) m some, omega (arith, k .lawful .within o (getD (l .identifiers) i [])))
 
   -- ---- refusal 1
 
@@ -201,28 +219,35 @@ module _ (blocks entries : ℕ) (l : Ledger) (a : Account) (k : Kept blocks entr
           (every-from isCounted (storedRule (top l)) (λ q. leb 1 (q .window) && not (isZero (q .count)))
           (λ q c r. and-both (leb 1 (q .window)) _ (le-leb _ _ (stored-kept (top l) q r .some)) c) m (and-right (ordered m) _ x) y)
 
+  -- so of those that pass a test
+  pub some-formed : (test : Portion → Bool) → every (λ (p : Portion). listRule (p .postings)) (keep test (a .partitions)) ≡ true
+  some-formed test = every-keep test (λ (p : Portion). listRule (p .postings)) (a .partitions) lists-formed
+
   -- and so is the part of it that one identifier has
   under-formed : (i : ℕ) → every (λ (p : Portion). listRule (under i (p .postings))) (a .partitions) ≡ true
   under-formed i =
       every-from (λ (p : Portion). listRule (p .postings)) (λ (p : Portion). listRule (p .postings)) (λ (p : Portion). listRule (under i (p .postings)))
       (λ p x y. part-formed i (p .postings) x) (a .partitions) lists-formed lists-formed
 
-  -- sums over the partitions and with the buffer fit
-  partitions-small : (i w : ℕ) → natAbs (sum (postingsIn (a .partitions)) i w) ≤ 32767
-  partitions-small i w = small-abs (whole-small (a .partitions) (k .shaped .prefixes) i w)
+  -- what a query of a stretch reads
+  module _ (t : Stretch) where
+    lists-read : listsRuled (readBy t a) ≡ true
+    unfolding readBy
+    lists-read = some-formed (reaches t)
 
-  all-small : (i w : ℕ) → natAbs (sum (storedIn a) i w) ≤ 32767
-  all-small i w = small-abs (stored-small blocks entries l a k i w)
+    identifier-read : (i : ℕ) → identifierRule (readBy t a) i ≡ true
+    unfolding identifierRule readBy
+    identifier-read i =
+        rw (every-keep (reaches t) (λ (p : Portion). listRule (under i (p .postings))) (a .partitions) (under-formed i), some-in-range blocks entries l a k (reaches t) i)
+        (some-buffer-in-range blocks entries l a k (reaches t) i)
 
-  pub identifier-formed : (i : ℕ) → identifierRule a i ≡ true
-  unfolding identifierRule
-  identifier-formed i =
-      rw (under-formed i, identifier-in-range i (postingsIn (a .partitions)) partitions-small, identifier-in-range i (storedIn a) all-small)
+    read-formed : (is : List ℕ) → readRule (readBy t a) is ≡ true
+    read-formed is = and-both (listsRuled (readBy t a)) _ lists-read (elem-every (identifierRule (readBy t a)) is (λ i e. identifier-read i))
 
   window-sums : (w : ℕ) → windowSums a w ≡ true
   window-sums w =
-      rw (window-in-range w (postingsIn (a .partitions)) partitions-small, window-in-range w (storedIn a) all-small)
-      (le-leb (length (countsOf w (storedIn a))) 64 (rw (counts-length entries l (k .lawful) a (k .sums) w) (k .lawful .held w)))
+      rw (window-in-range w (postingsIn (a .partitions)) (partitions-small blocks entries l a k), window-in-range w (storedIn a) (stored-small blocks entries l a k))
+      (le-leb (length (countsOf w (storedIn a))) 64 (rw (counts-length entries l (k .lawful) (storedIn a) w (λ i. k .sums i w)) (k .lawful .held w)))
 
   pub window-formed : (w : ℕ) → windowRule a w ≡ true
   unfolding windowRule
@@ -234,15 +259,12 @@ module _ (blocks entries : ℕ) (l : Ledger) (a : Account) (k : Kept blocks entr
       rw (every-oldest (λ (p : Portion). listRule (p .postings)) (dueOf a) (a .partitions) lists-formed, fit) left
     where
       fit : every (λ p. inRange (p .count)) (pairs (inputsOf a)) ≡ true
-      fit = unfold sumsInRange in sums-in-range (inputsOf a) (inputs-small a (k .shaped .prefixes))
+      fit = unfold sumsInRange in sums-in-range (inputsOf a) (inputs-small blocks entries l a k)
 
       left : (eqb (a .steps) 0 || not (isLast (pairs (inputsOf a)) (a .steps))) ≡ true
       left =
           by-test (eqb (a .steps) 0) (λ y. rw y)
           (λ n. let d = eqb-false (a .steps) 0 n in rw (n, lt-leb (length (pairs (inputsOf a))) (16 * a .steps) (k .shaped .progress (omega arith))))
-
-  identifiers-formed : (is : List ℕ) → every (identifierRule a) is ≡ true
-  identifiers-formed is = elem-every (identifierRule a) is (λ i e. identifier-formed i)
 
   pub call-formed : (c : Call) → callRule (listsOf l a) c ≡ true
   unfolding callRule
@@ -253,6 +275,6 @@ module _ (blocks entries : ℕ) (l : Ledger) (a : Account) (k : Kept blocks entr
   call-formed (RemoveAll ws) = and-both (listsRuled a) _ lists-formed (elem-every (windowSums a) ws (λ w e. window-sums w))
   call-formed Flush = refl
   call-formed Step = inputs-formed
-  call-formed (Query m ns) = identifiers-formed (numbersOf (l .identifiers) ns)
-  call-formed (Mean n) = identifiers-formed (numbersOf (l .identifiers) (n ∷ []))
+  call-formed (Query m t ns) = read-formed t (numbersOf (l .identifiers) ns)
+  call-formed (Mean n) = read-formed whole (numbersOf (l .identifiers) (n ∷ []))
   call-formed (Forecast plan numbers) = refl

@@ -80,7 +80,7 @@ module _ (blocks entries : ℕ) where
   books-granted l a (RemoveAll ws) = later _ 16 _ (omega arith) (turn-granted _ removal-granted ws _)
   books-granted l a Flush = flush-granted a _ (λ b. isDone)
   books-granted l a Step = step-granted a _ (λ b. isDone)
-  books-granted l a (Query k ns) = later _ 4 _ (omega arith) (later _ 14 _ (omega arith) isHits)
+  books-granted l a (Query k t ns) = later _ 4 _ (omega arith) (later _ 14 _ (omega arith) (later _ 17 _ (omega arith) isHits))
   books-granted l a (Mean n) = later _ 4 _ (omega arith) (later _ 15 _ (omega arith) isMean)
   books-granted l a (Forecast plan numbers) = plan-granted plan numbers (recordingRule plan numbers) refl _ (follow-granted _ _ _ 0 _)
 

@@ -6,7 +6,9 @@ use lib.Dec.{eqb, ltb, leb}
 use lib.ListN.{length, getD}
 use Rattle.lists.specs.Lists.{keep, any, empty, totalBy, joined, elem}
 use Rattle.postings.specs.declared.Posting.{Posting}
+use Rattle.postings.specs.declared.Stretch.{Stretch}
 use Rattle.postings.specs.Merge.{put, nonzero, pairs}
+use Rattle.postings.specs.Spans.{lowest, highest}
 use Rattle.answers.specs.Answers.{Outcome, choose}
 use Rattle.answers.specs.Order as order
 use Rattle.answers.specs.Order.{admit}
@@ -39,6 +41,14 @@ storedIn a = postingsIn (a .partitions) ++ a .buffer
 -- how many postings are stored under these identifiers
 unfoldable pub takenFrom : List ℕ → Account → ℕ
 takenFrom is a = length (keep (λ p. elem (p .id) is) (storedIn a))
+
+-- is a partition not wholly outside a stretch
+abbrev pub reaches : Stretch → Portion → Bool
+reaches t p = leb (t .first) (highest (p .postings)) && leb (lowest (p .postings)) (t .last)
+
+-- what a query of a stretch reads: the partitions not wholly outside, and the buffer
+unfoldable pub readBy : Stretch → Account → Account
+readBy t a = record { buffer = a .buffer; partitions = keep (reaches t) (a .partitions); steps = 0 }
 
 -- the blocks of a partition of these postings; none for no postings
 unfoldable pub blocksOf : List Posting → ℕ

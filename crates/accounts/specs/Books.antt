@@ -1,4 +1,4 @@
--- The ledger with the account beside it: what each call is to answer. Window numbers, hits, scores and means, and refusals 4 to 9 and 14 to 16 come
+-- The ledger with the account beside it: what each call is to answer. Window numbers, hits, scores and means, and refusals 4 to 9 and 14 to 17 come
 -- from the ledger alone; refusals 10 to 13 and the postings taken from the account; a forecast from both.
 use mathlib.Core.Bool.{Bool, true, false, _&&_, not, cond}
 use mathlib.Core.List.{List, [], _∷_}
@@ -20,12 +20,12 @@ use Rattle.recordings.specs.Recording.{recordingRule, recorded}
 use Rattle.forecasts.specs.Plan.{Planned, opening, counting, closing, planCalls}
 use Rattle.forecasts.specs.Course.{Gauge, follow}
 use Rattle.ranking.specs.Hits.{frequency, ranked}
-use Rattle.ranking.specs.Asked.{badQuery}
+use Rattle.ranking.specs.Asked.{badQuery, badStretch}
 use Rattle.averages.specs.Average.{total, averaged}
 use Rattle.batches.specs.Batch.{batchRule}
 use Rattle.engine.specs.Calls.{Call, Open, Event, Close, Remove, RemoveAll, Flush, Step, Query, Mean, Forecast, run}
-use Rattle.accounts.specs.Account.{Portion, Account, emptyAccount, takenFrom, blocksIn, overflows, exceeds, addedTo, stepping, flushing, flushingIf}
-use Rattle.accounts.specs.Ledger.{Ledger, emptyLedger, live, shown, existing, opens, closes, counts, removes}
+use Rattle.accounts.specs.Account.{Portion, Account, emptyAccount, takenFrom, readBy, blocksIn, overflows, exceeds, addedTo, stepping, flushing, flushingIf}
+use Rattle.accounts.specs.Ledger.{Ledger, emptyLedger, live, shown, shownWithin, existingWithin, opens, closes, counts, removes}
 
 -- what an event stores: one count of its identifier, by number, in the open window
 abbrev pub once : Ledger → Name → Posting
@@ -72,7 +72,7 @@ showing (Remove w) = true
 showing (RemoveAll ws) = true
 showing Flush = false
 showing Step = false
-showing (Query k ns) = false
+showing (Query k t ns) = false
 showing (Mean n) = false
 showing (Forecast plan counts) = false
 
@@ -112,9 +112,9 @@ module _ (blocks entries : ℕ) where
   books l a (RemoveAll ws) = admit (past 3 order.removals) (not (batchRule ws) ∷ []) (inTurn removalIn (record { ledger = l; account = a }) ws)
   books l a Flush = flushing blocks a (λ b. leave done (record { ledger = l; account = b }))
   books l a Step = stepping blocks a (λ b. leave done (record { ledger = l; account = b }))
-  books l a (Query k ns) =
-      admit (past 3 order.query) (any badLength ns ∷ badQuery k ns ∷ [])
-      (leave (hits (ranked (existing l) (l .count) (shown l) k ns) (takenFrom (numbersOf (l .identifiers) ns) a))
+  books l a (Query k t ns) =
+      admit (past 3 order.query) (any badLength ns ∷ badQuery k ns ∷ badStretch t ∷ [])
+      (leave (hits (ranked (existingWithin t l) (l .count) (shownWithin t l) k ns) (takenFrom (numbersOf (l .identifiers) ns) (readBy t a)))
       (record { ledger = l; account = a }))
   books l a (Mean n) =
       admit (past 3 order.mean) (badLength n ∷ eqb (frequency (l .count) (shown l) n) 0 ∷ [])

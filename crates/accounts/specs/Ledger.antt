@@ -5,6 +5,8 @@ use Prim.Native.Nat.{ℕ, suc, _-_}
 use lib.Dec.{eqb, ltb}
 use lib.ListN.{length, getD}
 use Rattle.lists.specs.Lists.{keep, any, down, same}
+use Rattle.postings.specs.declared.Stretch.{Stretch}
+use Rattle.state.specs.Shown.{within}
 use Rattle.identifiers.specs.Names.{Name, among}
 
 -- the last number given, which an open window has; the identifiers ever counted, in order of first count; the open window's events and identifiers;
@@ -31,6 +33,13 @@ shown l = down (cond (l .isOpen) (l .last - 1) (l .last))
 -- N: how many of them are live
 unfoldable pub existing : Ledger → ℕ
 existing l = length (keep (live l) (shown l))
+
+-- the windows of a stretch that show, and N there
+unfoldable pub shownWithin : Stretch → Ledger → List ℕ
+shownWithin t l = keep (within t) (shown l)
+
+unfoldable pub existingWithin : Stretch → Ledger → ℕ
+existingWithin t l = length (keep (live l) (shownWithin t l))
 
 -- the count by an identifier's number, its place in the order of first count
 abbrev pub byNumber : Ledger → ℕ → ℕ → ℕ

@@ -17,22 +17,25 @@ use Rattle.state.specs.declared.Windows.{Windows}
 use Rattle.state.specs.declared.Partition.{Partition}
 use Rattle.state.specs.Views.{listedOf, bufferOf, partitionsOf}
 use Rattle.state.specs.Levels.{ofLevel, oldest}
-use Rattle.state.specs.Shown.{shown}
+use Rattle.state.specs.Shown.{shownIn}
 use Rattle.state.specs.Rules.{windowsRule, listedRule, bufferRule, partitionsRule}
 use Rattle.identifiers.specs.Names.{Name, badLength, numberOf, numbersOf}
 use Rattle.recordings.specs.Recording.{recordingRule, recorded}
 use Rattle.forecasts.specs.Plan.{Planned, opening, counting, closing, planCalls}
 use Rattle.forecasts.specs.Course.{Gauge, follow}
-use Rattle.partitions.specs.Layout.{lengthOf}
+use Rattle.partitions.specs.Layout.{recordOf}
 use Rattle.partitions.specs.Formed.{listRule, inRange, sumsInRange}
 use Rattle.ranking.specs.Hits.{frequency, ranked}
-use Rattle.ranking.specs.Asked.{badQuery}
+use Rattle.ranking.specs.Asked.{badQuery, badStretch}
+use Rattle.stretches.specs.Reached.{whole}
+-- N of windows, by what is stored
+unfoldable pub use Rattle.census.specs.Existing.{existing}
 use Rattle.removals.specs.Removal.{ofWindow, countsOf, isLive}
 use Rattle.plans.specs.Merging.{isLast}
 use Rattle.averages.specs.Average.{total, averaged}
 use Rattle.batches.specs.Batch.{batchRule}
 use Rattle.engine.specs.Calls.{Call, Open, Event, Close, Remove, RemoveAll, Flush, Step, Query, Mean, Forecast, run}
-use Rattle.accounts.specs.Account.{Portion, Account, emptyAccount, postingsIn, storedIn, takenFrom, blocksIn, dueOf, inputsOf, overflows, exceeds, addedTo, stepping, flushing, flushingIf}
+use Rattle.accounts.specs.Account.{Portion, Account, emptyAccount, postingsIn, storedIn, takenFrom, readBy, blocksIn, dueOf, inputsOf, overflows, exceeds, addedTo, stepping, flushing, flushingIf}
 
 -- the state's window numbers; the register's identifiers, by number; the numbers of the open window's identifiers, in order of first count; the
 -- postings in buffer and partitions, with the steps of the merge in progress
@@ -54,7 +57,7 @@ isOpen e = not (eqb (e .windows .current) 0)
 
 -- a partition's record, but for its first block, of which no rule of the state says anything
 abbrev pub recordLike : Portion → Partition
-recordLike p = record { first = 0; level = p .level; length = lengthOf (p .postings) }
+recordLike p = recordOf 0 (p .level) (p .postings)
 
 -- every rule of the state that concerns what is listed here, on a card of so many blocks
 unfoldable pub listsRule : ℕ → Lists → Bool
@@ -73,11 +76,15 @@ identifierRule a i =
     every (λ (p : Portion). listRule (under i (p .postings))) (a .partitions)
     && (sumsInRange (under i (postingsIn (a .partitions))) && sumsInRange (under i (storedIn a)))
 
--- of windows to be removed: all lists
+-- all lists
 abbrev pub listsRuled : Account → Bool
 listsRuled a = every (λ (p : Portion). listRule (p .postings)) (a .partitions)
 
--- and of each its sums over the partitions and with the buffer, and no more than 64 of them
+-- of a query, and of a mean, where this is what is read: all lists, and what is read of each identifier
+abbrev pub readRule : Account → List ℕ → Bool
+readRule a is = listsRuled a && every (identifierRule a) is
+
+-- of windows to be removed all lists, and of each its sums over the partitions and with the buffer, and no more than 64 of them
 abbrev pub windowSums : Account → ℕ → Bool
 windowSums a w =
     sumsInRange (ofWindow w (postingsIn (a .partitions)))
@@ -102,8 +109,8 @@ callRule e (Remove w) = windowRule (e .account) w
 callRule e (RemoveAll ws) = listsRuled (e .account) && every (windowSums (e .account)) ws
 callRule e Flush = true
 callRule e Step = inputsRule (e .account)
-callRule e (Query k ns) = every (identifierRule (e .account)) (numbersOf (e .names) ns)
-callRule e (Mean n) = every (identifierRule (e .account)) (numbersOf (e .names) (n ∷ []))
+callRule e (Query k t ns) = readRule (readBy t (e .account)) (numbersOf (e .names) ns)
+callRule e (Mean n) = readRule (readBy whole (e .account)) (numbersOf (e .names) (n ∷ []))
 callRule e (Forecast plan counts) = true
 
 -- ---- what the calls leave
@@ -164,10 +171,10 @@ countOf a i w = above (sum (storedIn a) i w)
 
 -- F of an identifier, and the sum of its counts, in the windows that show; nothing of one without a number
 unfoldable pub frequencyOf : Lists → Name → ℕ
-frequencyOf e n = totalBy (frequency (countOf (e .account)) (shown (e .windows))) (numbersOf (e .names) (n ∷ []))
+frequencyOf e n = totalBy (frequency (countOf (readBy whole (e .account))) (shownIn whole (e .windows))) (numbersOf (e .names) (n ∷ []))
 
 unfoldable pub totalOf : Lists → Name → ℕ
-totalOf e n = totalBy (total (countOf (e .account)) (shown (e .windows))) (numbersOf (e .names) (n ∷ []))
+totalOf e n = totalBy (total (countOf (readBy whole (e .account))) (shownIn whole (e .windows))) (numbersOf (e .names) (n ∷ []))
 
 -- what a forecast reads off
 abbrev pub listsGauge : Gauge Lists
@@ -216,9 +223,13 @@ module _ (blocks entries : ℕ) where
   pursued e (RemoveAll ws) = admit (past 3 order.removals) (not (batchRule ws) ∷ []) (inTurn removalOf e ws)
   pursued e Flush = flushing blocks (e .account) (λ a. leave done (withAccount e a))
   pursued e Step = stepping blocks (e .account) (λ a. leave done (withAccount e a))
-  pursued e (Query k ns) =
-      admit (past 3 order.query) (any badLength ns ∷ badQuery k ns ∷ [])
-      (leave (hits (ranked (e .windows .live) (countOf (e .account)) (shown (e .windows)) k (numbersOf (e .names) ns)) (takenFrom (numbersOf (e .names) ns) (e .account))) e)
+  pursued e (Query k t ns) =
+      admit (past 3 order.query) (any badLength ns ∷ badQuery k ns ∷ badStretch t ∷ [])
+      (leave
+      (hits
+      (ranked (existing (storedIn (readBy t (e .account))) (shownIn t (e .windows))) (countOf (readBy t (e .account))) (shownIn t (e .windows)) k (numbersOf (e .names) ns))
+      (takenFrom (numbersOf (e .names) ns) (readBy t (e .account))))
+      e)
   pursued e (Mean n) =
       admit (past 3 order.mean) (badLength n ∷ eqb (frequencyOf e n) 0 ∷ [])
       (leave (averaged (frequencyOf e n) (totalOf e n)) e)

@@ -5,14 +5,14 @@ use Prim.Native.Nat.{ℕ, _≤_}
 use lib.ListN.{getD}
 use native.Mathlib.Omega.{arith}
 use Rattle.answers.specs.declared.Refusal.{Refusal}
-use Rattle.answers.specs.declared.Refusal.the-variants.{BrokenState, WrongLength, Malformed, BadIdentifier, OutOfTurn, Exhausted, NotLive, RegisterFull, WindowFull, LevelFull, HalfFull, TooFewFree, NothingDue, BadQuery, Uncounted, BadList}
+use Rattle.answers.specs.declared.Refusal.the-variants.{BrokenState, WrongLength, Malformed, BadIdentifier, OutOfTurn, Exhausted, NotLive, RegisterFull, WindowFull, LevelFull, HalfFull, TooFewFree, NothingDue, BadQuery, Uncounted, BadList, BadStretch}
 use Rattle.answers.specs.Numbers.{refusalNumber}
 
 -- the refusal with a number; none has 0
 abbrev pub refusalOf : ℕ → Refusal
 refusalOf n =
     getD
-    (BrokenState ∷ BrokenState ∷ WrongLength ∷ Malformed ∷ BadIdentifier ∷ OutOfTurn ∷ Exhausted ∷ NotLive ∷ RegisterFull ∷ WindowFull ∷ LevelFull ∷ HalfFull ∷ TooFewFree ∷ NothingDue ∷ BadQuery ∷ Uncounted ∷ BadList ∷ []) n BrokenState
+    (BrokenState ∷ BrokenState ∷ WrongLength ∷ Malformed ∷ BadIdentifier ∷ OutOfTurn ∷ Exhausted ∷ NotLive ∷ RegisterFull ∷ WindowFull ∷ LevelFull ∷ HalfFull ∷ TooFewFree ∷ NothingDue ∷ BadQuery ∷ Uncounted ∷ BadList ∷ BadStretch ∷ []) n BrokenState
 
 pub refusal-back : (why : Refusal) → refusalOf (refusalNumber why) ≡ why
 refusal-back BrokenState = refl
@@ -31,9 +31,10 @@ refusal-back NothingDue = refl
 refusal-back BadQuery = refl
 refusal-back Uncounted = refl
 refusal-back BadList = refl
+refusal-back BadStretch = refl
 
--- the numbers lie between 1 and 16
-pub number-within : (why : Refusal) → (1 ≤ refusalNumber why) × (refusalNumber why ≤ 16)
+-- the numbers lie between 1 and 17
+pub number-within : (why : Refusal) → (1 ≤ refusalNumber why) × (refusalNumber why ≤ 17)
 number-within BrokenState = (omega arith, omega arith)
 number-within WrongLength = (omega arith, omega arith)
 number-within Malformed = (omega arith, omega arith)
@@ -50,3 +51,4 @@ number-within NothingDue = (omega arith, omega arith)
 number-within BadQuery = (omega arith, omega arith)
 number-within Uncounted = (omega arith, omega arith)
 number-within BadList = (omega arith, omega arith)
+number-within BadStretch = (omega arith, omega arith)

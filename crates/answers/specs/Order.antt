@@ -28,7 +28,7 @@ abbrev pub step : List ℕ
 step = 1 ∷ 2 ∷ 3 ∷ []
 
 abbrev pub query : List ℕ
-query = 1 ∷ 2 ∷ 3 ∷ 4 ∷ 14 ∷ []
+query = 1 ∷ 2 ∷ 3 ∷ 4 ∷ 14 ∷ 17 ∷ []
 
 abbrev pub mean : List ℕ
 mean = 1 ∷ 2 ∷ 3 ∷ 4 ∷ 15 ∷ []

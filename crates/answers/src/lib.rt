@@ -20,6 +20,7 @@ pub enum Refusal {
     BadQuery,
     Uncounted,
     BadList,
+    BadStretch,
 }
 
 // The answer of a call that gives no value.
@@ -85,5 +86,6 @@ pub fn number_of(why: Refusal) -> u32
         Refusal::BadQuery => 14,
         Refusal::Uncounted => 15,
         Refusal::BadList => 16,
+        Refusal::BadStretch => 17,
     }
 }

@@ -16,13 +16,13 @@ use Rattle.card.specs.Chains.{blocksFor}
 use Rattle.blocks.proofs.FreeBlocks.{free-count, store-other, written-taken}
 use Rattle.partitions.specs.Layout.{lengthOf, encode}
 use Rattle.partitions.specs.Reading.{postingsOf, inPartitions, stored}
-use Rattle.partitions.specs.Formed.{partitionsFormed, listRule, Writable}
+use Rattle.partitions.specs.Formed.{partitionsFormed, listsRule, Writable}
 use Rattle.partitions.proofs.Lengths.{length-buffer, one-block}
-use Rattle.partitions.proofs.Kept.{AgreeAll, postings-kept}
+use Rattle.partitions.proofs.Kept.{AgreeAll, lists-kept}
 use Rattle.flushes.specs.Flush.{finishedBlocks, flushedTo, flushedCard}
 use Rattle.flushes.specs.Targets.{Chosen}
 use Rattle.flushes.proofs.Rooms.{room-left, chosen-there, chosen-free}
-use Rattle.flushes.proofs.Flushed.{buffer-writable, flushRecord, flushCard, flush-postings, flush-keeps, flush-formed, flush-stored}
+use Rattle.flushes.proofs.Flushed.{buffer-writable, writable-span, flushRecord, flushCard, flush-lists, flush-keeps, flush-formed, flush-stored}
 use Rattle.sums.specs.Tally.{listsRuled}
 
 -- a partition of level 0 may stand last
@@ -45,10 +45,10 @@ due-more l m e = go levels e
         (λ n. by-test (leb (dueAt v) (ofLevel (λ (q : Partition). q .level) v (l ++ m))) (λ y. rw y) (λ z. rw z (go vs (rw n at f))))
 
 -- lists on cards that agree on their blocks keep the rule alike
-rules-kept : (W′ W : List ℕ) (l : List Partition) → AgreeAll W′ W l → every (λ p. listRule (postingsOf W′ p)) l ≡ every (λ p. listRule (postingsOf W p)) l
+rules-kept : (W′ W : List ℕ) (l : List Partition) → AgreeAll W′ W l → every (listsRule W′) l ≡ every (listsRule W) l
 unfolding AllOf
 rules-kept W′ W [] g = refl
-rules-kept W′ W (q ∷ l) g = ap₂ _&&_ (ap listRule (postings-kept W′ W q (g .0))) (rules-kept W′ W l (g .1))
+rules-kept W′ W (q ∷ l) g = ap₂ _&&_ (lists-kept W′ W q (g .0)) (rules-kept W′ W l (g .1))
 
 module _ (s : State) (W : List ℕ) (rule : stateRule s ≡ true) (long : length W ≡ 1024 * blocks s) (len : length (s .buffer .postings) ≡ 128) (k : ℕ) (c : Chosen s W k) where
   abbrev ps : List Posting
@@ -95,7 +95,7 @@ module _ (s : State) (W : List ℕ) (rule : stateRule s ≡ true) (long : length
         listed = a .listed;
         buffer = buffer-rule (s .windows) [] (omega arith) refl refl;
         partitions = partitions-rule (blocks s) (qs ++ (r ∷ [])) (omega (arith, room-left (blocks s) (s .partitions) p (c .room), length-append qs (r ∷ [])))
-            (every-append (recordRule (blocks s)) qs (r ∷ []) ∙ and-both (every (recordRule (blocks s)) qs) _ (p .rules) (and-both (recordRule (blocks s) r) true (record-rule (blocks s) r (record { level = omega arith; length = one })) refl))
+            (every-append (recordRule (blocks s)) qs (r ∷ []) ∙ and-both (every (recordRule (blocks s)) qs) _ (p .rules) (and-both (recordRule (blocks s) r) true (record-rule (blocks s) r (record { level = omega arith; length = one; some = writable-span ps writable .0; span = writable-span ps writable .1 })) refl))
             (rise-last qs r refl (p .fall))
             (added-limits (λ (q : Partition). q .level) qs r refl (c .room) (p .limits));
         taken = on;
@@ -134,8 +134,8 @@ module _ (s : State) (W : List ℕ) (rule : stateRule s ≡ true) (long : length
     pub lists-flushed : listsRuled W s ≡ true → listsRuled (flushedCard s W k) (flushedTo s k) ≡ true
     unfolding flushedCard
     lists-flushed e =
-        rw (finished-flushed, every-append (λ p. listRule (postingsOf (flushCard W k ps) p)) qs (r ∷ []), flush-postings W (blocks s) k ps long on few writable, writable .formed)
-        (and-both (every (λ p. listRule (postingsOf (flushCard W k ps) p)) qs) true (rules-kept (flushCard W k ps) W qs (flush-keeps W (blocks s) k ps long on few writable qs most free formed) ∙ e) refl)
+        rw (finished-flushed, every-append (listsRule (flushCard W k ps)) qs (r ∷ []), flush-lists W (blocks s) k ps long on few writable)
+        (and-both (every (listsRule (flushCard W k ps)) qs) true (rules-kept (flushCard W k ps) W qs (flush-keeps W (blocks s) k ps long on few writable qs most free formed) ∙ e) refl)
 
     -- what was in partitions and buffer is in partitions
     pub inside-flushed : inPartitions (flushedCard s W k) (finished (flushedTo s k .partitions)) ≡ stored W s

@@ -15,7 +15,8 @@ use Rattle.state.proofs.Rows.{held}
 use Rattle.state.proofs.Forms.{buffer-rule}
 use Rattle.state.proofs.Kept.{Shut, Opened, rules-of, state-rule, state-kept, windows-rule, posting-kept, posting-rule}
 use Rattle.partitions.specs.Reading.{postingsOf, inPartitions, stored}
-use Rattle.partitions.specs.Formed.{listRule, inRange, sumsInRange}
+use Rattle.partitions.specs.Formed.{listRule, listsRule, inRange, sumsInRange}
+use Rattle.flushes.proofs.Flushed.{list-windows}
 use Rattle.scans.specs.Keys.{isKeyed}
 use Rattle.sums.specs.Tally.{ofWindow, countsOf, listsRuled, windowFormed}
 use Rattle.sums.proofs.Windowed.{window-sum, window-fits, counts-ordered, counts-some, counts-own, counts-other, counts-pass}
@@ -36,12 +37,10 @@ sum-in (p ∷ l) o i v n =
     rw (y, z, +ℤ-idr (p .count), ← a, ← b) (List·Memᴰ·head refl))
     (λ f. rw (f, +ℤ-idl (sum l i v)) (List·Memᴰ·tail (sum-in l (and-right (every (precedes p) l) _ o) i v (rw (f, +ℤ-idl (sum l i v)) at n))))
 
--- a list that may be used has no window 0
-list-windows : (l : List Posting) → listRule l ≡ true → every (λ q. leb 1 (q .window)) l ≡ true
-unfolding listRule
-list-windows l e =
-    let f = and-right (ordered l) _ e in
-    every-from (λ q. leb 1 (q .window) && not (isZero (q .count))) (λ q. leb 1 (q .window) && not (isZero (q .count))) (λ q. leb 1 (q .window)) (λ q a b. and-left (leb 1 (q .window)) _ a) l f f
+-- all lists of a partition may be used, where they keep their rule
+list-alone : (W : List ℕ) (p : Partition) → listsRule W p ≡ true → listRule (postingsOf W p) ≡ true
+unfolding listsRule
+list-alone W p e = and-left (listRule (postingsOf W p)) _ e
 
 -- windows with the same sums
 module _ (v : ℕ) (l m : List Posting) (same : (i : ℕ) → sum l i v ≡ sum m i v) where
@@ -113,11 +112,11 @@ module _ (s : State) (W : List ℕ) (rule : stateRule s ≡ true) (lists : lists
       ∙ and-both (every (λ p. leb 1 (p .window)) parts) _ (each (finished (s .partitions)) lists)
       (every-from (postingRule (s .windows)) (postingRule (s .windows)) (λ p. leb 1 (p .window)) (λ p e f. le-leb _ _ (posting-kept (s .windows) p e .some)) old (state-kept s rule .buffer .rules) (state-kept s rule .buffer .rules))
     where
-      each : (l : List Partition) → every (λ p. listRule (postingsOf W p)) l ≡ true → every (λ p. leb 1 (p .window)) (joined (map (postingsOf W) l)) ≡ true
+      each : (l : List Partition) → every (listsRule W) l ≡ true → every (λ p. leb 1 (p .window)) (joined (map (postingsOf W) l)) ≡ true
       each [] e = refl
       each (p ∷ l) e =
           every-append (λ q. leb 1 (q .window)) (postingsOf W p) (joined (map (postingsOf W) l))
-          ∙ and-both (every (λ q. leb 1 (q .window)) (postingsOf W p)) _ (list-windows (postingsOf W p) (and-left (listRule (postingsOf W p)) _ e)) (each l (and-right (listRule (postingsOf W p)) _ e))
+          ∙ and-both (every (λ q. leb 1 (q .window)) (postingsOf W p)) _ (list-windows (postingsOf W p) (list-alone W p (and-left (listsRule W p) _ e))) (each l (and-right (listsRule W p) _ e))
 
   counts-proper : every proper cs ≡ true
   counts-proper =

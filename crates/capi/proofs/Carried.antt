@@ -57,7 +57,7 @@ module _ (image : List ℕ) {good : Bool} (rule : good ≡ imageRule image) (lef
   pub is-image : imageRule image ≡ true
   is-image = sym rule ∙ not-false good left
 
-  pub image-long : length image ≡ 2456
+  pub image-long : length image ≡ 2864
   image-long = image-length image is-image
 
   -- of the state read, a call promises the answer a and the state t; it is told as a', and the image is put back
@@ -98,12 +98,12 @@ module _ (image : List ℕ) {good : Bool} (rule : good ≡ imageRule image) (lef
 -- Start --------------------------------------------------------------------------------------------------------------
 
 -- there is no room for an image
-pub start-short : (l : Lent) → eqb (length (l .image)) 2456 ≡ false → Gives (unstartedOn l) (startOn l) (refused 1) l
+pub start-short : (l : Lent) → eqb (length (l .image)) 2864 ≡ false → Gives (unstartedOn l) (startOn l) (refused 1) l
 unfolding startOn refuseIf
 start-short l e = rw e (record { answer = refl; left = refl })
 
 -- the image is written whatever the answer is
-pub on-start : (image card register : List ℕ) → eqb (length image) 2456 ≡ true → (a : Answer) (t : State) (card' register' : List ℕ)
+pub on-start : (image card register : List ℕ) → eqb (length image) 2864 ≡ true → (a : Answer) (t : State) (card' register' : List ℕ)
     → Gives (unstarted card register) (startOf card register) a (probeOf t card' register')
     → Gives (unstartedOn (lentOf image card register)) (startOn (lentOf image card register)) a (lentOf (imaged t) card' register')
 unfolding startOn imagedProbe refuseIf

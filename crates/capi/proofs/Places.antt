@@ -3,17 +3,18 @@ use Rattle.lists.proofs.Prelude.{Bool, true, false, List, [], _∷_, _++_, map,
 use Rattle.lists.proofs.Stores.{joined-append}
 use Rattle.words.specs.Words.{words, bytes, Below}
 use Rattle.words.proofs.Views.{apart, length-words, words-drop}
+use Rattle.postings.specs.declared.Stretch.{Stretch}
 use Rattle.answers.specs.declared.Hit.{Hit}
 use Rattle.answers.specs.declared.Found.{Found}
 use Rattle.answers.specs.declared.Found.the-variants as found
-use Rattle.answers.specs.Answers.{Outcome, refuseIf, carry}
+use Rattle.answers.specs.Answers.{Answer, Outcome, refuseIf, carry}
 use Rattle.answers.specs.Numbers.{foundAs}
 use Rattle.state.specs.Probe.{Probe}
 use Rattle.identifiers.specs.Names.{Name}
 use Rattle.ranking.specs.declared.Top.{Top}
 use Rattle.queries.specs.Query.{fill, queryOf}
 use Rattle.ranking.specs.Top.{listedHits}
-use Rattle.queries.specs.Finds.{Finds}
+use Rattle.queries.specs.Finds.{answered, Finds}
 use Rattle.queries.proofs.Outcomes.{found-filled}
 use Rattle.numbers.specs.Images.{numberFor, numberFound}
 use Rattle.capi.specs.Queries.{hitWords, hitsIn, hitBytes, Tells}
@@ -147,9 +148,9 @@ pub places-of : (b : List ℕ) → length (hitsIn (words b)) ≡ length b / 8
 places-of b = omega (arith, length-hits (words b), length-words b)
 
 -- the number of an answer of the code is that of the answer it stands for
-number-found : (p : Probe) (ns : List Name) (k : ℕ) (a : Found) (t : Top) → length (t .hits) ≡ 32 → Finds p ns k a t → numberFound a ≡ numberFor (foundAs a (t .hits))
-number-found p ns k (found.Refused why) t long v = refl
-number-found p ns k (found.Hits n taken) t long v =
+number-found : (x : Answer) (k : ℕ) (a : Found) (t : Top) → length (t .hits) ≡ 32 → Finds x k a t → numberFound a ≡ numberFor (foundAs a (t .hits))
+number-found x k (found.Refused why) t long v = refl
+number-found x k (found.Hits n taken) t long v =
     let e : length (take n (t .hits)) ≡ n = length-take-le n (t .hits) (omega (arith, v .used n taken refl, v .most)) in
     rw e
 
@@ -163,13 +164,13 @@ unfolding refuseIf
 tells-passed s t n o r after e g = rw e g
 
 -- a search promises the exported query
-pub on-query : (p : Probe) (ns : List Name) (b : List ℕ) → Below 256 b → (a : Found) (t : Top) → length (t .hits) ≡ 32 → Finds p ns (length b / 8) a t
-    → Tells b (carry (hitBytes b) (queryOf p ns (hitsIn (words b)))) (numberFound a) (hitBytes b (listedHits t))
-on-query p ns b h a t long v =
+pub on-query : (p : Probe) (st : Stretch) (ns : List Name) (b : List ℕ) → Below 256 b → (a : Found) (t : Top) → length (t .hits) ≡ 32 → Finds (answered p st ns (length b / 8)) (length b / 8) a t
+    → Tells b (carry (hitBytes b) (queryOf p st ns (hitsIn (words b)))) (numberFound a) (hitBytes b (listedHits t))
+on-query p st ns b h a t long v =
     let places = hitsIn (words b) in
-    let w : Finds p ns (length places) a t = rw (places-of b) v in
-    let f = found-filled p ns places a t w in
+    let w : Finds (answered p st ns (length places)) (length places) a t = rw (places-of b) v in
+    let f = found-filled p st ns places a t w in
     let l : length (listedHits t) ≡ t .used = length-take-le (t .used) (t .hits) (omega (arith, v .most)) in
     let same = filled-bytes b h (listedHits t) (omega (arith, v .fits)) in
-    let g = carried (hitBytes b) places b (hits-back b h) (queryOf p ns places) (foundAs a (t .hits)) (fill (listedHits t) places) (record { answer = f .0; left = f .1 }) in
-    record { number = number-found p ns (length b / 8) a t long v ∙ ap numberFor (g .answer); left = sym same ∙ g .left }
+    let g = carried (hitBytes b) places b (hits-back b h) (queryOf p st ns places) (foundAs a (t .hits)) (fill (listedHits t) places) (record { answer = f .0; left = f .1 }) in
+    record { number = number-found _ (length b / 8) a t long v ∙ ap numberFor (g .answer); left = sym same ∙ g .left }

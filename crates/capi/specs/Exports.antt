@@ -44,11 +44,11 @@ imagedProbe p = record { image = imaged (p .state); card = p .card; register = p
 -- ---- calls; bytes that are no image are no state, so that refusal 1 comes first
 
 unfoldable pub startOn : Lent → Outcome Lent
-startOn l = refuseIf (not (eqb (length (l .image)) 2456)) 1 (carry imagedProbe (startOf (l .card) (l .register)))
+startOn l = refuseIf (not (eqb (length (l .image)) 2864)) 1 (carry imagedProbe (startOf (l .card) (l .register)))
 
 -- what a start that is refused leaves: the image of a state of zeros, unless there was no room for it
 abbrev pub unstartedOn : Lent → Lent
-unstartedOn l = cond (eqb (length (l .image)) 2456) (imagedProbe (unstarted (l .card) (l .register))) l
+unstartedOn l = cond (eqb (length (l .image)) 2864) (imagedProbe (unstarted (l .card) (l .register))) l
 
 unfoldable pub openOn : List ℕ → Outcome (List ℕ)
 openOn image = refuseIf (not (imageRule image)) 1 (carry imaged (openOf (stateOn image)))

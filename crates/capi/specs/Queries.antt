@@ -6,6 +6,7 @@ use Prim.Native.Nat.{ℕ, _*_}
 use lib.ListN.{length, drop}
 use Rattle.lists.specs.Lists.{joined}
 use Rattle.words.specs.Words.{words, bytes}
+use Rattle.postings.specs.declared.Stretch.{Stretch}
 use Rattle.answers.specs.Answers.{Outcome, answerOf, stateOf, refuseIf, carry}
 use Rattle.answers.specs.declared.Hit.{Hit}
 use Rattle.identifiers.specs.Names.{Name}
@@ -37,10 +38,10 @@ pub record Tells {S : Type 0} (s : S) (o : Outcome S) (n : ℕ) (after : S) : Ty
   pub left : after ≡ stateOf s o
 
 -- as many places as there are whole ones
-unfoldable pub queryOn : Lent → List Name → List ℕ → Outcome (List ℕ)
-queryOn l ns lent =
+unfoldable pub queryOn : Lent → Stretch → List Name → List ℕ → Outcome (List ℕ)
+queryOn l t ns lent =
     refuseIf (not (imageRule (l .image))) 1
-    (carry (hitBytes lent) (queryOf (probeOf (stateOn (l .image)) (l .card) (l .register)) ns (hitsIn (words lent))))
+    (carry (hitBytes lent) (queryOf (probeOf (stateOn (l .image)) (l .card) (l .register)) t ns (hitsIn (words lent))))
 
 unfoldable pub meanOn : Lent → Name → Outcome (Unit {0})
 meanOn l n = refuseIf (not (imageRule (l .image))) 1 (meanOf (probeOf (stateOn (l .image)) (l .card) (l .register)) n)

@@ -4,6 +4,7 @@ use answers::Forecast;
 use answers::Found;
 use answers::Opened;
 use answers::Reply;
+use postings::Stretch;
 use ranking::Top;
 use windows::Opening;
 use windows::Replied;
@@ -134,23 +135,29 @@ fn put_hits(hits: &mut [u8], t: Top)
     }
 }
 
-// The windows that match best, in the lent bytes. A refusal's number, or 256 times how many there are and 65,536 times the postings taken.
+// The windows from `first` to `last` that match best, in the lent bytes. A refusal's number, or 256 times how many there are and 65,536 times the postings taken.
 #[no_mangle]
 pub extern "C" fn gemsilver_query(
     image: &[u8],
     card: &[u8],
     register: &[u8],
     ids: &[&[u8]],
+    first: u16,
+    last: u16,
     hits: &mut [u8],
 ) -> u64
-    ensures { λ r. ⌜ Tells (now (hits .entry)) (queryOn (lentOf (now (image .entry)) (now (card .entry)) (now (register .entry))) (map now (now (ids .entry))) (now (hits .entry)))
+    ensures { λ r. ⌜ Tells (now (hits .entry)) (queryOn (lentOf (now (image .entry)) (now (card .entry)) (now (register .entry))) (record { first = first; last = last }) (map now (now (ids .entry))) (now (hits .entry)))
         r (now (hits .exit)) ⌝ }
 {
     if !images::image_ok(image) {
         return 1;
     }
     let s = images::read_state(image);
-    let r = queries::search(s, card, register, ids, hits.len() / 8);
+    let t = Stretch {
+        first: first,
+        last: last,
+    };
+    let r = queries::search(s, card, register, ids, t, hits.len() / 8);
     put_hits(hits, r.top);
     let answer = r.answer;
     numbers::found_number(answer)

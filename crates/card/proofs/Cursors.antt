@@ -1,5 +1,5 @@
 -- Laws of a cursor: what is ahead of it is its head and what is ahead of the moved cursor.
-use Rattle.lists.proofs.Prelude.{List, _∷_, _≡_, refl, ap, ℕ, zero, suc, _-_, _<_, arith, eqb, length, lt-ltb, eq-eqb, by-test}
+use Rattle.lists.proofs.Prelude.{_&&_, List, _∷_, _≡_, refl, ap, ℕ, zero, suc, _-_, _<_, arith, eqb, ltb, length, lt-ltb, eq-eqb, by-test}
 use Rattle.card.specs.declared.Cursor.{Cursor}
 use Rattle.card.specs.Blocks.{link}
 use Rattle.card.specs.Cursors.{wordIn, InCard, nextBlock, nextWord, aheadAt, ahead, goodAt, Good, headOf, movedOf}
@@ -63,3 +63,10 @@ module _ (W : List ℕ) where
   -- the link that a cursor follows names a block of the card
   pub link-in : (c : Cursor) → 1 < c .left → Good W c → c .word ≡ 1022 → InCard W (link W (c .block))
   link-in c h g e = link-at (c .block) (c .word) (c .left) h g e
+
+-- a cursor that moves has less to come
+pub moved-less : (W : List ℕ) (c : Cursor) → 0 < c .left → movedOf W c .left < c .left
+moved-less W c h =
+    by-test (eqb (c .word) 1022 && ltb 1 (c .left))
+    (λ y. rw y (omega arith))
+    (λ y. rw y (omega arith))

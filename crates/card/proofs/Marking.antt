@@ -1,9 +1,9 @@
 -- Marks bit by bit: setting one bit of one word marks one block more.
-use Rattle.lists.proofs.Prelude.{Bool, false, _&&_, _||_, List, _++_, _≡_, refl, sym, ap, _∙_, ℕ, zero, suc, _+_, _-_, _*_, _/_, _%_, _^_, _<_, _≤_, arith, eqb, ltb, lit≤, length, getD, set, replicate, getD-set-same, getD-set-other, eqb-true, eqb-false, eq-eqb, ne-eqb, ltb-true, ltb-false, elem, different, by-test, apart-append, apart-none, getD-same}
+use Rattle.lists.proofs.Prelude.{false, _&&_, _||_, List, _++_, _≡_, refl, sym, ap, ap₂, _∙_, ℕ, zero, suc, _+_, _-_, _*_, _/_, _%_, _^_, _<_, _≤_, arith, eqb, ltb, lit≤, length, getD, set, replicate, getD-set-same, getD-set-other, eqb-true, eqb-false, eq-eqb, ne-eqb, ltb-true, ltb-false, elem, different, by-test, apart-append, apart-none, getD-same, div-add-mod'}
 use lib.Bits.{bitOr, or-shr, or-mod, or-zero-r, shifted-even}
 use lib.Pow.{pow-add, pow-lt, shl-shr, shl-exact, shr-lt, shr-le}
 use Rattle.card.specs.declared.Marks.{Marks}
-use Rattle.card.specs.Marks.{marked, unmarked}
+use Rattle.card.specs.Marks.{bitOf, marked, unmarked}
 
 -- bit j of 2 ^ s
 power-same : (s : ℕ) → 2 ^ s / 2 ^ s % 2 ≡ 1
@@ -39,33 +39,31 @@ bit-set w s j =
     (λ y. let o : 2 ^ s / 2 ^ j % 2 ≡ 0 = power-other s j (eqb-false s j y) in
     rw (y, e, o, or-zero-r (w / 2 ^ j % 2)))
 
--- bit k of a list of words of 64 bits
-abbrev pub bitOf : List ℕ → ℕ → Bool
-bitOf l k = eqb (getD l (k / 64) 0 / 2 ^ (k % 64) % 2) 1
+-- bit b set in numbers of d bits each
+pub bits-set : (d : ℕ) (l : List ℕ) (b k : ℕ) → b / d < length l
+    → bitOf d (set l (b / d) (bitOr (getD l (b / d) 0) (2 ^ (b % d)))) k ≡ (eqb b k || bitOf d l k)
+bits-set d l b k h =
+    by-test (eqb (b / d) (k / d))
+    (λ y. let q : b / d ≡ k / d = eqb-true _ _ y in
+    let s : eqb (b % d) (k % d) ≡ eqb b k =
+    by-test (eqb b k) (λ t. let u = eqb-true b k t in rw t (eq-eqb (b % d) (k % d) (ap (λ (x : ℕ). x % d) u)))
+    (λ t. let u : b ≡ k → ⊥ = eqb-false b k t in rw t (ne-eqb (b % d) (k % d) (λ v. u (sym (div-add-mod' b d) ∙ ap₂ (λ (x y : ℕ). x * d + y) q v ∙ div-add-mod' k d)))) in
+    let g : k / d < length l = rw q at h in
+    rw (q, getD-set-same l (k / d) (bitOr (getD l (k / d) 0) (2 ^ (b % d))) 0 g, bit-set (getD l (k / d) 0) (b % d) (k % d), s))
+    (λ y. let q : b / d ≡ k / d → ⊥ = eqb-false _ _ y in
+    rw (getD-set-other l (b / d) (k / d) (bitOr (getD l (b / d) 0) (2 ^ (b % d))) 0 (λ e. q (sym e)), ne-eqb b k (λ e. q (ap (λ (x : ℕ). x / d) e))))
 
--- bit b set in such a list
-pub bits-set : (l : List ℕ) (b k : ℕ) → b / 64 < length l
-    → bitOf (set l (b / 64) (bitOr (getD l (b / 64) 0) (2 ^ (b % 64)))) k ≡ (eqb b k || bitOf l k)
-bits-set l b k h =
-    by-test (eqb (b / 64) (k / 64))
-    (λ y. let q : b / 64 ≡ k / 64 = eqb-true _ _ y in
-    let s : eqb (b % 64) (k % 64) ≡ eqb b k =
-    by-test (eqb b k) (λ t. let u = eqb-true b k t in rw t (eq-eqb (b % 64) (k % 64) (ap (λ (x : ℕ). x % 64) u)))
-    (λ t. let u : b ≡ k → ⊥ = eqb-false b k t in rw t (ne-eqb (b % 64) (k % 64) (λ v. u (omega arith)))) in
-    let g : k / 64 < length l = omega arith in
-    rw (q, getD-set-same l (k / 64) (bitOr (getD l (k / 64) 0) (2 ^ (b % 64))) 0 g, bit-set (getD l (k / 64) 0) (b % 64) (k % 64), s))
-    (λ y. let q : b / 64 ≡ k / 64 → ⊥ = eqb-false _ _ y in
-    rw (getD-set-other l (b / 64) (k / 64) (bitOr (getD l (b / 64) 0) (2 ^ (b % 64))) 0 (λ e. q (sym e)), ne-eqb b k (λ e. q (ap (λ (x : ℕ). x / 64) e))))
+-- a zero has no bit
+pub bit-none : (j : ℕ) → eqb (0 / 2 ^ j % 2) 1 ≡ false
+bit-none j = let z : 0 / 2 ^ j ≡ 0 = omega (arith, shr-le 0 j) in rw z
 
 -- no bit is set in words of zero
-pub bits-none : (n k : ℕ) → bitOf (replicate n 0) k ≡ false
-bits-none n k =
-    let z : 0 / 2 ^ (k % 64) ≡ 0 = omega (arith, shr-le 0 (k % 64)) in
-    rw (getD-same {A = ℕ} n (k / 64) 0, z)
+pub bits-none : (d n k : ℕ) → bitOf d (replicate n 0) k ≡ false
+bits-none d n k = rw (getD-same {A = ℕ} n (k / d) 0) (bit-none (k % d))
 
--- a one shifted up in a word of 64 bits
-pub one-at : (s : ℕ) → s < 64 → 1 * 2 ^ s % 2 ^ 64 ≡ 2 ^ s
-one-at s h = let e : 1 * 2 ^ s ≡ 2 ^ s = omega arith in shl-exact 1 s 64 (lit≤ tt) (omega arith) ∙ e
+-- a one shifted up in a number of d bits
+pub one-at : (s d : ℕ) → s < d → 1 * 2 ^ s % 2 ^ d ≡ 2 ^ s
+one-at s d h = let e : 1 * 2 ^ s ≡ 2 ^ s = omega arith in shl-exact 1 s d (lit≤ tt) (omega arith) ∙ e
 
 -- marks handed on from list to list: r has the marks of m and those of l, after which k comes
 pub unmarked-append : (m r : Marks) (l k : List ℕ) → ((b : ℕ) → marked r b ≡ (marked m b || elem b l)) → unmarked m (l ++ k) ≡ (unmarked m l && unmarked r k)

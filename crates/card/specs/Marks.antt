@@ -7,9 +7,13 @@ use lib.ListN.{getD}
 use Rattle.lists.specs.Lists.{every, different}
 use Rattle.card.specs.declared.Marks.{Marks}
 
--- is block b marked: bit b % 64 of word b / 64
+-- bit k of numbers of d bits each: bit k % d of number k / d
+abbrev pub bitOf : ℕ → List ℕ → ℕ → Bool
+bitOf d l k = eqb (getD l (k / d) 0 / 2 ^ (k % d) % 2) 1
+
+-- is block b marked
 unfoldable pub marked : Marks → ℕ → Bool
-marked m b = eqb (getD (m .bits) (b / 64) 0 / 2 ^ (b % 64) % 2) 1
+marked m b = bitOf 64 (m .bits) b
 
 -- is no block marked, and none in the list twice
 abbrev pub unmarked : Marks → List ℕ → Bool

@@ -8,6 +8,7 @@ use lib.Dec.{eqb}
 use lib.ListN.{length, getD, drop}
 use Rattle.identifiers.specs.Names.{Name}
 use Rattle.answers.specs.Calls.{Call, Open, Event, Close, Remove, Flush, Step, Query}
+use Rattle.stretches.specs.Reached.{whole}
 use Rattle.texts.specs.Fields.{partsOf, numberIn}
 use Rattle.commands.specs.declared.Change.{Change}
 use Rattle.commands.specs.declared.Change.the-variants as change
@@ -36,10 +37,10 @@ removeIn [] = none
 removeIn (f ∷ []) = removeBy (numberIn f)
 removeIn (f ∷ g ∷ fs) = none
 
--- a query with so many places, if that is a number
+-- a query of all windows with so many places, if that is a number
 unfoldable pub queryBy : Option ℕ → List Name → Option Call
 queryBy none ids = none
-queryBy (some k) ids = some (Query k ids)
+queryBy (some k) ids = some (Query k whole ids)
 
 -- a query has its number of places, and none or more identifiers
 unfoldable pub queryIn : List Name → Option Call
@@ -79,7 +80,7 @@ changing change.Step fs = Step
 abbrev pub meant : Order → List Name → Option Call
 meant order.Open fs = some Open
 meant (order.Change k) fs = some (changing k fs)
-meant (order.Query k) fs = some (Query k (drop 2 fs))
+meant (order.Query k) fs = some (Query k whole (drop 2 fs))
 meant order.Unknown fs = none
 
 -- how many fields an order needs

@@ -26,8 +26,8 @@ use Rattle.plans.specs.Step.{inProgress, outputChain, outputRule}
 use Rattle.accounts.specs.Account.{Portion, dueOf, inputsOf, flushedAccount}
 use Rattle.accounts.specs.Lists.{Lists, withAccount}
 use Rattle.accounts.proofs.Steps.{Progress, progress-due, inputs-flushed}
-use Rattle.decoded.specs.Portions.{portionOn, outputOf, occupied, cleanPast}
-use Rattle.decoded.proofs.Holds.{Holds, taking-is, buffer-is}
+use Rattle.decoded.specs.Portions.{portionOn, outputOf, occupied, cleanPast, tells}
+use Rattle.decoded.proofs.Holds.{Holds, taking-is, buffer-is, tells-own}
 use Rattle.decoded.proofs.Past.{past-agree, past-written}
 use Rattle.decoded.proofs.Unused.{output-kept, chains-once}
 
@@ -107,10 +107,10 @@ module _ (s : State) (W : List ℕ) (e : Lists) (h : Holds s W e) (b : ℕ) (on 
   portions-kept [] g = refl
   portions-kept (q ∷ l) g = ap₂ _∷_ (ap (λ ps. record { level = q .level; postings = ps }) (postings-kept W′ W q (g .0))) (portions-kept l (g .1))
 
-  sizes-kept : (l : List Partition) → AgreeAll W′ W l → every (λ p. eqb (p .length) (lengthOf (postingsOf W′ p))) l ≡ every (λ p. eqb (p .length) (lengthOf (postingsOf W p))) l
+  sizes-kept : (l : List Partition) → AgreeAll W′ W l → every (λ p. tells p (postingsOf W′ p)) l ≡ every (λ p. tells p (postingsOf W p)) l
   unfolding AllOf
   sizes-kept [] g = refl
-  sizes-kept (q ∷ l) g = ap₂ _&&_ (ap (λ ps. eqb (q .length) (lengthOf ps)) (postings-kept W′ W q (g .0))) (sizes-kept l (g .1))
+  sizes-kept (q ∷ l) g = ap₂ _&&_ (ap (λ ps. tells q ps) (postings-kept W′ W q (g .0))) (sizes-kept l (g .1))
 
   written : postingsOf W′ r ≡ held-there
   written = flush-postings W (blocks s) b held-there (h .long) on few fine
@@ -261,7 +261,7 @@ module _ (s : State) (W : List ℕ) (e : Lists) (h : Holds s W e) (b : ℕ) (on 
     idle = λ z. merge-after ∙ h .idle (ap (λ (m : MergeJob). m .steps) (sym merge-after) ∙ z);
     portions = portions-after;
     sizes = ap (every sized) parts-after ∙ every-append sized qs (r ∷ [])
-        ∙ and-both (every sized qs) _ (sizes-kept qs keeps ∙ h .sizes) (ap (λ t. t && true) (eq-eqb (lengthOf held-there) (lengthOf (postingsOf W′ r)) (ap lengthOf (sym written))));
+        ∙ and-both (every sized qs) _ (sizes-kept qs keeps ∙ h .sizes) (ap (λ t. t && true) (tells-own (b ∷ []) 0 held-there _ (sym written)));
     formed = ap₂ (λ (n : ℕ) (l : List Partition). partitionsFormed W′ n l) blocks-after parts-after
         ∙ flush-formed W (blocks s) b held-there (h .long) on few fine qs most freed (h .formed);
     past = ap (every (cleanPast W′)) parts-after ∙ every-append (cleanPast W′) qs (r ∷ [])
@@ -274,7 +274,7 @@ module _ (s : State) (W : List ℕ) (e : Lists) (h : Holds s W e) (b : ℕ) (on 
       past-new = past-written W (b ∷ []) (blocks s) 0 held-there (h .long) (and-both (ltb b (blocks s)) true (lt-ltb b (blocks s) on) refl) refl (sym (one-block held-there few))
 
       sized : Partition → Bool
-      sized p = eqb (p .length) (lengthOf (postingsOf W′ p))
+      sized p = tells p (postingsOf W′ p)
 
       parts-same : s′ .partitions ≡ partitionsOf (qs ++ (r ∷ []))
       parts-same = unfold flushedTo in refl

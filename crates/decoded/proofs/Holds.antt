@@ -1,5 +1,5 @@
 -- What a state and the words of its card hold: lists of postings, window numbers, and the steps of the merge in progress.
-use Rattle.lists.proofs.Prelude.{true, not, List, _++_, map, _≡_, sym, ap, ap₂, _∙_, ℕ, _*_, _<_, eqb, length, every, elem, joined, map-map}
+use Rattle.lists.proofs.Prelude.{true, not, List, _++_, map, _≡_, refl, sym, ap, ap₂, _∙_, ℕ, _*_, _<_, length, eq-eqb, every, elem, joined, map-map}
 use Rattle.words.specs.Words.{words}
 use Rattle.postings.specs.declared.Posting.{Posting}
 use Rattle.postings.specs.Merge.{pairs}
@@ -13,15 +13,16 @@ use Rattle.state.specs.Probe.{Probe}
 use Rattle.state.proofs.Rows.{held}
 use Rattle.identifiers.specs.Register.{names, registerRule}
 use Rattle.card.specs.Blocks.{isFree}
-use Rattle.partitions.specs.Layout.{lengthOf}
+use Rattle.partitions.specs.Layout.{lengthOf, writtenAs}
 use Rattle.partitions.specs.Reading.{postingsOf, inPartitions, stored}
 use Rattle.partitions.specs.Formed.{partitionsFormed}
+use Rattle.partitions.proofs.Kept.{span-own}
 use Rattle.plans.specs.Merging.{dueIn, inputs, taking}
 use Rattle.plans.specs.Step.{inProgress, outputRule}
 use Rattle.accounts.specs.Account.{Portion, Account, postingsIn, storedIn, dueOf, inputsOf}
 use Rattle.accounts.specs.Lists.{Lists}
 use Rattle.accounts.proofs.Stored.{levelOf}
-use Rattle.decoded.specs.Portions.{portionOn, occupied, cleanPast}
+use Rattle.decoded.specs.Portions.{portionOn, occupied, cleanPast, tells}
 use Rattle.decoded.proofs.Maps.{due-map, oldest-map}
 
 pub record Holds (s : State) (W : List ℕ) (e : Lists) : Type 0 where
@@ -38,7 +39,7 @@ pub record Holds (s : State) (W : List ℕ) (e : Lists) : Type 0 where
   pub idle : s .merge .steps ≡ 0 → s .merge ≡ noMerge
   -- what finished partitions decode to
   pub portions : map (portionOn W) (finished (s .partitions)) ≡ e .account .partitions
-  pub sizes : every (λ p. eqb (p .length) (lengthOf (postingsOf W p))) (finished (s .partitions)) ≡ true
+  pub sizes : every (λ p. tells p (postingsOf W p)) (finished (s .partitions)) ≡ true
   pub formed : partitionsFormed W (blocks s) (finished (s .partitions)) ≡ true
   pub past : every (cleanPast W) (finished (s .partitions)) ≡ true
   -- the output in progress, and all other blocks
@@ -53,6 +54,10 @@ pub record Stored (ls : Lengths) (p : Probe) (e : Lists) : Type 0 where
   pub register : length (p .register) ≡ p .state .lengths .register
   pub rule : registerRule (p .register) ≡ true
   pub names : names (p .register) ≡ e .names
+
+-- what is written has a record that tells it
+pub tells-own : (bs : List ℕ) (level : ℕ) (ps l : List Posting) → ps ≡ l → tells (writtenAs bs level ps) l ≡ true
+tells-own bs level ps l e = rw (← e, eq-eqb (lengthOf ps) (lengthOf ps) refl) (span-own bs level ps)
 
 -- ---- what is read, where the finished partitions decode to the account's
 

@@ -1,6 +1,7 @@
 pub mod Maps
 pub mod Past
 pub mod Holds
+pub mod Reached
 pub mod Ruled
 pub mod Unused
 pub mod Flushed

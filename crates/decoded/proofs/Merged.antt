@@ -15,7 +15,7 @@ use Rattle.card.specs.Chains.{blocksFor}
 use Rattle.blocks.specs.Writes.{store, release}
 use Rattle.blocks.proofs.Stores.{Agree, apart, length-store, length-release, store-apart, release-apart, release-agrees}
 use Rattle.blocks.proofs.FreeBlocks.{released-free, release-other, store-other, written-taken}
-use Rattle.partitions.specs.Layout.{lengthOf, encode, writtenAs}
+use Rattle.partitions.specs.Layout.{lengthOf, encode, writtenAs, recordOf}
 use Rattle.partitions.specs.Reading.{chainOf, postingsOf}
 use Rattle.partitions.specs.Formed.{partitionRule, chainsOf, partitionsFormed, Writable}
 use Rattle.partitions.proofs.Lengths.{blocks-some}
@@ -24,10 +24,10 @@ use Rattle.plans.specs.Merging.{dueIn, taking, result, outputLevel, outputRecor
 use Rattle.accounts.specs.Account.{Portion, dueOf, merged, portionOf, completed}
 use Rattle.accounts.specs.Lists.{Lists, withAccount}
 use Rattle.accounts.proofs.Stored.{levelOf, parted}
-use Rattle.decoded.specs.Portions.{portionOn, outputOf, occupied, cleanPast}
+use Rattle.decoded.specs.Portions.{portionOn, outputOf, occupied, cleanPast, tells}
 use Rattle.decoded.proofs.Maps.{place-map}
 use Rattle.decoded.proofs.Disjoint.{Apart, apart-swap, apart-left, apart-right, apart-join, apart-test, different-parts, different-join}
-use Rattle.decoded.proofs.Holds.{Holds, due-is, taking-is}
+use Rattle.decoded.proofs.Holds.{Holds, due-is, taking-is, tells-own}
 use Rattle.decoded.proofs.Past.{past-agree, past-written}
 use Rattle.decoded.proofs.Unused.{chains-once, each-formed}
 use Rattle.decoded.proofs.Outputs.{Output, chains-more}
@@ -141,7 +141,7 @@ module _ (s : State) (W : List ℕ) (e : Lists) (h : Holds s W e) (bs : List ℕ
   written = writtenAs bs level r
 
   record-is : empty r ≡ false → R ≡ writtenAs bs level r ∷ []
-  record-is z = ap (λ u. cond u [] (record { first = getD bs 0 noBlock; level = level; length = lengthOf r } ∷ [])) z ∙ ap (λ b. record { first = b; level = level; length = lengthOf r } ∷ []) (first bs some)
+  record-is z = ap (λ u. cond u [] (recordOf (getD bs 0 noBlock) level r ∷ [])) z ∙ ap (λ b. recordOf b level r ∷ []) (first bs some)
     where
       some : 1 ≤ length bs
       some = omega (arith, out .size, ap (λ u. cond u 0 (blocksFor (lengthOf r))) z, blocks-some r)
@@ -151,7 +151,7 @@ module _ (s : State) (W : List ℕ) (e : Lists) (h : Holds s W e) (bs : List ℕ
       first (b ∷ l) g = refl
 
   record-none : empty r ≡ true → R ≡ []
-  record-none y = ap (λ u. cond u [] (record { first = getD bs 0 noBlock; level = level; length = lengthOf r } ∷ [])) y
+  record-none y = ap (λ u. cond u [] (recordOf (getD bs 0 noBlock) level r ∷ [])) y
 
   no-blocks : empty r ≡ true → bs ≡ []
   no-blocks y = empty-none bs (omega (arith, out .size ∙ ap (λ u. cond u 0 (blocksFor (lengthOf r))) y))
@@ -190,10 +190,10 @@ module _ (s : State) (W : List ℕ) (e : Lists) (h : Holds s W e) (bs : List ℕ
       by-test (empty r) (λ y. ap (every (partitionRule W′ n)) (record-none y))
       (λ z. ap (every (partitionRule W′ n)) (record-is z) ∙ ap (λ u. u && true) (rule-new z))
 
-  sizes-result : every (λ p. eqb (p .length) (lengthOf (postingsOf W′ p))) R ≡ true
+  sizes-result : every (λ p. tells p (postingsOf W′ p)) R ≡ true
   sizes-result =
-      by-test (empty r) (λ y. ap (every (λ p. eqb (p .length) (lengthOf (postingsOf W′ p)))) (record-none y))
-      (λ z. ap (every (λ p. eqb (p .length) (lengthOf (postingsOf W′ p)))) (record-is z) ∙ ap (λ u. u && true) (eq-eqb (lengthOf r) (lengthOf (postingsOf W′ (writtenAs bs level r))) (ap lengthOf (sym (postings-new z)))))
+      by-test (empty r) (λ y. ap (every (λ p. tells p (postingsOf W′ p))) (record-none y))
+      (λ z. ap (every (λ p. tells p (postingsOf W′ p))) (record-is z) ∙ ap (λ u. u && true) (tells-own bs level r _ (sym (postings-new z))))
 
   past-result : every (cleanPast W′) R ≡ true
   past-result =
@@ -255,17 +255,17 @@ module _ (s : State) (W : List ℕ) (e : Lists) (h : Holds s W e) (bs : List ℕ
       (kept-rules C keepsC (every-drop (partitionRule W n) (dueAt v) (drop at qs) (every-drop (partitionRule W n) at qs rules-all)) (blocked .onceC))))
       new-once
 
-  sizes-new : every (λ p. eqb (p .length) (lengthOf (postingsOf W′ p))) new ≡ true
+  sizes-new : every (λ p. tells p (postingsOf W′ p)) new ≡ true
   sizes-new =
       every-append right A (R ++ C)
       ∙ and-both (every right A) _ (sizes-agree W′ W A keepsA ∙ every-take right-before at qs (h .sizes))
       (every-append right R C ∙ and-both (every right R) _ sizes-result (sizes-agree W′ W C keepsC ∙ every-drop right-before (dueAt v) (drop at qs) (every-drop right-before at qs (h .sizes))))
     where
       right : Partition → Bool
-      right p = eqb (p .length) (lengthOf (postingsOf W′ p))
+      right p = tells p (postingsOf W′ p)
 
       right-before : Partition → Bool
-      right-before p = eqb (p .length) (lengthOf (postingsOf W p))
+      right-before p = tells p (postingsOf W p)
 
   past-all : every (cleanPast W′) new ≡ true
   past-all =
@@ -337,7 +337,7 @@ module _ (s : State) (W : List ℕ) (e : Lists) (h : Holds s W e) (bs : List ℕ
     steps = steps-same;
     idle = λ z. refl;
     portions = ap (map (portionOn W′)) finished-new ∙ portions-new;
-    sizes = ap (every (λ p. eqb (p .length) (lengthOf (postingsOf W′ p)))) finished-new ∙ sizes-new;
+    sizes = ap (every (λ p. tells p (postingsOf W′ p))) finished-new ∙ sizes-new;
     formed = ap (partitionsFormed W′ n) finished-new ∙ formed-new;
     past = ap (every (cleanPast W′)) finished-new ∙ past-all;
     output = λ y. absurd (false≢true y);

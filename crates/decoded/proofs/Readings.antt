@@ -2,6 +2,7 @@
 use Rattle.lists.proofs.Prelude.{Bool, true, _||_, _&&_, not, List, [], _∷_, foldr, _≡_, refl, sym, ap, ap₂, _∙_, subst, fun-ext, ℕ, _+_, _-_, eqb, ltb, leb, length, replicate, length-replicate, keep, every, elem, totalBy, and-both, every-map}
 use Rattle.words.specs.Words.{words}
 use Rattle.postings.specs.declared.Posting.{Posting}
+use Rattle.postings.specs.declared.Stretch.{Stretch}
 use Rattle.postings.specs.Merge.{put, nonzero, negated}
 use Rattle.postings.specs.Sums.{sum, under, above}
 use Rattle.answers.specs.Answers.{Answer, done, hits, leave, inTurn}
@@ -12,7 +13,7 @@ use Rattle.state.specs.declared.Partition.{Partition}
 use Rattle.state.specs.declared.State.{State}
 use Rattle.state.specs.Views.{blocks, registerSize, buffered, finished, bufferOf}
 use Rattle.state.specs.Probe.{Store, Probe}
-use Rattle.state.specs.Shown.{shown}
+use Rattle.state.specs.Shown.{shownIn}
 use Rattle.identifiers.specs.Names.{Name, numbersOf}
 use Rattle.identifiers.specs.Register.{registerRule}
 use Rattle.partitions.specs.Reading.{postingsOf, inPartitions, stored}
@@ -21,16 +22,21 @@ use Rattle.flushes.specs.Flush.{flushingIf}
 use Rattle.ranking.specs.Hits.{frequency, ranked}
 use Rattle.averages.specs.Average.{total, averaged}
 use Rattle.means.specs.Mean.{frequencyIn, totalIn, meaning, meanOf}
-use Rattle.queries.specs.Query.{countIn, takenUp, numbers, queryFormed, hitsOf, querying, queryOf, fill}
+use Rattle.queries.specs.Query.{countIn, takenUp, numbers, queryFormed, existingIn, hitsOf, querying, queryOf, fill}
 use Rattle.ranking.specs.Asked.{badQuery}
 use Rattle.removals.specs.Removal.{ofWindow, countsOf, isLive, listsFormed, removalFormed, removalFlushes, removed, removing, removeOf}
-use Rattle.sums.specs.Tally.{windowFormed}
+use Rattle.sums.specs.Tally.{listsRuled, windowFormed}
+use Rattle.stretches.specs.Reached as bytes
+use Rattle.stretches.specs.Reached.{whole}
+use Rattle.census.specs.Existing.{existing}
 use Rattle.batches.specs.Batch.{batchFormed, removeAllOf}
 use Rattle.engine.specs.Calls.{Remove, RemoveAll, Query, Mean, noHit, storeIn, withStore, probeCall}
-use Rattle.accounts.specs.Account.{Portion, Account, postingsIn, storedIn, takenFrom, exceeds, addedTo, flushingIf as accountFlushingIf}
-use Rattle.accounts.specs.Lists.{Lists, identifierRule, windowSums, windowRule, callRule, countOf, frequencyOf, totalOf, removedLists, removingLists, removalOf, withAccount, pursued}
+use Rattle.accounts.specs.Account.{Portion, Account, postingsIn, storedIn, takenFrom, readBy, exceeds, addedTo, flushingIf as accountFlushingIf}
+use Rattle.accounts.specs.Lists as accounts
+use Rattle.accounts.specs.Lists.{Lists, readRule, windowSums, windowRule, callRule, countOf, frequencyOf, totalOf, removedLists, removingLists, removalOf, withAccount, pursued}
 use Rattle.decoded.specs.Portions.{portionOn}
 use Rattle.decoded.proofs.Holds.{Holds, Stored, partitions-is, buffer-is, stored-is}
+use Rattle.decoded.proofs.Reached.{lists-told, rule-read, counts-read, existing-read, taken-read}
 use Rattle.decoded.proofs.Fronts.{holds-fronted}
 use Rattle.decoded.proofs.Flushing.{Same, bothLeave, same-carry, refusing, passing, Fine, flushIf-same}
 use Rattle.decoded.proofs.WindowCalls.{stored-store, no-first, no-second, no-second-both}
@@ -57,81 +63,78 @@ module _ {ls : Lengths} (p : Probe) (e : Lists) (k : Stored ls p e) (fine : Fine
 
   -- ---- query
 
-  -- what is read of one identifier
-  identifier-same : (i : ℕ) → identifierFormed W s i ≡ identifierRule (e .account) i
-  unfolding identifierFormed identifierRule
-  identifier-same i =
-      ap₂ _&&_ (every-partition (λ l. listRule (under i l)))
-      (ap₂ _&&_ (ap (λ l. sumsInRange (under i l)) partitions-same) (ap (λ l. sumsInRange (under i l)) stored-same))
-
   numbers-same : (ns : List Name) → numbers (p .register) ns ≡ numbersOf (e .names) ns
   numbers-same ns = ap (λ ms. numbersOf ms ns) (k .names)
 
-  counts-same : countIn W s ≡ countOf (e .account)
-  unfolding countIn countOf
-  counts-same = fun-ext λ i. fun-ext λ w. ap (λ l. above (sum l i w)) stored-same
-
-  hits-same : (m : ℕ) (ns : List Name) → hitsOf W s m (numbers (p .register) ns) ≡ ranked (e .windows .live) (countOf (e .account)) (shown (e .windows)) m (numbersOf (e .names) ns)
-  unfolding hitsOf
-  hits-same m ns =
-      ap (λ (w : Windows). ranked (w .live) (countIn W s) (shown w) m (numbers (p .register) ns)) (h .windows)
-      ∙ ap₂ (λ (c : ℕ → ℕ → ℕ) (is : List ℕ). ranked (e .windows .live) c (shown (e .windows)) m is) counts-same (numbers-same ns)
-
-  taken-same : (ns : List Name) → takenUp W s (numbers (p .register) ns) ≡ takenFrom (numbersOf (e .names) ns) (e .account)
-  unfolding takenUp takenFrom
-  taken-same ns = ap₂ (λ (is : List ℕ) (l : List Posting). length (keep (λ q. elem (q .id) is) l)) (numbers-same ns) stored-same
-
   -- refusal 3 has no cause
-  well-formed : (ns : List Name) → every (identifierRule (e .account)) (numbersOf (e .names) ns) ≡ true → queryFormed W s (p .register) (numbers (p .register) ns) ≡ true
+  well-formed : (t : Stretch) (ns : List Name) → readRule (readBy t (e .account)) (numbersOf (e .names) ns) ≡ true → queryFormed W s t (p .register) (numbers (p .register) ns) ≡ true
   unfolding queryFormed
-  well-formed ns rule =
+  well-formed t ns rule =
       and-both (registerRule (p .register)) _ (k .rule)
       (and-both (partitionsFormed W (blocks s) (finished (s .partitions))) _ (h .formed)
-      (ap₂ (λ (t : ℕ → Bool) (is : List ℕ). every t is) (fun-ext identifier-same) (numbers-same ns) ∙ rule))
+      (rule-read s W e h t (numbers (p .register) ns) ∙ ap (readRule (readBy t (e .account))) (numbers-same ns) ∙ rule))
 
-  pub query-same : (m : ℕ) (ns : List Name) → callRule e (Query m ns) ≡ true → Same (Stored ls) (probeCall p (Query m ns)) (pursued (blocks s) (registerSize s) e (Query m ns))
-  unfolding probeCall queryOf querying pursued
-  query-same m ns rule =
-      same-carry R (Stored ls) (λ (l : List Hit). p) (λ l e′ r. r)
-      (passing R _ 1 _ _ (no-first p e k fine)
-      (passing R _ 2 _ _ (no-second-both p e k fine)
-      (passing R _ 3 _ _ (ap not well)
-      (refusing R _ _ 4 _ _ refl λ _.
-      refusing R _ _ 14 _ _ (ap (λ n. badQuery n ns) places) λ _.
-      subst (λ (x : Answer). Same R (leave x (fill found (replicate m noHit))) (leave answer e)) (sym said) (bothLeave k)))))
-    where
-      R : List Hit → Lists → Type 0
-      R l e′ = Stored ls p e′
+  module _ (t : Stretch) where
+    abbrev read : State
+    read = bytes.readBy t s
 
-      places : length (replicate m noHit) ≡ m
-      places = length-replicate m noHit
+    hits-same : (m : ℕ) (ns : List Name) → hitsOf W read t (existingIn W read t) m (numbers (p .register) ns)
+        ≡ ranked (existing (storedIn (readBy t (e .account))) (shownIn t (e .windows))) (countOf (readBy t (e .account))) (shownIn t (e .windows)) m (numbersOf (e .names) ns)
+    unfolding hitsOf
+    hits-same m ns =
+        ap₂ (λ (n : ℕ) (w : Windows). ranked n (countIn W read) (shownIn t w) m (numbers (p .register) ns)) (existing-read s W e h t) (h .windows)
+        ∙ ap₂ (λ (c : ℕ → ℕ → ℕ) (is : List ℕ). ranked (existing (storedIn (readBy t (e .account))) (shownIn t (e .windows))) c (shownIn t (e .windows)) m is) (counts-read s W e h t) (numbers-same ns)
 
-      found : List Hit
-      found = hitsOf W s (length (replicate m noHit)) (numbers (p .register) ns)
+    taken-same : (ns : List Name) → takenUp W read (numbers (p .register) ns) ≡ takenFrom (numbersOf (e .names) ns) (readBy t (e .account))
+    taken-same ns = taken-read s W e h t (numbers (p .register) ns) ∙ ap (λ is. takenFrom is (readBy t (e .account))) (numbers-same ns)
 
-      answer : Answer
-      answer = hits (ranked (e .windows .live) (countOf (e .account)) (shown (e .windows)) m (numbersOf (e .names) ns)) (takenFrom (numbersOf (e .names) ns) (e .account))
+    pub query-same : (m : ℕ) (ns : List Name) → callRule e (Query m t ns) ≡ true → Same (Stored ls) (probeCall p (Query m t ns)) (pursued (blocks s) (registerSize s) e (Query m t ns))
+    unfolding probeCall queryOf querying pursued
+    query-same m ns rule =
+        same-carry R (Stored ls) (λ (l : List Hit). p) (λ l e′ r. r)
+        (passing R _ 1 _ _ (no-first p e k fine)
+        (passing R _ 2 _ _ (no-second-both p e k fine)
+        (passing R _ 3 _ _ (ap not well)
+        (refusing R _ _ 4 _ _ refl λ _.
+        refusing R _ _ 14 _ _ (ap (λ n. badQuery n ns) places) λ _.
+        refusing R _ _ 17 _ _ refl λ _.
+        subst (λ (x : Answer). Same R (leave x (fill found (replicate m noHit))) (leave answer e)) (sym said) (bothLeave k)))))
+      where
+        R : List Hit → Lists → Type 0
+        R l e′ = Stored ls p e′
 
-      said : hits found (takenUp W s (numbers (p .register) ns)) ≡ answer
-      said = ap₂ hits (ap (λ n. hitsOf W s n (numbers (p .register) ns)) places ∙ hits-same m ns) (taken-same ns)
+        places : length (replicate m noHit) ≡ m
+        places = length-replicate m noHit
 
-      well : queryFormed W s (p .register) (numbers (p .register) ns) ≡ true
-      well = well-formed ns (unfold callRule in rule)
+        found : List Hit
+        found = hitsOf W read t (existingIn W read t) (length (replicate m noHit)) (numbers (p .register) ns)
+
+        answer : Answer
+        answer =
+            hits (ranked (existing (storedIn (readBy t (e .account))) (shownIn t (e .windows))) (countOf (readBy t (e .account))) (shownIn t (e .windows)) m (numbersOf (e .names) ns))
+            (takenFrom (numbersOf (e .names) ns) (readBy t (e .account)))
+
+        said : hits found (takenUp W read (numbers (p .register) ns)) ≡ answer
+        said = ap₂ hits (ap (λ n. hitsOf W read t (existingIn W read t) n (numbers (p .register) ns)) places ∙ hits-same m ns) (taken-same ns)
+
+        well : queryFormed W s t (p .register) (numbers (p .register) ns) ≡ true
+        well = well-formed t ns (unfold callRule in rule)
 
   -- ---- mean
 
   -- whatever is told of counts in the windows that show
   told-same : (g : (ℕ → ℕ → ℕ) → List ℕ → ℕ → ℕ) (n : Name)
-      → totalBy (g (countIn W s) (shown (s .windows))) (numbers (p .register) (n ∷ [])) ≡ totalBy (g (countOf (e .account)) (shown (e .windows))) (numbersOf (e .names) (n ∷ []))
+      → totalBy (g (countIn W (bytes.readBy whole s)) (shownIn whole (s .windows))) (numbers (p .register) (n ∷ []))
+      ≡ totalBy (g (countOf (readBy whole (e .account))) (shownIn whole (e .windows))) (numbersOf (e .names) (n ∷ []))
   told-same g n =
-      ap (λ (w : Windows). totalBy (g (countIn W s) (shown w)) (numbers (p .register) (n ∷ []))) (h .windows)
-      ∙ ap₂ (λ (c : ℕ → ℕ → ℕ) (is : List ℕ). totalBy (g c (shown (e .windows))) is) counts-same (numbers-same (n ∷ []))
+      ap (λ (w : Windows). totalBy (g (countIn W (bytes.readBy whole s)) (shownIn whole w)) (numbers (p .register) (n ∷ []))) (h .windows)
+      ∙ ap₂ (λ (c : ℕ → ℕ → ℕ) (is : List ℕ). totalBy (g c (shownIn whole (e .windows))) is) (counts-read s W e h whole) (numbers-same (n ∷ []))
 
-  frequency-same : (n : Name) → frequencyIn W s (numbers (p .register) (n ∷ [])) ≡ frequencyOf e n
+  frequency-same : (n : Name) → frequencyIn W (bytes.readBy whole s) (numbers (p .register) (n ∷ [])) ≡ frequencyOf e n
   unfolding frequencyIn frequencyOf
   frequency-same = told-same frequency
 
-  total-same : (n : Name) → totalIn W s (numbers (p .register) (n ∷ [])) ≡ totalOf e n
+  total-same : (n : Name) → totalIn W (bytes.readBy whole s) (numbers (p .register) (n ∷ [])) ≡ totalOf e n
   unfolding totalIn totalOf
   total-same = told-same total
 
@@ -141,7 +144,7 @@ module _ {ls : Lengths} (p : Probe) (e : Lists) (k : Stored ls p e) (fine : Fine
       same-carry R (Stored ls) (λ (u : Unit {0}). p) (λ u e′ r. r)
       (passing R _ 1 _ _ (no-first p e k fine)
       (passing R _ 2 _ _ (no-second-both p e k fine)
-      (passing R _ 3 _ _ (ap not (well-formed (n ∷ []) (unfold callRule in rule)))
+      (passing R _ 3 _ _ (ap not (well-formed whole (n ∷ []) (unfold callRule in rule)))
       (refusing R _ _ 4 _ _ refl λ _.
       refusing R _ _ 15 _ _ (ap (λ f. eqb f 0) (frequency-same n)) λ _.
       subst (λ (x : Answer). Same R (leave x tt) (leave (averaged (frequencyOf e n) (totalOf e n)) e)) (sym (ap₂ averaged (frequency-same n) (total-same n))) (bothLeave k)))))
@@ -150,6 +153,10 @@ module _ {ls : Lengths} (p : Probe) (e : Lists) (k : Stored ls p e) (fine : Fine
       R u e′ = Stored ls p e′
 
   -- ---- removal
+
+  -- all lists
+  lists-same : listsRuled W s ≡ accounts.listsRuled (e .account)
+  lists-same = lists-told W (finished (s .partitions)) (h .sizes) ∙ every-partition listRule
 
   sums-same : (w : ℕ) → windowFormed W s w ≡ windowSums (e .account) w
   sums-same w =
@@ -160,13 +167,13 @@ module _ {ls : Lengths} (p : Probe) (e : Lists) (k : Stored ls p e) (fine : Fine
   unfolding removalFormed listsFormed windowRule
   window-same w rule =
       and-both (partitionsFormed W (blocks s) (finished (s .partitions))) _ (h .formed)
-      (ap₂ _&&_ (every-partition listRule) (sums-same w) ∙ rule)
+      (ap₂ _&&_ lists-same (sums-same w) ∙ rule)
 
   pub batch-same : (ws : List ℕ) → callRule e (RemoveAll ws) ≡ true → batchFormed W s ws ≡ true
   unfolding batchFormed
   batch-same ws rule =
       and-both (partitionsFormed W (blocks s) (finished (s .partitions))) _ (h .formed)
-      (ap₂ (λ (t : Bool) (f : ℕ → Bool). t && every f ws) (every-partition listRule) (fun-ext sums-same) ∙ (unfold callRule in rule))
+      (ap₂ (λ (t : Bool) (f : ℕ → Bool). t && every f ws) lists-same (fun-ext sums-same) ∙ (unfold callRule in rule))
 
   -- the state with the window's counts taken back, after a flush or without one
   holds-removed : (t : State) (X : List ℕ) (a : Account) (cs : List Posting) → Holds t X (withAccount e a) → Holds (removed t cs) X (removedLists e cs a)

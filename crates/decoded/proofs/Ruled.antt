@@ -1,5 +1,6 @@
 -- A state that holds lists keeps its rules where the lists keep theirs: refusals 1 and 2 have no cause.
 use Rattle.lists.proofs.Prelude.{Bool, true, false, _||_, _&&_, not, cond, List, [], _∷_, map, _≡_, refl, sym, ap, ap₂, _∙_, subst, ℕ, _≤_, eqb, leb, length, length-map, eqb-true, eq-eqb, every, empty, by-test, and-left, and-right, every-from, map-where, every-map, map-map}
+use Rattle.postings.specs.Spans.{lowest, highest}
 use Rattle.state.specs.declared.Partition.{Partition}
 use Rattle.state.specs.declared.State.{State}
 use Rattle.state.specs.Views.{noPartition, noMerge, blocks, finished, listedOf, bufferOf, partitionsOf}
@@ -14,13 +15,16 @@ use Rattle.partitions.specs.Reading.{postingsOf}
 use Rattle.plans.specs.Merging.{dueIn}
 use Rattle.accounts.specs.Account.{dueOf}
 use Rattle.accounts.specs.Lists.{Lists, recordLike, listsRule}
-use Rattle.decoded.specs.Portions.{portionOn}
+use Rattle.decoded.specs.Portions.{portionOn, tells}
 use Rattle.decoded.proofs.Maps.{count-map}
 use Rattle.decoded.proofs.Holds.{Holds, due-is}
 
 -- a record without its first block, of which no rule says anything
 abbrev blank : Partition → Partition
-blank p = record { first = 0; level = p .level; length = p .length }
+blank p = record { first = 0; level = p .level; length = p .length; lowest = p .lowest; highest = p .highest }
+
+blank-of : (p : Partition) {n l g : ℕ} → p .length ≡ n → p .lowest ≡ l → p .highest ≡ g → _≡_ {A = Partition} (record { first = 0; level = p .level; length = n; lowest = l; highest = g }) (blank p)
+blank-of p x y z = λ k. record { first = 0; level = p .level; length = sym x k; lowest = sym y k; highest = sym z k }
 
 rise-blank : (ps : List Partition) → neverRise (map blank ps) ≡ neverRise ps
 rise-blank [] = refl
@@ -68,9 +72,18 @@ module _ (s : State) (W : List ℕ) (e : Lists) (h : Holds s W e) (rule : listsR
   records-are =
       ap (map recordLike) (sym (h .portions))
       ∙ map-map recordLike (portionOn W) (finished (s .partitions))
-      ∙ map-where (λ p. eqb (p .length) (lengthOf (postingsOf W p))) (λ p. recordLike (portionOn W p)) blank
-      (λ p y. ap (λ n. record { first = 0; level = p .level; length = n }) (sym (eqb-true (p .length) (lengthOf (postingsOf W p)) y)))
+      ∙ map-where (λ p. tells p (postingsOf W p)) (λ p. recordLike (portionOn W p)) blank
+      told
       (finished (s .partitions)) (h .sizes)
+    where
+      told : (p : Partition) → tells p (postingsOf W p) ≡ true → recordLike (portionOn W p) ≡ blank p
+      told p y =
+          let m = postingsOf W p in
+          let span = and-right (eqb (p .length) (lengthOf m)) _ y in
+          let long = eqb-true (p .length) (lengthOf m) (and-left (eqb (p .length) (lengthOf m)) _ y) in
+          let low = eqb-true (p .lowest) (lowest m) (and-left (eqb (p .lowest) (lowest m)) _ span) in
+          let high = eqb-true (p .highest) (highest m) (and-right (eqb (p .lowest) (lowest m)) _ span) in
+          blank-of p long low high
 
   partitions-ruled : partitionsRule (blocks s) (s .partitions) ≡ true
   partitions-ruled =

@@ -20,10 +20,9 @@ use Rattle.accounts.specs.Books.{Books, booksCall}
 use Rattle.accounts.specs.Lists.{Lists, callRule, removalOf, pursued, listsCall}
 use Rattle.accounts.proofs.Parts.{sums-in-range}
 use Rattle.accounts.proofs.Stored.{merged-ordered, merged-counts}
-use Rattle.accounts.proofs.Prefixes.{inputs-small}
 use Rattle.accounts.proofs.Ranged.{storedRule, stored-kept, ranged-partitions, merged-ranged}
-use Rattle.accounts.proofs.Behind.{top}
-use Rattle.accounts.proofs.Kept.{Kept}
+use Rattle.accounts.proofs.Steady.{top}
+use Rattle.accounts.proofs.Kept.{Kept, inputs-small}
 use Rattle.accounts.proofs.Sound.{rules-hold}
 use Rattle.accounts.proofs.Agree.{Stands, unrefused}
 use Rattle.accounts.proofs.History.{call-same, call-sound}
@@ -52,7 +51,7 @@ result-writable n m l a k some = record {
     ranged = merged-ranged (top l) a (ranged-partitions (top l) a (k .ranged))
 
     all-fit : every (λ p. inRange (p .count)) (pairs (inputsOf a)) ≡ true
-    all-fit = unfold sumsInRange in sums-in-range (inputsOf a) (inputs-small a (k .shaped .prefixes))
+    all-fit = unfold sumsInRange in sums-in-range (inputsOf a) (inputs-small n m l a k)
 
     fit : every (λ p. inRange (p .count)) (merged a) ≡ true
     fit = unfold merged nonzero in every-keep isCounted (λ p. inRange (p .count)) (pairs (inputsOf a)) all-fit
@@ -120,7 +119,7 @@ module _ (ls : Lengths) where
         (removals-simulated p ws (storeIn p) e b k s))
     pursued-same p e b s k f Flush r = flush-call-same p e k f
     pursued-same p e b s k f Step r = step-same p e k f r
-    pursued-same p e b s k f (Query x ns) r = query-same p e k f x ns r
+    pursued-same p e b s k f (Query x t ns) r = query-same p e k f t x ns r
     pursued-same p e b s k f (Mean x) r = mean-same p e k f x r
     pursued-same p e b s k f (Forecast plan counts) r = forecast-same p e k f plan counts
 

@@ -14,16 +14,18 @@ use Rattle.state.proofs.Kept.{lengths-kept}
 use Rattle.card.specs.Blocks.{noBlock, freeBlocks}
 use Rattle.blocks.specs.Writes.{store, release}
 use Rattle.partitions.specs.Reading.{postingsOf}
-use Rattle.partitions.specs.Formed.{partitionsFormed, chainsOf, listRule, inRange, Writable}
+use Rattle.partitions.specs.Formed.{partitionsFormed, chainsOf, listRule, listsRule, inRange, Writable}
 use Rattle.partitions.specs.Layout.{encode}
 use Rattle.plans.specs.Merging.{dueIn, inputs, taking, result, outputLength, outputBlocks, progress, isLast, outputLevel, outputRecord, outputContent}
 use Rattle.plans.specs.Step.{inProgress, outputRule, stepFormed, outputOn, lastOf, steppedOn, writtenOn, stepping, stepOf}
 use Rattle.engine.specs.Calls.{Step, withStore, probeCall}
+use Rattle.plans.proofs.Merged.{oldest-part, part-every}
 use Rattle.accounts.specs.Account.{Portion, Account, blocksOf, blocksIn, dueOf, inputsOf, merged, blocksAhead, steppedAccount, stepping as accountStepping}
 use Rattle.accounts.specs.Lists.{Lists, inputsRule, callRule, withAccount, pursued}
 use Rattle.accounts.proofs.Stored.{levelOf, step-ends, step-goes}
 use Rattle.accounts.proofs.Steps.{progress-due}
-use Rattle.decoded.specs.Portions.{portionOn}
+use Rattle.decoded.specs.Portions.{portionOn, tells}
+use Rattle.decoded.proofs.Reached.{lists-told}
 use Rattle.decoded.proofs.Holds.{Holds, Stored, due-is, inputs-are, taking-is}
 use Rattle.decoded.proofs.Unused.{result-is, free-left}
 use Rattle.decoded.proofs.Flushing.{Same, bothLeave, same-carry, refusing, passing, Fine}
@@ -46,8 +48,9 @@ module _ (s : State) (W : List ℕ) (e : Lists) (h : Holds s W e) (fine : Fine (
   step-formed rule =
       let rest = and-right (every (λ (p : Portion). listRule (p .postings)) (oldest levelOf (dueOf a) (a .partitions))) _ rule in
       and-both (partitionsFormed W (blocks s) (finished (s .partitions))) _ (h .formed)
-      (and-both (every (λ p. listRule (postingsOf W p)) (inputs s)) _
-      (sym (every-map (λ (p : Portion). listRule (p .postings)) (portionOn W) (inputs s)) ∙ ap (every (λ (p : Portion). listRule (p .postings))) (inputs-are s W a (h .portions))
+      (and-both (every (listsRule W) (inputs s)) _
+      (lists-told W (inputs s) (part-every (inputs s) (finished (s .partitions)) (oldest-part (dueIn s) (finished (s .partitions))) (λ p. tells p (postingsOf W p)) (h .sizes))
+      ∙ sym (every-map (λ (p : Portion). listRule (p .postings)) (portionOn W) (inputs s)) ∙ ap (every (λ (p : Portion). listRule (p .postings))) (inputs-are s W a (h .portions))
       ∙ and-left (every (λ (p : Portion). listRule (p .postings)) (oldest levelOf (dueOf a) (a .partitions))) _ rule)
       (and-both (every (λ p. inRange (p .count)) ps) _
       (ap (every (λ p. inRange (p .count))) (taking-is s W a (h .portions)) ∙ and-left (every (λ p. inRange (p .count)) (pairs (inputsOf a))) _ rest)

@@ -23,7 +23,7 @@ use Rattle.plans.specs.Merging.{taking, result, outputLength, outputBlocks, pro
 use Rattle.plans.specs.Step.{inProgress, outputChain, outputRule}
 use Rattle.accounts.specs.Account.{furthered}
 use Rattle.accounts.specs.Lists.{Lists, withAccount}
-use Rattle.decoded.specs.Portions.{portionOn, outputOf, occupied}
+use Rattle.decoded.specs.Portions.{portionOn, outputOf, occupied, tells}
 use Rattle.decoded.proofs.Disjoint.{different-join}
 use Rattle.decoded.proofs.Holds.{Holds, taking-is}
 use Rattle.decoded.proofs.Past.{past-agree}
@@ -38,10 +38,10 @@ unfolding AllOf
 portions-agree W′ W [] g = refl
 portions-agree W′ W (q ∷ l) g = ap₂ _∷_ (ap (λ ps. record { level = q .level; postings = ps }) (postings-kept W′ W q (g .0))) (portions-agree W′ W l (g .1))
 
-pub sizes-agree : (W′ W : List ℕ) (l : List Partition) → AgreeAll W′ W l → every (λ p. eqb (p .length) (lengthOf (postingsOf W′ p))) l ≡ every (λ p. eqb (p .length) (lengthOf (postingsOf W p))) l
+pub sizes-agree : (W′ W : List ℕ) (l : List Partition) → AgreeAll W′ W l → every (λ p. tells p (postingsOf W′ p)) l ≡ every (λ p. tells p (postingsOf W p)) l
 unfolding AllOf
 sizes-agree W′ W [] g = refl
-sizes-agree W′ W (q ∷ l) g = ap₂ _&&_ (ap (λ ps. eqb (q .length) (lengthOf ps)) (postings-kept W′ W q (g .0))) (sizes-agree W′ W l (g .1))
+sizes-agree W′ W (q ∷ l) g = ap₂ _&&_ (ap (λ ps. tells q ps) (postings-kept W′ W q (g .0))) (sizes-agree W′ W l (g .1))
 
 -- ---- the posting space never exceeds the result's
 

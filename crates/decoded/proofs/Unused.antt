@@ -18,7 +18,7 @@ use Rattle.plans.specs.Step.{inProgress, outputChain, outputRule}
 use Rattle.accounts.specs.Account.{Portion, blocksOf, blocksIn, merged, blocksAhead}
 use Rattle.accounts.specs.Lists.{Lists}
 use Rattle.accounts.proofs.Shaped.{portionRule}
-use Rattle.decoded.specs.Portions.{portionOn, outputOf, occupied}
+use Rattle.decoded.specs.Portions.{portionOn, outputOf, occupied, tells}
 use Rattle.decoded.proofs.Holds.{Holds, taking-is}
 
 -- ---- the blocks of finished partitions
@@ -134,16 +134,16 @@ module _ (s : State) (W : List ℕ) (e : Lists) (h : Holds s W e) where
     unfolding finishedBlocks blocksIn
     finished-is = each (finished (s .partitions)) (h .sizes) (ap (every portionRule) (h .portions) ∙ parts) ∙ ap (totalBy (λ (p : Portion). blocksOf (p .postings))) (h .portions)
       where
-        one : (p : Partition) → eqb (p .length) (lengthOf (postingsOf W p)) ≡ true → empty (postingsOf W p) ≡ false → blocksFor (p .length) ≡ blocksOf (postingsOf W p)
-        one p y n = unfold blocksOf in (ap blocksFor (eqb-true (p .length) (lengthOf (postingsOf W p)) y) ∙ sym (ap (λ t. cond t 0 (blocksFor (lengthOf (postingsOf W p)))) n))
+        one : (p : Partition) → tells p (postingsOf W p) ≡ true → empty (postingsOf W p) ≡ false → blocksFor (p .length) ≡ blocksOf (postingsOf W p)
+        one p y n = unfold blocksOf in (ap blocksFor (eqb-true (p .length) (lengthOf (postingsOf W p)) (and-left (eqb (p .length) (lengthOf (postingsOf W p))) _ y)) ∙ sym (ap (λ t. cond t 0 (blocksFor (lengthOf (postingsOf W p)))) n))
 
-        each : (l : List Partition) → every (λ p. eqb (p .length) (lengthOf (postingsOf W p))) l ≡ true → every portionRule (map (portionOn W) l) ≡ true
+        each : (l : List Partition) → every (λ p. tells p (postingsOf W p)) l ≡ true → every portionRule (map (portionOn W) l) ≡ true
             → totalBy (λ p. blocksFor (p .length)) l ≡ totalBy (λ (p : Portion). blocksOf (p .postings)) (map (portionOn W) l)
         each [] y z = refl
         each (p ∷ l) y z =
             ap₂ _+_
-            (one p (and-left (eqb (p .length) (lengthOf (postingsOf W p))) _ y) (not-true _ (and-left (not (empty (postingsOf W p))) _ (and-left (portionRule (portionOn W p)) _ z))))
-            (each l (and-right (eqb (p .length) (lengthOf (postingsOf W p))) _ y) (and-right (portionRule (portionOn W p)) _ z))
+            (one p (and-left (tells p (postingsOf W p)) _ y) (not-true _ (and-left (not (empty (postingsOf W p))) _ (and-left (portionRule (portionOn W p)) _ z))))
+            (each l (and-right (tells p (postingsOf W p)) _ y) (and-right (portionRule (portionOn W p)) _ z))
 
     -- a result takes as many blocks as the account says
     pub result-is : outputBlocks (result (taking W s)) ≡ blocksOf (merged (e .account))

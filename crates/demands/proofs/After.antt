@@ -1,13 +1,14 @@
 -- After every history: what a query lists, a mean is and removals leave, by the ledger, what a forecast tells, and what the card's blocks hold.
-use Rattle.lists.proofs.TopK.{different-down}
-use Rattle.lists.proofs.Prelude.{true, false, not, cond, List, [], _∷_, _++_, _≡_, refl, sym, ap, _∙_, subst, ℕ, _*_, _/_, _%_, _<_, arith, eqb, length, getD, eqb-true, elem, every, empty, and-left}
+use Rattle.lists.proofs.Prelude.{true, false, not, cond, List, [], _∷_, _++_, _≡_, refl, sym, ap, _∙_, subst, ℕ, suc, _-_, _*_, _/_, _%_, _≤_, _<_, arith, eqb, leb, le-leb, length, getD, eqb-true, elem, every, empty, keep, down, by-test, and-left, and-both, every-down, keep-all}
 use Rattle.words.specs.Words.{words, allOnes}
+use Rattle.postings.specs.declared.Stretch.{Stretch}
 use Rattle.postings.specs.Merge.{pairs}
 use Rattle.answers.specs.Answers.{Answer, done, hits, mean, refused, Outcome, answerOf, stateOf}
 use Rattle.answers.specs.declared.Hit.{Hit}
 use Rattle.state.specs.declared.Lengths.{Lengths}
 use Rattle.state.specs.declared.State.{State}
 use Rattle.state.specs.Views.{padded, blocks, finished}
+use Rattle.state.specs.Shown.{within}
 use Rattle.state.specs.Rules.{cardLength, registerLength}
 use Rattle.state.specs.Probe.{Probe}
 use Rattle.identifiers.specs.Names.{Name, numbersOf}
@@ -15,6 +16,8 @@ use Rattle.recordings.specs.Recording.{recordingRule, recorded}
 use Rattle.card.specs.Blocks.{isFree}
 use Rattle.card.specs.Chains.{content}
 use Rattle.blocks.proofs.FreeBlocks.{free-word}
+use Rattle.partitions.specs.Reading.{postingsOf}
+use Rattle.partitions.specs.Formed.{spanRule}
 use Rattle.plans.specs.Merging.{taking, result, outputBlocks, progress}
 use Rattle.plans.specs.Step.{inProgress}
 use Rattle.ranking.specs.Hits.{frequency, ranked}
@@ -24,13 +27,15 @@ use Rattle.queries.specs.Query.{queryOf}
 use Rattle.forecasts.specs.Plan.{planCalls}
 use Rattle.batches.specs.Batch.{batchRule}
 use Rattle.engine.specs.Calls.{Call, RemoveAll, Query, Mean, Forecast, probeCall, run, afterwards}
-use Rattle.accounts.specs.Account.{Account, takenFrom, inputsOf, merged, blocksOf}
-use Rattle.accounts.specs.Ledger.{Ledger, live, shown, existing}
+use Rattle.accounts.specs.Account.{Account, takenFrom, readBy, inputsOf, merged, blocksOf}
+use Rattle.accounts.specs.Ledger.{Ledger, live, shown, existing, shownWithin, existingWithin}
 use Rattle.accounts.specs.Books.{Books, showing, books, booksCall}
 use Rattle.accounts.specs.Lists.{Lists}
-use Rattle.accounts.proofs.Showing.{hitsBy, hits-stay}
+use Rattle.accounts.proofs.Queries.{within-different}
+use Rattle.accounts.proofs.Showing.{hitsWithin, hits-within-stay}
 use Rattle.decoded.specs.Portions.{outputOf, cleanPast}
 use Rattle.decoded.proofs.Holds.{Holds, taking-is}
+use Rattle.decoded.proofs.Reached.{spans-told}
 use Rattle.decoded.proofs.Unused.{going, output-going}
 use Rattle.decoded.proofs.Simulated.{removals-formed, runs-simulated, Left}
 use Rattle.decoded.proofs.Foretold.{really}
@@ -45,15 +50,16 @@ use Rattle.demands.proofs.Cards.{whole-after, ones-bytes}
 -- ---- what ledger and account answer to a query
 
 -- the hits are the ledger's, and the postings taken the account's
-pub record ByBooks (b : Books) (k : ℕ) (ns : List Name) (found : List Hit) (taken : ℕ) : Type 0 where
-  pub hitsAre : ranked (existing (b .ledger)) (b .ledger .count) (shown (b .ledger)) k ns ≡ found
-  pub takenIs : takenFrom (numbersOf (b .ledger .identifiers) ns) (b .account) ≡ taken
+pub record ByBooks (b : Books) (t : Stretch) (k : ℕ) (ns : List Name) (found : List Hit) (taken : ℕ) : Type 0 where
+  pub hitsAre : hitsWithin t k ns (b .ledger) ≡ found
+  pub takenIs : takenFrom (numbersOf (b .ledger .identifiers) ns) (readBy t (b .account)) ≡ taken
 
-books-where : (n m : ℕ) (b : Books) (k : ℕ) (ns : List Name) (found : List Hit) (taken : ℕ)
-    → Where b (hits found taken) (λ (c : Books). ByBooks b k ns found taken) (booksCall n m b (Query k ns))
+books-where : (n m : ℕ) (b : Books) (t : Stretch) (k : ℕ) (ns : List Name) (found : List Hit) (taken : ℕ)
+    → Where b (hits found taken) (λ (c : Books). ByBooks b t k ns found taken) (booksCall n m b (Query k t ns))
 unfolding books
-books-where n m b k ns found taken =
-    where-if (hits-granted found taken) _ 4 _ λ _. where-if (hits-granted found taken) _ 14 _ λ _. record { holds = λ e. record { hitsAre = ap listOf e; takenIs = ap takenOf e } }
+books-where n m b t k ns found taken =
+    where-if (hits-granted found taken) _ 4 _ λ _. where-if (hits-granted found taken) _ 14 _ λ _. where-if (hits-granted found taken) _ 17 _ λ _.
+    record { holds = λ e. record { hitsAre = ap listOf e; takenIs = ap takenOf e } }
 
 -- ---- and to a mean
 
@@ -101,16 +107,32 @@ module _ (c r : ℕ) (cardFits : cardLength c ≡ true) (registerFits : register
       both : answerOf (probeCall p q) ∷ [] ≡ answerOf (booksCall (c / 4096) (r / 65) b q) ∷ []
       both = unfold run in runs-simulated ls (entries-most r registerFits) (q ∷ []) p (left .lists) b (left .stored) (left .stands)
 
-  pub by-books : (ns : List Name) (places found : List Hit) (taken : ℕ) → answerOf (queryOf p ns places) ≡ hits found taken → ByBooks b (length places) ns found taken
-  by-books ns places found taken e =
-      books-where (c / 4096) (r / 65) b (length places) ns found taken .holds (sym (answered (Query (length places) ns)) ∙ sym (query-called p ns places) ∙ e)
+  pub by-books : (t : Stretch) (ns : List Name) (places found : List Hit) (taken : ℕ) → answerOf (queryOf p t ns places) ≡ hits found taken → ByBooks b t (length places) ns found taken
+  by-books t ns places found taken e =
+      books-where (c / 4096) (r / 65) b t (length places) ns found taken .holds (sym (answered (Query (length places) t ns)) ∙ sym (query-called p t ns places) ∙ e)
 
   -- a query's hits are the listing of the ledger
-  pub listing-by-ledger : (ns : List Name) (places found : List Hit) (taken : ℕ) → answerOf (queryOf p ns places) ≡ hits found taken
-      → Listing (existing (b .ledger)) (b .ledger .count) (shown (b .ledger)) (length places) ns found
-  listing-by-ledger ns places found taken e =
-      subst (Listing (existing (b .ledger)) (b .ledger .count) (shown (b .ledger)) (length places) ns) (by-books ns places found taken e .hitsAre)
-      (ranked-listing (existing (b .ledger)) (b .ledger .count) (shown (b .ledger)) (length places) ns (unfold shown in different-down _))
+  pub listing-by-ledger : (t : Stretch) (ns : List Name) (places found : List Hit) (taken : ℕ) → answerOf (queryOf p t ns places) ≡ hits found taken
+      → Listing (existingWithin t (b .ledger)) (b .ledger .count) (shownWithin t (b .ledger)) (length places) ns found
+  listing-by-ledger t ns places found taken e =
+      subst (Listing (existingWithin t (b .ledger)) (b .ledger .count) (shownWithin t (b .ledger)) (length places) ns) (by-books t ns places found taken e .hitsAre)
+      (ranked-listing (existingWithin t (b .ledger)) (b .ledger .count) (shownWithin t (b .ledger)) (length places) ns (within-different t (b .ledger)))
+
+  -- a stretch from 1 or below to 65,535
+  pub whole-left : (t : Stretch) → t .first ≤ 1 → t .last ≡ 65535
+      → (shownWithin t (b .ledger) ≡ shown (b .ledger)) × (existingWithin t (b .ledger) ≡ existing (b .ledger))
+  unfolding existingWithin existing
+  whole-left t low high = (all, ap (λ l. length (keep (live (b .ledger)) l)) all)
+    where
+      fits : (w : ℕ) → w < cond (b .ledger .isOpen) (b .ledger .last - 1) (b .ledger .last) → within t (suc w) ≡ true
+      fits w h =
+          let last : w < 65535 = by-test (b .ledger .isOpen)
+          (λ y. let m : w < b .ledger .last - 1 = subst (λ o. w < cond o (b .ledger .last - 1) (b .ledger .last)) y h in omega (arith, left .stands .kept .lawful .lastFits))
+          (λ n. let m : w < b .ledger .last = subst (λ o. w < cond o (b .ledger .last - 1) (b .ledger .last)) n h in omega (arith, left .stands .kept .lawful .lastFits)) in
+          and-both (leb (t .first) (suc w)) _ (le-leb (t .first) (suc w) (omega arith)) (le-leb (suc w) (t .last) (omega arith))
+
+      all : shownWithin t (b .ledger) ≡ shown (b .ledger)
+      all = unfold shownWithin shown in keep-all (within t) (down _) (every-down (within t) _ fits)
 
   -- a mean is told or refused as the ledger says
   pub mean-told : (n : Name) → answerOf (meanOf p n) ≡ answerOf (averaging n (frequency (b .ledger .count) (shown (b .ledger)) n) (total (b .ledger .count) (shown (b .ledger)) n))
@@ -126,10 +148,10 @@ module _ (c r : ℕ) (cardFits : cardLength c ≡ true) (registerFits : register
   books-more : (q : Call) → booksAfter c r (cs ++ (q ∷ [])) ≡ stateOf b (booksCall (c / 4096) (r / 65) b q)
   books-more q = afterwards-more (booksCall (c / 4096) (r / 65)) _ cs q
 
-  pub stay-after : (q : Call) → showing q ≡ false → (k : ℕ) (ns : List Name) → hitsBy k ns (booksAfter c r (cs ++ (q ∷ [])) .ledger) ≡ hitsBy k ns (b .ledger)
-  stay-after q e k ns =
-      ap (λ (x : Books). hitsBy k ns (x .ledger)) (books-more q)
-      ∙ hits-stay (c / 4096) (r / 65) b (left .stands .kept .lawful) k ns q e
+  pub stay-after : (q : Call) → showing q ≡ false → (t : Stretch) (k : ℕ) (ns : List Name) → hitsWithin t k ns (booksAfter c r (cs ++ (q ∷ [])) .ledger) ≡ hitsWithin t k ns (b .ledger)
+  stay-after q e t k ns =
+      ap (λ (x : Books). hitsWithin t k ns (x .ledger)) (books-more q)
+      ∙ hits-within-stay (c / 4096) (r / 65) b (left .stands .kept .lawful) k ns t q e
 
   -- ---- removals of several windows
 
@@ -195,6 +217,9 @@ module _ (c r : ℕ) (cardFits : cardLength c ≡ true) (registerFits : register
   pub past-left : every (cleanPast W) (finished (s .partitions)) ≡ true
   past-left = holds .past
 
+  pub spans-left : every (λ p. spanRule p (postingsOf W p)) (finished (s .partitions)) ≡ true
+  spans-left = spans-told W (finished (s .partitions)) (holds .sizes)
+
   -- ---- the output in progress
 
   abbrev a : Account
@@ -223,16 +248,16 @@ module _ (c r : ℕ) (cardFits : cardLength c ≡ true) (registerFits : register
 
 -- the hits of a query before and after a call
 pub hits-kept : (c r : ℕ) (cardFits : cardLength c ≡ true) (registerFits : registerLength r ≡ true) (cs : List Call) (q : Call) → showing q ≡ false
-    → (ns : List Name) (places before after : List Hit) (m n : ℕ) → answerOf (queryOf (probeAfter c r cs) ns places) ≡ hits before m
-    → answerOf (queryOf (probeAfter c r (cs ++ (q ∷ []))) ns places) ≡ hits after n → after ≡ before
-hits-kept c r cardFits registerFits cs q e ns places before after m n x y =
+    → (t : Stretch) (ns : List Name) (places before after : List Hit) (m n : ℕ) → answerOf (queryOf (probeAfter c r cs) t ns places) ≡ hits before m
+    → answerOf (queryOf (probeAfter c r (cs ++ (q ∷ []))) t ns places) ≡ hits after n → after ≡ before
+hits-kept c r cardFits registerFits cs q e t ns places before after m n x y =
     sym (then .hitsAre) ∙ stay ∙ first .hitsAre
   where
-    first : ByBooks (booksAfter c r cs) (length places) ns before m
-    first = by-books c r cardFits registerFits cs ns places before m x
+    first : ByBooks (booksAfter c r cs) t (length places) ns before m
+    first = by-books c r cardFits registerFits cs t ns places before m x
 
-    then : ByBooks (booksAfter c r (cs ++ (q ∷ []))) (length places) ns after n
-    then = by-books c r cardFits registerFits (cs ++ (q ∷ [])) ns places after n y
+    then : ByBooks (booksAfter c r (cs ++ (q ∷ []))) t (length places) ns after n
+    then = by-books c r cardFits registerFits (cs ++ (q ∷ [])) t ns places after n y
 
-    stay : hitsBy (length places) ns (booksAfter c r (cs ++ (q ∷ [])) .ledger) ≡ hitsBy (length places) ns (booksAfter c r cs .ledger)
-    stay = stay-after c r cardFits registerFits cs q e (length places) ns
+    stay : hitsWithin t (length places) ns (booksAfter c r (cs ++ (q ∷ [])) .ledger) ≡ hitsWithin t (length places) ns (booksAfter c r cs .ledger)
+    stay = stay-after c r cardFits registerFits cs q e t (length places) ns

@@ -96,7 +96,7 @@ call-whole p w (Remove n) = carried (withStore p) (storeIn p) (removeOf (storeIn
 call-whole p w (RemoveAll ns) = carried (withStore p) (storeIn p) (removeAllOf (storeIn p) ns) (removed-all-whole (storeIn p) w ns)
 call-whole p w Flush = carried (withStore p) (storeIn p) (flushOf (storeIn p)) (flushed-whole (storeIn p) w)
 call-whole p w Step = carried (withStore p) (storeIn p) (stepOf (storeIn p)) (stepped-whole (storeIn p) w)
-call-whole p w (Query k ns) = carried (λ (l : List Hit). p) (replicate k noHit) (queryOf p ns (replicate k noHit)) w
+call-whole p w (Query k t ns) = carried (λ (l : List Hit). p) (replicate k noHit) (queryOf p t ns (replicate k noHit)) w
 call-whole p w (Mean n) = carried (λ (u : Unit {0}). p) tt (meanOf p n) w
 call-whole p w (Forecast plan counts) = carried (λ (u : Unit {0}). p) tt (forecastOf (p .state) (p .register) plan counts) w
 

@@ -5,6 +5,7 @@ use Rattle.words.specs.Words.{words, allOnes, Below}
 use Rattle.weights.specs.Weights.{sixteenths, tfWeight, idfWeight}
 use Rattle.weights.proofs.Laws.{sixteenths-highest, tf-proper, tf-grows, idf-none, idf-past, idf-proper}
 use Rattle.postings.specs.declared.Posting.{Posting}
+use Rattle.postings.specs.declared.Stretch.{Stretch}
 use Rattle.postings.specs.Merge.{pairs}
 use Rattle.postings.specs.Sums.{sum}
 use Rattle.answers.specs.Answers.{Answer, done, hits, mean, refused, answerOf, stateOf, carry}
@@ -16,8 +17,8 @@ use Rattle.state.specs.declared.State.{State}
 use Rattle.state.specs.Probe.{Store, Probe, sameLength}
 use Rattle.state.specs.Views.{padded, blocks, finished}
 use Rattle.state.specs.Rules.{cardLength, registerLength, stateRule}
-use Rattle.state.specs.Shown.{shows, shown}
-use Rattle.identifiers.specs.Names.{Name, badLength}
+use Rattle.state.specs.Shown.{within, shows, shownIn}
+use Rattle.identifiers.specs.Names.{Name, badLength, numbersOf}
 use Rattle.identifiers.specs.Register.{size, names}
 use Rattle.recordings.specs.Recording.{recordingRule, identifierIn, recorded}
 use Rattle.recordings.proofs.Windows.{bad-size}
@@ -27,17 +28,20 @@ use Rattle.blocks.specs.Moves.{MovesBytes}
 use Rattle.card.specs.Chains.{blocksFor, content}
 use Rattle.partitions.specs.Layout.{lengthOf, encode, writtenAs}
 use Rattle.partitions.specs.Reading.{postingsOf, stored}
-use Rattle.partitions.specs.Formed.{partitionRule, partitionsFormed, Writable}
-use Rattle.partitions.proofs.Kept.{rule-written, postings-written}
+use Rattle.partitions.specs.Formed.{partitionRule, partitionsFormed, spanRule, listsRule, Writable}
+use Rattle.partitions.proofs.Kept.{rule-written, lists-written, postings-written}
 use Rattle.windows.specs.Calls.{fresh, startOf, unstarted}
 use Rattle.events.specs.Event.{eventOf}
 use Rattle.windows.specs.Promises.{probeOf}
 use Rattle.windows.specs.declared.Opening.{Opening}
 use Rattle.windows.specs.declared.Replied.{Replied}
 use Rattle.windows.proofs.Refused.{start-unchanged}
-use Rattle.queries.specs.Query.{countIn, numbers, takenUp, queryFormed, fill, queryOf}
+use Rattle.stretches.specs.Reached.{readBy, whole}
+use Rattle.queries.specs.Query.{countIn, numbers, takenUp, queryFormed, fill, existingOn, queryOf}
+use Rattle.queries.specs.Finds.{answered}
 use Rattle.queries.specs.declared.Answered.{Answered}
 use Rattle.queries.proofs.Refused.{query-unchanged}
+use Rattle.ranking.specs.Asked.{badQuery, badStretch}
 use Rattle.ranking.specs.Hits.{frequency}
 use Rattle.averages.specs.Average.{total, averaging}
 use Rattle.means.specs.Mean.{frequencyIn, totalIn, meanOf}
@@ -51,9 +55,10 @@ use Rattle.engine.proofs.ByteRule.{call-moved}
 use Rattle.plans.specs.Step.{stepOf}
 use Rattle.jobs.specs.Lent.{Lent, withOwn, lentStepOf}
 use Rattle.jobs.proofs.Lent.{lent-unchanged, lent-other, lent-own}
-use Rattle.accounts.specs.Account.{Account, storedIn, inputsOf, merged, blocksOf, steppedAccount}
+use Rattle.accounts.specs.Account as account
+use Rattle.accounts.specs.Account.{Account, storedIn, takenFrom, inputsOf, merged, blocksOf, steppedAccount}
 use Rattle.accounts.specs.Ledger as ledger
-use Rattle.accounts.specs.Ledger.{existing, including, byNumber}
+use Rattle.accounts.specs.Ledger.{existing, shownWithin, existingWithin, including, byNumber}
 use Rattle.accounts.specs.Books.{AllGranted, showing, expected}
 use Rattle.accounts.specs.Lists.{Lists}
 use Rattle.accounts.proofs.Stored.{sum-stored-stepped}
@@ -63,11 +68,11 @@ use Rattle.histories.specs.Statement.{answers, SameAnswers}
 use Rattle.histories.proofs.Theorem.{entries-most, same-answers, none-malformed, history-left}
 use Rattle.demands.specs.Words.{Fit, Listing, mostScore, Divided, Together, Foreseen, probeAfter, booksAfter, unused}
 use Rattle.demands.specs.Promises.{Starts, Opens, Counts, Closes, Removes, RemovesAll, Flushes, Steps, Asks, AsksValue, Averages, Foretells, Begun}
-use Rattle.demands.proofs.Granted.{event-bad, query-bad, mean-bad, event-noted, query-answered, answered-listing, open-unlisted, scores-few, mean-answered, plan-bad, forecast-kept}
+use Rattle.demands.proofs.Granted.{event-bad, query-bad, query-stretch, mean-bad, event-noted, query-answered, answered-listing, hits-show, scores-few, mean-answered, plan-bad, forecast-kept}
 use Rattle.demands.proofs.Rows.{start-fresh, start-refuses, all-unstarted, begun-run}
 use Rattle.demands.proofs.Removals.{removals-together, removals-late, list-bad}
 use Rattle.demands.proofs.Single.{one-state, one-store, one-probe, one-opening, one-list, one-found, one-averaged, one-forecasted}
-use Rattle.demands.proofs.After.{listing-by-ledger, hits-kept, mean-told, mean-by-ledger, list-bad-after, together-left, count-removed, live-removed, none-removed, forecast-left, free-left, byte-left, past-left, output-left}
+use Rattle.demands.proofs.After.{by-books, listing-by-ledger, whole-left, hits-kept, mean-told, mean-by-ledger, list-bad-after, together-left, count-removed, live-removed, none-removed, forecast-left, free-left, byte-left, past-left, spans-left, output-left}
 
 -- ==== 1. Every call does what the page says, on every input
 
@@ -98,12 +103,12 @@ one-flush s card x y card₁ card₂ g h = one-store x y g h
 pub one-step : (s : State) (card : List ℕ) (x y : Replied) (card₁ card₂ : List ℕ) → Steps s card x card₁ → Steps s card y card₂ → (x ≡ y) × (card₁ ≡ card₂)
 one-step s card x y card₁ card₂ g h = one-store x y g h
 
-pub one-query : (s : State) (card register : List ℕ) (ids : List Name) (places : List Hit) (x y : Found) (places₁ places₂ : List Hit)
-    → Asks s card register ids places x places₁ → Asks s card register ids places y places₂ → (x ≡ y) × (places₁ ≡ places₂)
-one-query s card register ids places x y places₁ places₂ g h = one-list x y places₁ places₂ (g .0) (h .0) (g .1) (h .1)
+pub one-query : (s : State) (card register : List ℕ) (t : Stretch) (ids : List Name) (places : List Hit) (x y : Found) (places₁ places₂ : List Hit)
+    → Asks s card register t ids places x places₁ → Asks s card register t ids places y places₂ → (x ≡ y) × (places₁ ≡ places₂)
+one-query s card register t ids places x y places₁ places₂ g h = one-list x y places₁ places₂ (g .0) (h .0) (g .1) (h .1)
 
-pub one-query-value : (s : State) (card register : List ℕ) (ids : List Name) (places : ℕ) (x y : Answered) → AsksValue s card register ids places x → AsksValue s card register ids places y → x ≡ y
-one-query-value s card register ids places x y g h = one-found (probeOf s card register) ids places x y g h
+pub one-query-value : (s : State) (card register : List ℕ) (t : Stretch) (ids : List Name) (places : ℕ) (x y : Answered) → AsksValue s card register t ids places x → AsksValue s card register t ids places y → x ≡ y
+one-query-value s card register t ids places x y g h = one-found (answered (probeOf s card register) t ids places) places x y g h
 
 pub one-mean : (s : State) (card register : List ℕ) (id : Name) (x y : Averaged) → Averages s card register id x → Averages s card register id y → x ≡ y
 one-mean s card register id x y g h = one-averaged x y (g ∙ sym h)
@@ -129,8 +134,8 @@ pub refused-unchanged : (p : Probe) (c : Call) (n : ℕ) → answerOf (probeCall
 refused-unchanged p c n e = call-unchanged p c .same n e
 
 -- A refused query leaves the lent list as it was.
-pub refused-list-unchanged : (p : Probe) (ns : List Name) (places : List Hit) (n : ℕ) → answerOf (queryOf p ns places) ≡ refused n → stateOf places (queryOf p ns places) ≡ places
-refused-list-unchanged p ns places n e = query-unchanged p ns places .same n e
+pub refused-list-unchanged : (p : Probe) (t : Stretch) (ns : List Name) (places : List Hit) (n : ℕ) → answerOf (queryOf p t ns places) ≡ refused n → stateOf places (queryOf p t ns places) ≡ places
+refused-list-unchanged p t ns places n e = query-unchanged p t ns places .same n e
 
 -- A refused start leaves both buffers as they were, and gives a state of zeros.
 pub refused-start : (card register : List ℕ) (n : ℕ) → answerOf (startOf card register) ≡ refused n → stateOf (unstarted card register) (startOf card register) ≡ unstarted card register
@@ -157,12 +162,17 @@ pub bad-event : (p : Probe) (n : Name) → Fit p → badLength n ≡ true → an
 bad-event = event-bad
 
 -- So is a query that names one.
-pub bad-query : (p : Probe) (ns : List Name) (places : List Hit) → Fit p → queryFormed (words (p .card)) (p .state) (p .register) (numbers (p .register) ns) ≡ true
-    → any badLength ns ≡ true → answerOf (queryOf p ns places) ≡ refused 4
+pub bad-query : (p : Probe) (t : Stretch) (ns : List Name) (places : List Hit) → Fit p → queryFormed (words (p .card)) (p .state) t (p .register) (numbers (p .register) ns) ≡ true
+    → any badLength ns ≡ true → answerOf (queryOf p t ns places) ≡ refused 4
 bad-query = query-bad
 
+-- A query of a stretch whose first window exceeds its last is refused with 17 (with 1 to 4 or 14 where these come first).
+pub bad-stretch : (p : Probe) (t : Stretch) (ns : List Name) (places : List Hit) → Fit p → queryFormed (words (p .card)) (p .state) t (p .register) (numbers (p .register) ns) ≡ true
+    → any badLength ns ≡ false → badQuery (length places) ns ≡ false → badStretch t ≡ true → answerOf (queryOf p t ns places) ≡ refused 17
+bad-stretch = query-stretch
+
 -- And a mean of one.
-pub bad-mean : (p : Probe) (n : Name) → Fit p → queryFormed (words (p .card)) (p .state) (p .register) (numbers (p .register) (n ∷ [])) ≡ true
+pub bad-mean : (p : Probe) (n : Name) → Fit p → queryFormed (words (p .card)) (p .state) whole (p .register) (numbers (p .register) (n ∷ [])) ≡ true
     → badLength n ≡ true → answerOf (meanOf p n) ≡ refused 4
 bad-mean = mean-bad
 
@@ -205,46 +215,58 @@ larger-count = tf-grows
 pub rarity-weight : (n f : ℕ) → ((1 ≤ f) × (f ≤ n) → idfWeight n f ≡ sixteenths n - sixteenths f) × (idfWeight n 0 ≡ 0) × (n < f → idfWeight n f ≡ 0)
 rarity-weight n f = ((λ h. idf-proper n f (h .0) (h .1)), idf-none n, (λ h. idf-past n f h))
 
--- The hits that a query answers are of matching windows that show, with exactly the defined scores, in falling order, and cut only where the list is full.
-pub hits-exact : (p : Probe) (ns : List Name) (places found : List Hit) (taken : ℕ) → answerOf (queryOf p ns places) ≡ hits found taken
-    → Listing (p .state .windows .live) (countIn (words (p .card)) (p .state)) (shown (p .state .windows)) (length places) (numbers (p .register) ns) found
+-- The hits that a query answers are of matching windows of its stretch, with exactly the defined scores, in falling order, and cut only where the list is full. N, F and counts are of the
+-- windows of the stretch that show, read from the buffer and the partitions that the stretch reaches.
+pub hits-exact : (p : Probe) (t : Stretch) (ns : List Name) (places found : List Hit) (taken : ℕ) → answerOf (queryOf p t ns places) ≡ hits found taken
+    → Listing (existingOn p t) (countIn (words (p .card)) (readBy t (p .state))) (shownIn t (p .state .windows)) (length places) (numbers (p .register) ns) found
 hits-exact = answered-listing
 
--- None is of a window under way, wherever its counts are stored.
-pub open-window-unlisted : (p : Probe) (ns : List Name) (places found : List Hit) (taken : ℕ) → answerOf (queryOf p ns places) ≡ hits found taken
-    → every (λ h. shows (p .state .windows .current) (h .window)) found ≡ true
-open-window-unlisted = open-unlisted
+-- Each is of a window of the stretch, and none of a window under way, wherever its counts are stored.
+pub hits-in-stretch : (p : Probe) (t : Stretch) (ns : List Name) (places found : List Hit) (taken : ℕ) → answerOf (queryOf p t ns places) ≡ hits found taken
+    → every (λ h. within t (h .window) && shows (p .state .windows .current) (h .window)) found ≡ true
+hits-in-stretch = hits-show
 
--- After every history they are so by the ledger: its N, its counts by name, and its closed windows.
-pub hits-by-ledger : (c r : ℕ) → cardLength c ≡ true → registerLength r ≡ true → (cs : List Call) (ns : List Name) (places found : List Hit) (taken : ℕ)
-    → answerOf (queryOf (probeAfter c r cs) ns places) ≡ hits found taken
-    → Listing (existing (booksAfter c r cs .ledger)) (booksAfter c r cs .ledger .count) (ledger.shown (booksAfter c r cs .ledger)) (length places) ns found
+-- After every history they are so by the ledger, whichever partitions are passed over: its N in the stretch, its counts by name, and its closed windows of the stretch.
+pub hits-by-ledger : (c r : ℕ) → cardLength c ≡ true → registerLength r ≡ true → (cs : List Call) (t : Stretch) (ns : List Name) (places found : List Hit) (taken : ℕ)
+    → answerOf (queryOf (probeAfter c r cs) t ns places) ≡ hits found taken
+    → Listing (existingWithin t (booksAfter c r cs .ledger)) (booksAfter c r cs .ledger .count) (shownWithin t (booksAfter c r cs .ledger)) (length places) ns found
 hits-by-ledger = listing-by-ledger
+
+-- A stretch from 1 or below to 65,535 has every closed window, and its N is that of all.
+pub whole-stretch : (c r : ℕ) → cardLength c ≡ true → registerLength r ≡ true → (cs : List Call) (t : Stretch) → t .first ≤ 1 → t .last ≡ 65535
+    → (shownWithin t (booksAfter c r cs .ledger) ≡ ledger.shown (booksAfter c r cs .ledger)) × (existingWithin t (booksAfter c r cs .ledger) ≡ existing (booksAfter c r cs .ledger))
+whole-stretch = whole-left
 
 -- A window starts to show by its close, and ceases to by its removal: no other call moves the hits of a query, be it an event, a flush or a merge step.
 pub only-closing-shows : (c r : ℕ) → cardLength c ≡ true → registerLength r ≡ true → (cs : List Call) (q : Call) → showing q ≡ false
-    → (ns : List Name) (places before after : List Hit) (m n : ℕ) → answerOf (queryOf (probeAfter c r cs) ns places) ≡ hits before m
-    → answerOf (queryOf (probeAfter c r (cs ++ (q ∷ []))) ns places) ≡ hits after n → after ≡ before
+    → (t : Stretch) (ns : List Name) (places before after : List Hit) (m n : ℕ) → answerOf (queryOf (probeAfter c r cs) t ns places) ≡ hits before m
+    → answerOf (queryOf (probeAfter c r (cs ++ (q ∷ []))) t ns places) ≡ hits after n → after ≡ before
 only-closing-shows = hits-kept
 
 -- No score is above 306,000, whatever the card says: each of at most five identifiers adds at most 240 × 255.
-pub scores-most : (p : Probe) (ns : List Name) (places found : List Hit) (taken : ℕ) → answerOf (queryOf p ns places) ≡ hits found taken → every (λ h. leb (h .score) mostScore) found ≡ true
+pub scores-most : (p : Probe) (t : Stretch) (ns : List Name) (places found : List Hit) (taken : ℕ) → answerOf (queryOf p t ns places) ≡ hits found taken → every (λ h. leb (h .score) mostScore) found ≡ true
 scores-most = scores-few
 
--- A query reports as many postings as partitions and buffer hold of its identifiers, those of a window under way too.
-pub taken-exact : (p : Probe) (ns : List Name) (places found : List Hit) (taken : ℕ) → answerOf (queryOf p ns places) ≡ hits found taken
-    → takenUp (words (p .card)) (p .state) (numbers (p .register) ns) ≡ taken
-taken-exact p ns places found taken e = query-answered p ns places found taken e .takenIs
+-- A query reports as many postings as the buffer and the partitions that its stretch reaches hold of its identifiers, whatever their window; none of a partition passed over.
+pub taken-exact : (p : Probe) (t : Stretch) (ns : List Name) (places found : List Hit) (taken : ℕ) → answerOf (queryOf p t ns places) ≡ hits found taken
+    → takenUp (words (p .card)) (readBy t (p .state)) (numbers (p .register) ns) ≡ taken
+taken-exact p t ns places found taken e = query-answered p t ns places found taken e .takenIs
+
+-- After every history these are the account's, where a partition is passed over by the lowest and the highest window of its own postings.
+pub taken-by-account : (c r : ℕ) → cardLength c ≡ true → registerLength r ≡ true → (cs : List Call) (t : Stretch) (ns : List Name) (places found : List Hit) (taken : ℕ)
+    → answerOf (queryOf (probeAfter c r cs) t ns places) ≡ hits found taken
+    → takenFrom (numbersOf (booksAfter c r cs .ledger .identifiers) ns) (account.readBy t (booksAfter c r cs .account)) ≡ taken
+taken-by-account c r cardFits registerFits cs t ns places found taken e = by-books c r cardFits registerFits cs t ns places found taken e .takenIs
 
 -- Places beyond the last hit keep their content.
-pub places-kept : (p : Probe) (ns : List Name) (places found : List Hit) (taken : ℕ) → answerOf (queryOf p ns places) ≡ hits found taken
-    → stateOf places (queryOf p ns places) ≡ fill found places
-places-kept p ns places found taken e = query-answered p ns places found taken e .leftIs
+pub places-kept : (p : Probe) (t : Stretch) (ns : List Name) (places found : List Hit) (taken : ℕ) → answerOf (queryOf p t ns places) ≡ hits found taken
+    → stateOf places (queryOf p t ns places) ≡ fill found places
+places-kept p t ns places found taken e = query-answered p t ns places found taken e .leftIs
 
 -- A mean loses nothing: quotient × F + remainder is the sum of the identifier's counts in the windows that show, the remainder is below F, and F is the number of those
 -- windows in which its count is above 0.
 pub mean-exact : (p : Probe) (n : Name) (quotient remainder divisor : ℕ) → answerOf (meanOf p n) ≡ mean quotient remainder divisor
-    → Divided (frequencyIn (words (p .card)) (p .state) (numbers (p .register) (n ∷ []))) (totalIn (words (p .card)) (p .state) (numbers (p .register) (n ∷ []))) quotient remainder divisor
+    → Divided (frequencyIn (words (p .card)) (readBy whole (p .state)) (numbers (p .register) (n ∷ []))) (totalIn (words (p .card)) (readBy whole (p .state)) (numbers (p .register) (n ∷ []))) quotient remainder divisor
 mean-exact = mean-answered
 
 -- After every history it is told, or refused with 4 or 15, as F and the sum of the ledger's closed windows say.
@@ -304,10 +326,12 @@ bad-plan = plan-bad
 pub plan-identifiers : (e : List ℕ) → length e ≡ 65 → badLength (identifierIn e) ≡ (eqb (size e) 0 || ltb 64 (size e))
 plan-identifiers = bad-size
 
--- Postings in order, written as a partition of any level to any blocks of the card, keep the layout and read back as they were.
+-- Postings in order, written as a partition of any level to any blocks of the card, keep the layout, lists and windows told by the header included, and read back as they were.
 pub written-reads-back : (W bs : List ℕ) (n level : ℕ) (ps : List Posting) → length W ≡ 1024 * n → onCard n bs ≡ true → different bs ≡ true → length bs ≡ blocksFor (lengthOf ps) → Writable ps
-    → (partitionRule (store W bs (encode level ps)) n (writtenAs bs level ps) ≡ true) × (postingsOf (store W bs (encode level ps)) (writtenAs bs level ps) ≡ ps)
-written-reads-back W bs n level ps long on once fits w = (rule-written W bs n level ps long on once fits w, postings-written W bs n level ps long on once fits w)
+    → (partitionRule (store W bs (encode level ps)) n (writtenAs bs level ps) ≡ true) × (listsRule (store W bs (encode level ps)) (writtenAs bs level ps) ≡ true)
+    × (postingsOf (store W bs (encode level ps)) (writtenAs bs level ps) ≡ ps)
+written-reads-back W bs n level ps long on once fits w =
+    (rule-written W bs n level ps long on once fits w, lists-written W bs n level ps long on once fits w, postings-written W bs n level ps long on once fits w)
 
 -- After every history all finished partitions keep the layout, in different blocks, and decode to the account's: what was buffered, and what merges gave.
 pub partitions-read-back : (c r : ℕ) → cardLength c ≡ true → registerLength r ≡ true → (cs : List Call)
@@ -316,6 +340,11 @@ pub partitions-read-back : (c r : ℕ) → cardLength c ≡ true → registerLen
 partitions-read-back c r cardFits registerFits cs =
     let x = history-left c r cardFits registerFits cs in
     (x .stored .holds .formed, x .stored .holds .portions ∙ ap (λ (e : Lists). e .account .partitions) (x .stands .same))
+
+-- After every history each record, and with it its header, tells the lowest and the highest window among its partition's own postings.
+pub records-tell-windows : (c r : ℕ) → cardLength c ≡ true → registerLength r ≡ true → (cs : List Call)
+    → every (λ p. spanRule p (postingsOf (words (probeAfter c r cs .card)) p)) (finished (probeAfter c r cs .state .partitions)) ≡ true
+records-tell-windows = spans-left
 
 -- After every history the signed counts stored under an identifier and a window add up to the ledger's count.
 pub sums-are-counts : (c r : ℕ) → cardLength c ≡ true → registerLength r ≡ true → (cs : List Call) (i w : ℕ)

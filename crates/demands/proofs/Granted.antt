@@ -2,13 +2,14 @@
 use Rattle.lists.proofs.Prelude.{Bool, true, false, _&&_, and-false, not, cond, List, [], _∷_, _++_, _≡_, refl, sym, ap, _∙_, subst, ℕ, _+_, _*_, _/_, _%_, _≤_, arith, leb, length, eqb-true, eqb-false, leb-false, le-leb, le-trans, lit≤, ltb, ltb-false, not-true, not-false, or-none, any, empty, every, keep, elem, different, down, by-test, and-left, and-right, and-both, every-from, every-keep, every-kept, every-elem, different-keep, eqb}
 use Rattle.lists.proofs.TopK.{different-down}
 use Rattle.words.specs.Words.{words}
+use Rattle.postings.specs.declared.Stretch.{Stretch}
 use Rattle.answers.specs.Answers.{Answer, done, number, hits, mean, forecast, refused, Outcome, refuse, leave, refuseIf, choose, answerOf, stateOf, carry}
 use Rattle.answers.specs.declared.Hit.{Hit}
 use Rattle.state.specs.declared.State.{State}
 use Rattle.state.specs.Views.{registerSize}
 use Rattle.state.specs.Rules.{stateRule}
 use Rattle.state.specs.Probe.{Probe, sameLength}
-use Rattle.state.specs.Shown.{shows, shown}
+use Rattle.state.specs.Shown.{within, shows, showsIn, shownIn}
 use Rattle.identifiers.specs.Names.{Name, badLength, among}
 use Rattle.identifiers.specs.Register.{names, registerRule, added}
 use Rattle.identifiers.proofs.Added.{good-length, names-added}
@@ -17,11 +18,13 @@ use Rattle.flushes.specs.Flush.{flushing, flushingIf}
 use Rattle.events.specs.Event.{isNew, eventOf}
 use Rattle.forecasts.specs.Outlook.{forecastOf}
 use Rattle.ranking.specs.Hits.{score, matching, ranked}
-use Rattle.ranking.specs.Asked.{badQuery}
-use Rattle.queries.specs.Query.{countIn, numbers, takenUp, queryFormed, hitsOf, fill, querying, queryOf}
+use Rattle.ranking.specs.Asked.{badQuery, badStretch}
+use Rattle.stretches.specs.Reached.{readBy, whole}
+use Rattle.queries.specs.Query.{countIn, numbers, takenUp, queryFormed, hitsOf, fill, querying, existingOn, queryOf}
 use Rattle.queries.proofs.Bounds.{formed-score}
 use Rattle.averages.specs.Average.{averaged}
-use Rattle.averages.proofs.Division.{whole, left-below}
+use Rattle.averages.proofs.Division as division
+use Rattle.averages.proofs.Division.{left-below}
 use Rattle.means.specs.Mean.{frequencyIn, totalIn, meaning, meanOf}
 use Rattle.engine.specs.Calls.{Forecast, probeCall}
 use Rattle.accounts.specs.Ledger.{including}
@@ -107,11 +110,11 @@ event-noted p n e = event-where p n .holds e
 -- ---- queries
 
 -- the hits answered, the postings taken, and the lent list; what was read is well formed, and no more than five identifiers were asked for
-pub record Answered (p : Probe) (ns : List Name) (places found : List Hit) (taken : ℕ) (left : List Hit) : Type 0 where
-  pub hitsAre : hitsOf (words (p .card)) (p .state) (length places) (numbers (p .register) ns) ≡ found
-  pub takenIs : takenUp (words (p .card)) (p .state) (numbers (p .register) ns) ≡ taken
+pub record Answered (p : Probe) (t : Stretch) (ns : List Name) (places found : List Hit) (taken : ℕ) (left : List Hit) : Type 0 where
+  pub hitsAre : hitsOf (words (p .card)) (readBy t (p .state)) t (existingOn p t) (length places) (numbers (p .register) ns) ≡ found
+  pub takenIs : takenUp (words (p .card)) (readBy t (p .state)) (numbers (p .register) ns) ≡ taken
   pub leftIs : left ≡ fill found places
-  pub formed : queryFormed (words (p .card)) (p .state) (p .register) (numbers (p .register) ns) ≡ true
+  pub formed : queryFormed (words (p .card)) (p .state) t (p .register) (numbers (p .register) ns) ≡ true
   pub few : length ns ≤ 5
 
 -- the hits of an answer, and the postings taken
@@ -137,24 +140,24 @@ unfolding badQuery
 asked-few k ns e = ltb-false 5 (length ns) (or-none (ltb 5 (length ns)) _ (or-none (empty ns) _ e .1) .0)
 
 -- an answer with these hits and postings taken
-query-last : (p : Probe) (ns : List Name) (places found : List Hit) (taken : ℕ) (hs : List Hit) (k : ℕ)
-    → hitsOf (words (p .card)) (p .state) (length places) (numbers (p .register) ns) ≡ hs → takenUp (words (p .card)) (p .state) (numbers (p .register) ns) ≡ k
-    → queryFormed (words (p .card)) (p .state) (p .register) (numbers (p .register) ns) ≡ true → length ns ≤ 5
-    → Where places (hits found taken) (Answered p ns places found taken) (leave (hits hs k) (fill hs places))
-query-last p ns places found taken hs k a b formed few = record {
+query-last : (p : Probe) (t : Stretch) (ns : List Name) (places found : List Hit) (taken : ℕ) (hs : List Hit) (k : ℕ)
+    → hitsOf (words (p .card)) (readBy t (p .state)) t (existingOn p t) (length places) (numbers (p .register) ns) ≡ hs → takenUp (words (p .card)) (readBy t (p .state)) (numbers (p .register) ns) ≡ k
+    → queryFormed (words (p .card)) (p .state) t (p .register) (numbers (p .register) ns) ≡ true → length ns ≤ 5
+    → Where places (hits found taken) (Answered p t ns places found taken) (leave (hits hs k) (fill hs places))
+query-last p t ns places found taken hs k a b formed few = record {
   holds = λ e. record { hitsAre = a ∙ ap listOf e; takenIs = b ∙ ap takenOf e; leftIs = ap (λ (l : List Hit). fill l places) (ap listOf e); formed = formed; few = few };
 }
 
-query-where : (p : Probe) (ns : List Name) (places found : List Hit) (taken : ℕ) → Where places (hits found taken) (Answered p ns places found taken) (queryOf p ns places)
+query-where : (p : Probe) (t : Stretch) (ns : List Name) (places found : List Hit) (taken : ℕ) → Where places (hits found taken) (Answered p t ns places found taken) (queryOf p t ns places)
 unfolding queryOf querying
-query-where p ns places found taken =
+query-where p t ns places found taken =
     where-if (hits-granted found taken) _ 1 _ λ _. where-if (hits-granted found taken) _ 2 _ λ _. where-if (hits-granted found taken) _ 3 _ λ three.
-    where-if (hits-granted found taken) _ 4 _ λ _. where-if (hits-granted found taken) _ 14 _ λ fourteen.
-    query-last p ns places found taken _ _ refl refl (not-false _ three) (asked-few (length places) ns fourteen)
+    where-if (hits-granted found taken) _ 4 _ λ _. where-if (hits-granted found taken) _ 14 _ λ fourteen. where-if (hits-granted found taken) _ 17 _ λ _.
+    query-last p t ns places found taken _ _ refl refl (not-false _ three) (asked-few (length places) ns fourteen)
 
-pub query-answered : (p : Probe) (ns : List Name) (places found : List Hit) (taken : ℕ) → answerOf (queryOf p ns places) ≡ hits found taken
-    → Answered p ns places found taken (stateOf places (queryOf p ns places))
-query-answered p ns places found taken e = query-where p ns places found taken .holds e
+pub query-answered : (p : Probe) (t : Stretch) (ns : List Name) (places found : List Hit) (taken : ℕ) → answerOf (queryOf p t ns places) ≡ hits found taken
+    → Answered p t ns places found taken (stateOf places (queryOf p t ns places))
+query-answered p t ns places found taken e = query-where p t ns places found taken .holds e
 
 -- the hits of the definition are a listing
 pub ranked-listing : {I : Type 0} (N : ℕ) (count : I → ℕ → ℕ) (windows : List ℕ) (k : ℕ) (is : List I) → different windows ≡ true → Listing N count windows k is (ranked N count windows k is)
@@ -165,61 +168,60 @@ ranked-listing N count windows k is once = record {
 }
 
 -- so are those of an answer
-pub answered-listing : (p : Probe) (ns : List Name) (places found : List Hit) (taken : ℕ) → answerOf (queryOf p ns places) ≡ hits found taken
-    → Listing (p .state .windows .live) (countIn (words (p .card)) (p .state)) (shown (p .state .windows)) (length places) (numbers (p .register) ns) found
-answered-listing p ns places found taken e =
-    subst (Listing (p .state .windows .live) (countIn (words (p .card)) (p .state)) (shown (p .state .windows)) (length places) (numbers (p .register) ns))
-    (ranked-is ∙ query-answered p ns places found taken e .hitsAre)
-    (ranked-listing (p .state .windows .live) (countIn (words (p .card)) (p .state)) (shown (p .state .windows)) (length places) (numbers (p .register) ns) once)
+pub answered-listing : (p : Probe) (t : Stretch) (ns : List Name) (places found : List Hit) (taken : ℕ) → answerOf (queryOf p t ns places) ≡ hits found taken
+    → Listing (existingOn p t) (countIn (words (p .card)) (readBy t (p .state))) (shownIn t (p .state .windows)) (length places) (numbers (p .register) ns) found
+answered-listing p t ns places found taken e =
+    subst (Listing (existingOn p t) (countIn (words (p .card)) (readBy t (p .state))) (shownIn t (p .state .windows)) (length places) (numbers (p .register) ns))
+    (ranked-is ∙ query-answered p t ns places found taken e .hitsAre)
+    (ranked-listing (existingOn p t) (countIn (words (p .card)) (readBy t (p .state))) (shownIn t (p .state .windows)) (length places) (numbers (p .register) ns) once)
   where
-    ranked-is : ranked (p .state .windows .live) (countIn (words (p .card)) (p .state)) (shown (p .state .windows)) (length places) (numbers (p .register) ns) ≡ hitsOf (words (p .card)) (p .state) (length places) (numbers (p .register) ns)
+    ranked-is : ranked (existingOn p t) (countIn (words (p .card)) (readBy t (p .state))) (shownIn t (p .state .windows)) (length places) (numbers (p .register) ns) ≡ hitsOf (words (p .card)) (readBy t (p .state)) t (existingOn p t) (length places) (numbers (p .register) ns)
     ranked-is = unfold hitsOf in refl
 
-    once : different (shown (p .state .windows)) ≡ true
-    once = unfold shown in different-keep (shows (p .state .windows .current)) (down 65535) (different-down 65535)
+    once : different (shownIn t (p .state .windows)) ≡ true
+    once = unfold shownIn in different-keep (showsIn t (p .state .windows .current)) (down 65535) (different-down 65535)
 
 -- what holds of each window that matches, with its score, holds of every hit
-hits-each : (p : Probe) (ns : List Name) (places found : List Hit) (taken : ℕ) → answerOf (queryOf p ns places) ≡ hits found taken → (t : Hit → Bool)
-    → ((h : Hit) → elem (h .window) (matching (p .state .windows .live) (countIn (words (p .card)) (p .state)) (shown (p .state .windows)) (numbers (p .register) ns)) ≡ true
-    → h .score ≡ score (p .state .windows .live) (countIn (words (p .card)) (p .state)) (shown (p .state .windows)) (numbers (p .register) ns) (h .window) → t h ≡ true) → every t found ≡ true
-hits-each p ns places found taken e t f =
-    let N = p .state .windows .live in
-    let count = countIn (words (p .card)) (p .state) in
-    let windows = shown (p .state .windows) in
+hits-each : (p : Probe) (t : Stretch) (ns : List Name) (places found : List Hit) (taken : ℕ) → answerOf (queryOf p t ns places) ≡ hits found taken → (u : Hit → Bool)
+    → ((h : Hit) → elem (h .window) (matching (existingOn p t) (countIn (words (p .card)) (readBy t (p .state))) (shownIn t (p .state .windows)) (numbers (p .register) ns)) ≡ true
+    → h .score ≡ score (existingOn p t) (countIn (words (p .card)) (readBy t (p .state))) (shownIn t (p .state .windows)) (numbers (p .register) ns) (h .window) → u h ≡ true) → every u found ≡ true
+hits-each p t ns places found taken e u f =
+    let N = existingOn p t in
+    let count = countIn (words (p .card)) (readBy t (p .state)) in
+    let windows = shownIn t (p .state .windows) in
     let is = numbers (p .register) ns in
-    let exact = answered-listing p ns places found taken e .exact in
+    let exact = answered-listing p t ns places found taken e .exact in
     every-from
     (λ h. elem (h .window) (matching N count windows is) && eqb (h .score) (scored N count windows is (h .window) .score))
     (λ h. elem (h .window) (matching N count windows is) && eqb (h .score) (scored N count windows is (h .window) .score))
-    t
+    u
     (λ h a b. f h (and-left _ _ a) (eqb-true _ _ (and-right (elem (h .window) (matching N count windows is)) _ a)))
     found
     exact
     exact
 
--- none of them is of the open window
-pub open-unlisted : (p : Probe) (ns : List Name) (places found : List Hit) (taken : ℕ) → answerOf (queryOf p ns places) ≡ hits found taken
-    → every (λ h. shows (p .state .windows .current) (h .window)) found ≡ true
-open-unlisted p ns places found taken e =
-    hits-each p ns places found taken e (λ h. shows o (h .window)) (λ h m q. every-elem (shows o) matched (h .window) all m)
+-- each is of a window of the stretch that shows
+pub hits-show : (p : Probe) (t : Stretch) (ns : List Name) (places found : List Hit) (taken : ℕ) → answerOf (queryOf p t ns places) ≡ hits found taken
+    → every (λ h. showsIn t (p .state .windows .current) (h .window)) found ≡ true
+hits-show p t ns places found taken e =
+    hits-each p t ns places found taken e (λ h. showsIn t o (h .window)) (λ h m q. every-elem (showsIn t o) matched (h .window) all m)
   where
     o : ℕ
     o = p .state .windows .current
 
     matched : List ℕ
-    matched = matching (p .state .windows .live) (countIn (words (p .card)) (p .state)) (shown (p .state .windows)) (numbers (p .register) ns)
+    matched = matching (existingOn p t) (countIn (words (p .card)) (readBy t (p .state))) (shownIn t (p .state .windows)) (numbers (p .register) ns)
 
-    -- a window that matches shows
-    all : every (shows o) matched ≡ true
-    all = unfold matching shown in every-keep _ (shows o) (keep (shows o) (down 65535)) (every-kept (shows o) (down 65535))
+    all : every (showsIn t o) matched ≡ true
+    all = unfold matching shownIn in every-keep _ (showsIn t o) (keep (showsIn t o) (down 65535)) (every-kept (showsIn t o) (down 65535))
 
 -- nor is a score above that of five identifiers
-pub scores-few : (p : Probe) (ns : List Name) (places found : List Hit) (taken : ℕ) → answerOf (queryOf p ns places) ≡ hits found taken → every (λ h. leb (h .score) mostScore) found ≡ true
-scores-few p ns places found taken e =
-    let a = query-answered p ns places found taken e in
-    hits-each p ns places found taken e (λ h. leb (h .score) mostScore)
+pub scores-few : (p : Probe) (t : Stretch) (ns : List Name) (places found : List Hit) (taken : ℕ) → answerOf (queryOf p t ns places) ≡ hits found taken → every (λ h. leb (h .score) mostScore) found ≡ true
+scores-few p t ns places found taken e =
+    let a = query-answered p t ns places found taken e in
+    hits-each p t ns places found taken e (λ h. leb (h .score) mostScore)
     (λ h m q.
-    let most = formed-score (words (p .card)) (p .state) (p .register) ns (p .state .windows .live) (shown (p .state .windows)) (h .window) (a .formed) (a .few) in
+    let most = formed-score (words (p .card)) (p .state) t (p .register) ns (existingOn p t) (shownIn t (p .state .windows)) (h .window) (a .formed) (a .few) in
     rw q (le-leb _ mostScore (le-trans most (lit≤ tt))))
 
 -- ---- means
@@ -234,7 +236,7 @@ mean-last f t q r d some e =
     let a : t / f ≡ q = cc in
     let b : t % f ≡ r = cc in
     let c : f ≡ d = cc in
-    record { sum = rw (← a, ← b, ← c) (whole t f); below = rw (← b, ← c) (left-below t f (omega arith)); windows = sym c }
+    record { sum = rw (← a, ← b, ← c) (division.whole t f); below = rw (← b, ← c) (left-below t f (omega arith)); windows = sym c }
 
 mean-where : (p : Probe) (n : Name) (f t q r d : ℕ) → Where tt (mean q r d) (λ (u : Unit {0}). Divided f t q r d) (meaning p n f t)
 unfolding meaning
@@ -244,7 +246,7 @@ mean-where p n f t q r d =
     record { holds = λ e. mean-last f t q r d some e }
 
 pub mean-answered : (p : Probe) (n : Name) (q r d : ℕ) → answerOf (meanOf p n) ≡ mean q r d
-    → Divided (frequencyIn (words (p .card)) (p .state) (numbers (p .register) (n ∷ []))) (totalIn (words (p .card)) (p .state) (numbers (p .register) (n ∷ []))) q r d
+    → Divided (frequencyIn (words (p .card)) (readBy whole (p .state)) (numbers (p .register) (n ∷ []))) (totalIn (words (p .card)) (readBy whole (p .state)) (numbers (p .register) (n ∷ []))) q r d
 unfolding meanOf
 mean-answered p n q r d e = mean-where p n _ _ q r d .holds e
 
@@ -260,6 +262,11 @@ unfolding refuseIf
 refuse-later true n o a e f = f
 refuse-later false n o a e f = absurd (let z : _≡_ {A = ℕ} 0 1 = cc in omega arith)
 
+refuse-not : {S : Type 0} (t : Bool) (n : ℕ) (o : Outcome S) (a : Answer) → t ≡ false → answerOf o ≡ a → answerOf (refuseIf t n o) ≡ a
+unfolding refuseIf
+refuse-not true n o a e f = absurd (let z : _≡_ {A = ℕ} 0 1 = cc in omega arith)
+refuse-not false n o a e f = f
+
 pub event-bad : (p : Probe) (n : Name) → Fit p → badLength n ≡ true → answerOf (eventOf p n) ≡ refused 4
 unfolding eventOf
 event-bad p n s bad =
@@ -268,16 +275,26 @@ event-bad p n s bad =
     (refuse-later _ 3 _ (refused 4) (s .entries)
     (refuse-now _ 4 _ bad)))
 
-pub query-bad : (p : Probe) (ns : List Name) (places : List Hit) → Fit p → queryFormed (words (p .card)) (p .state) (p .register) (numbers (p .register) ns) ≡ true
-    → any badLength ns ≡ true → answerOf (queryOf p ns places) ≡ refused 4
+pub query-bad : (p : Probe) (t : Stretch) (ns : List Name) (places : List Hit) → Fit p → queryFormed (words (p .card)) (p .state) t (p .register) (numbers (p .register) ns) ≡ true
+    → any badLength ns ≡ true → answerOf (queryOf p t ns places) ≡ refused 4
 unfolding queryOf querying
-query-bad p ns places s formed bad =
+query-bad p t ns places s formed bad =
     refuse-later _ 1 _ (refused 4) (s .state)
     (refuse-later _ 2 _ (refused 4) (and-both (sameLength (p .card) (p .state .lengths .card)) _ (s .card) (s .register))
     (refuse-later _ 3 _ (refused 4) formed
     (refuse-now _ 4 _ bad)))
 
-pub mean-bad : (p : Probe) (n : Name) → Fit p → queryFormed (words (p .card)) (p .state) (p .register) (numbers (p .register) (n ∷ [])) ≡ true
+-- a query of a stretch whose first window exceeds its last
+pub query-stretch : (p : Probe) (t : Stretch) (ns : List Name) (places : List Hit) → Fit p → queryFormed (words (p .card)) (p .state) t (p .register) (numbers (p .register) ns) ≡ true
+    → any badLength ns ≡ false → badQuery (length places) ns ≡ false → badStretch t ≡ true → answerOf (queryOf p t ns places) ≡ refused 17
+unfolding queryOf querying
+query-stretch p t ns places s formed good fine bad =
+    refuse-later _ 1 _ (refused 17) (s .state)
+    (refuse-later _ 2 _ (refused 17) (and-both (sameLength (p .card) (p .state .lengths .card)) _ (s .card) (s .register))
+    (refuse-later _ 3 _ (refused 17) formed
+    (refuse-not _ 4 _ (refused 17) good (refuse-not _ 14 _ (refused 17) fine (refuse-now _ 17 _ bad)))))
+
+pub mean-bad : (p : Probe) (n : Name) → Fit p → queryFormed (words (p .card)) (p .state) whole (p .register) (numbers (p .register) (n ∷ [])) ≡ true
     → badLength n ≡ true → answerOf (meanOf p n) ≡ refused 4
 unfolding meanOf meaning
 mean-bad p n s formed bad =

@@ -1,6 +1,7 @@
 -- Calls in a row that keep the promises of the public functions are the calls on one probe: the same answers, and the same probe between them.
 use Rattle.lists.proofs.Prelude.{Bool, true, false, _&&_, List, _∷_, _≡_, refl, sym, ap, ap₂, _∙_, ℕ, arith, length, replicate, length-replicate}
 use Rattle.words.specs.Words.{words}
+use Rattle.postings.specs.declared.Stretch.{Stretch}
 use Rattle.answers.specs.Answers.{Answer, done, refused, Outcome, refuse, leave, refuseIf, hits, answerOf, stateOf, carry}
 use Rattle.answers.specs.Numbers.{foundAs, averagedAs, forecastAs}
 use Rattle.answers.specs.declared.Found.{Found}
@@ -16,9 +17,10 @@ use Rattle.windows.specs.Calls.{fresh, startOf, unstarted, openOf, closeOf}
 use Rattle.events.specs.Event.{eventOf}
 use Rattle.flushes.specs.Flush.{flushOf}
 use Rattle.windows.specs.Promises.{Gives, storeOf, probeOf}
-use Rattle.queries.specs.Query.{numbers, takenUp, hitsOf, querying, queryOf}
+use Rattle.stretches.specs.Reached.{readBy}
+use Rattle.queries.specs.Query.{numbers, takenUp, hitsOf, querying, existingOn, queryOf}
 use Rattle.ranking.specs.Asked.{badQuery}
-use Rattle.queries.specs.Finds.{Finds}
+use Rattle.queries.specs.Finds.{answered, Finds}
 use Rattle.ranking.specs.declared.Top.{Top}
 use Rattle.means.specs.Mean.{meaning, meanOf}
 use Rattle.forecasts.specs.Outlook.{forecastOf}
@@ -49,15 +51,18 @@ same-if false false n o p e f = f
 same-if true false n o p e f = absurd (let z : _≡_ {A = ℕ} 0 1 = cc in omega arith)
 same-if false true n o p e f = absurd (let z : _≡_ {A = ℕ} 0 1 = cc in omega arith)
 
-query-any : (p : Probe) (ns : List Name) (places others : List Hit) → length places ≡ length others → answerOf (queryOf p ns places) ≡ answerOf (queryOf p ns others)
+query-any : (p : Probe) (t : Stretch) (ns : List Name) (places others : List Hit) → length places ≡ length others → answerOf (queryOf p t ns places) ≡ answerOf (queryOf p t ns others)
 unfolding queryOf querying
-query-any p ns places others e =
+query-any p t ns places others e =
     same-if _ _ 1 _ _ refl
     (same-if _ _ 2 _ _ refl
     (same-if _ _ 3 _ _ refl
     (same-if _ _ 4 _ _ refl
     (same-if _ _ 14 _ _ (ap (λ k. badQuery k ns) e)
-    (ap (λ k. hits (hitsOf (words (p .card)) (p .state) k (numbers (p .register) ns)) (takenUp (words (p .card)) (p .state) (numbers (p .register) ns))) e)))))
+    (same-if _ _ 17 _ _ refl
+    (ap
+    (λ k. hits (hitsOf (words (p .card)) (readBy t (p .state)) t (existingOn p t) k (numbers (p .register) ns)) (takenUp (words (p .card)) (readBy t (p .state)) (numbers (p .register) ns)))
+    e))))))
 
 -- the mean of a call
 pub mean-called : (p : Probe) (n : Name) → answerOf (meanOf p n) ≡ answerOf (probeCall p (Mean n))
@@ -65,11 +70,11 @@ unfolding probeCall
 mean-called p n = sym (answer-carry (λ (u : Unit {0}). p) (meanOf p n))
 
 -- the query of a call, for whatever list is lent
-pub query-called : (p : Probe) (ns : List Name) (places : List Hit) → answerOf (queryOf p ns places) ≡ answerOf (probeCall p (Query (length places) ns))
+pub query-called : (p : Probe) (t : Stretch) (ns : List Name) (places : List Hit) → answerOf (queryOf p t ns places) ≡ answerOf (probeCall p (Query (length places) t ns))
 unfolding probeCall
-query-called p ns places =
-    query-any p ns places (replicate (length places) noHit) (sym (length-replicate (length places) noHit))
-    ∙ sym (answer-carry (λ (l : List Hit). p) (queryOf p ns (replicate (length places) noHit)))
+query-called p t ns places =
+    query-any p t ns places (replicate (length places) noHit) (sym (length-replicate (length places) noHit))
+    ∙ sym (answer-carry (λ (l : List Hit). p) (queryOf p t ns (replicate (length places) noHit)))
 
 -- ---- in a row
 
@@ -115,16 +120,16 @@ module _ (p : Probe) where
   step-is x t g = on-card _ x t g
 
   -- a query leaves the probe, and answers by how many places there are
-  query-left : (k : ℕ) (ns : List Name) → p ≡ stateOf p (probeCall p (Query k ns))
+  query-left : (k : ℕ) (t : Stretch) (ns : List Name) → p ≡ stateOf p (probeCall p (Query k t ns))
   unfolding probeCall
-  query-left k ns = sym (state-carry (λ (l : List Hit). p) (replicate k noHit) (queryOf p ns (replicate k noHit)))
+  query-left k t ns = sym (state-carry (λ (l : List Hit). p) (replicate k noHit) (queryOf p t ns (replicate k noHit)))
 
-  query-is : (ns : List Name) (places : List Hit) (x : Answer) (l : List Hit) → Gives places (queryOf p ns places) x l → Is p (Query (length places) ns) x p
-  query-is ns places x l g = (g .answer ∙ query-called p ns places, query-left (length places) ns)
+  query-is : (t : Stretch) (ns : List Name) (places : List Hit) (x : Answer) (l : List Hit) → Gives places (queryOf p t ns places) x l → Is p (Query (length places) t ns) x p
+  query-is t ns places x l g = (g .answer ∙ query-called p t ns places, query-left (length places) t ns)
 
-  value-is : (ns : List Name) (k : ℕ) (a : Found) (t : Top) → Finds p ns k a t → Is p (Query k ns) (foundAs a (t .hits)) p
+  value-is : (t : Stretch) (ns : List Name) (k : ℕ) (a : Found) (u : Top) → Finds (answered p t ns k) k a u → Is p (Query k t ns) (foundAs a (u .hits)) p
   unfolding probeCall
-  value-is ns k a t f = (f .answer ∙ sym (answer-carry (λ (l : List Hit). p) (queryOf p ns (replicate k noHit))), query-left k ns)
+  value-is t ns k a u f = (f .answer ∙ sym (answer-carry (λ (l : List Hit). p) (queryOf p t ns (replicate k noHit))), query-left k t ns)
 
   -- a mean leaves it too
   mean-is : (n : Name) (a : Averaged) → averagedAs a ≡ answerOf (meanOf p n) → Is p (Mean n) (averagedAs a) p
@@ -152,10 +157,10 @@ row-run (removing {s} {card} {register} {cs} {told} {window} r {card′} g row) 
 row-run (removingAll {s} {card} {register} {cs} {told} {windows} r {card′} g row) = follow _ (RemoveAll windows) cs _ (probeOf (r .state) card′ register) told (remove-all-is (probeOf s card register) windows _ _ g) (row-run row)
 row-run (flushing {s} {card} {register} {cs} {told} r {card′} g row) = follow _ Flush cs _ (probeOf (r .state) card′ register) told (flush-is (probeOf s card register) _ _ g) (row-run row)
 row-run (stepping {s} {card} {register} {cs} {told} r {card′} g row) = follow _ Step cs _ (probeOf (r .state) card′ register) told (step-is (probeOf s card register) _ _ g) (row-run row)
-row-run (asking {s} {card} {register} {cs} {told} {ids} {hits} r g row) =
-    follow _ (Query (length hits) ids) cs _ _ told (query-is (probeOf s card register) ids hits _ _ (g .0)) (row-run row)
-row-run (askingValue {s} {card} {register} {cs} {told} {ids} {places} r g row) =
-    follow _ (Query places ids) cs _ _ told (value-is (probeOf s card register) ids places (r .answer) (r .top) g) (row-run row)
+row-run (asking {s} {card} {register} {cs} {told} {stretch} {ids} {hits} r g row) =
+    follow _ (Query (length hits) stretch ids) cs _ _ told (query-is (probeOf s card register) stretch ids hits _ _ (g .0)) (row-run row)
+row-run (askingValue {s} {card} {register} {cs} {told} {stretch} {ids} {places} r g row) =
+    follow _ (Query places stretch ids) cs _ _ told (value-is (probeOf s card register) stretch ids places (r .answer) (r .top) g) (row-run row)
 row-run (averaging {s} {card} {register} {cs} {told} {id} r g row) = follow _ (Mean id) cs _ _ told (mean-is (probeOf s card register) id r g) (row-run row)
 row-run (foretelling {s} {card} {register} {cs} {told} {plan} {counts} r g row) =
     follow _ (calls.Forecast plan counts) cs _ _ told (forecast-is (probeOf s card register) plan counts r g) (row-run row)
@@ -188,7 +193,7 @@ all-unstarted card register (Remove w) = rw zeros-broken
 all-unstarted card register (RemoveAll ws) = rw zeros-broken
 all-unstarted card register Flush = rw zeros-broken
 all-unstarted card register Step = rw zeros-broken
-all-unstarted card register (Query k ns) = rw zeros-broken
+all-unstarted card register (Query k t ns) = rw zeros-broken
 all-unstarted card register (Mean n) = rw zeros-broken
 all-unstarted card register (calls.Forecast plan counts) = rw zeros-broken
 

@@ -22,7 +22,7 @@ use Rattle.identifiers.specs.Names.{Name}
 use Rattle.windows.specs.Promises.{Gives, storeOf, probeOf}
 use Rattle.windows.specs.declared.Opening.{Opening}
 use Rattle.windows.specs.declared.Replied.{Replied}
-use Rattle.queries.specs.Finds.{hitsIn, answered, Finds}
+use Rattle.queries.specs.Finds.{hitsIn, Finds}
 use Rattle.queries.specs.declared.Answered.{Answered}
 use Rattle.ranking.specs.declared.Top.{Top}
 use Rattle.hits.specs.Lent.{hitCount}
@@ -145,17 +145,17 @@ one-list x y c d g h m n =
     (sym (found-back x c m) ∙ ap foundOf (e .0) ∙ found-back y d n, e .1)
 
 -- of a query by value
-finds-fits : (p : Probe) (ns : List Name) (k : ℕ) (a : Found) (t : Top) → Finds p ns k a t → hitCount a ≤ length (t .hits)
-finds-fits p ns k (found.Hits n taken) t f =
+finds-fits : (x : Answer) (k : ℕ) (a : Found) (t : Top) → Finds x k a t → hitCount a ≤ length (t .hits)
+finds-fits x k (found.Hits n taken) t f =
     let e : n ≡ t .used = f .used n taken refl in
-    let u : t .used ≡ length (hitsIn (answered p ns k)) = ap (λ (x : Top). x .used) (f .kept) in
-    let l : length (hitsIn (answered p ns k)) ≤ length (t .hits) = rw (ap (λ (x : Top). x .hits) (f .kept)) (simp length-append (omega arith)) in
+    let u : t .used ≡ length (hitsIn x) = ap (λ (u : Top). u .used) (f .kept) in
+    let l : length (hitsIn x) ≤ length (t .hits) = rw (ap (λ (u : Top). u .hits) (f .kept)) (simp length-append (omega arith)) in
     omega arith
-finds-fits p ns k (found.Refused w) t f = omega arith
+finds-fits x k (found.Refused w) t f = omega arith
 
-pub one-found : (p : Probe) (ns : List Name) (k : ℕ) (x y : Answered) → Finds p ns k (x .answer) (x .top) → Finds p ns k (y .answer) (y .top) → x ≡ y
-one-found p ns k x y f g =
+pub one-found : (told : Answer) (k : ℕ) (x y : Answered) → Finds told k (x .answer) (x .top) → Finds told k (y .answer) (y .top) → x ≡ y
+one-found told k x y f g =
     ap₂ (λ (a : Found) (t : Top). record { answer = a; top = t })
-    (sym (found-back (x .answer) (x .top .hits) (finds-fits p ns k (x .answer) (x .top) f)) ∙ ap foundOf (f .answer ∙ sym (g .answer))
-    ∙ found-back (y .answer) (y .top .hits) (finds-fits p ns k (y .answer) (y .top) g))
+    (sym (found-back (x .answer) (x .top .hits) (finds-fits told k (x .answer) (x .top) f)) ∙ ap foundOf (f .answer ∙ sym (g .answer))
+    ∙ found-back (y .answer) (y .top .hits) (finds-fits told k (y .answer) (y .top) g))
     (f .kept ∙ sym (g .kept))

@@ -2,6 +2,7 @@
 use mathlib.Core.List.{List, [], _∷_}
 use Prim.Native.Nat.{ℕ}
 use lib.ListN.{length}
+use Rattle.postings.specs.declared.Stretch.{Stretch}
 use Rattle.answers.specs.Answers.{Answer}
 use Rattle.answers.specs.Numbers.{replied, openedAs, foundAs, averagedAs, forecastAs}
 use Rattle.answers.specs.declared.Found.{Found}
@@ -44,11 +45,11 @@ pub data Row : State → List ℕ → List ℕ → List Call → List Answer →
   stepping : {s : State} {card register : List ℕ} {cs : List Call} {told : List Answer} (r : Replied) {card′ : List ℕ}
       → Steps s card r card′ → Row (r .state) card′ register cs told → Row s card register (Step ∷ cs) (replied (r .reply) ∷ told)
   -- a query: a list of any content is lent, and has the hits at exit
-  asking : {s : State} {card register : List ℕ} {cs : List Call} {told : List Answer} {ids : List Name} {hits : List Hit} (r : Found) {hits′ : List Hit}
-      → Asks s card register ids hits r hits′ → Row s card register cs told → Row s card register (Query (length hits) ids ∷ cs) (foundAs r hits′ ∷ told)
+  asking : {s : State} {card register : List ℕ} {cs : List Call} {told : List Answer} {stretch : Stretch} {ids : List Name} {hits : List Hit} (r : Found) {hits′ : List Hit}
+      → Asks s card register stretch ids hits r hits′ → Row s card register cs told → Row s card register (Query (length hits) stretch ids ∷ cs) (foundAs r hits′ ∷ told)
   -- or so many places are asked for, and the hits are in the result
-  askingValue : {s : State} {card register : List ℕ} {cs : List Call} {told : List Answer} {ids : List Name} {places : ℕ} (r : Answered)
-      → AsksValue s card register ids places r → Row s card register cs told → Row s card register (Query places ids ∷ cs) (foundAs (r .answer) (r .top .hits) ∷ told)
+  askingValue : {s : State} {card register : List ℕ} {cs : List Call} {told : List Answer} {stretch : Stretch} {ids : List Name} {places : ℕ} (r : Answered)
+      → AsksValue s card register stretch ids places r → Row s card register cs told → Row s card register (Query places stretch ids ∷ cs) (foundAs (r .answer) (r .top .hits) ∷ told)
   -- a mean
   averaging : {s : State} {card register : List ℕ} {cs : List Call} {told : List Answer} {id : Name} (r : Averaged)
       → Averages s card register id r → Row s card register cs told → Row s card register (Mean id ∷ cs) (averagedAs r ∷ told)

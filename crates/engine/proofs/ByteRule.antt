@@ -245,6 +245,6 @@ call-moved p small c = go c
     go (RemoveAll vs) = after-carry P (withStore p) (storeIn p) p (removeAllOf (storeIn p) vs) same (filled-moved (removals-filled (storeIn p) w vs))
     go Flush = after-carry P (withStore p) (storeIn p) p (flushOf (storeIn p)) same (filled-moved (flush-filled (storeIn p) w))
     go Step = after-carry P (withStore p) (storeIn p) p (stepOf (storeIn p)) same (step-moved (storeIn p) w)
-    go (Query k ns) = after-carry P (λ (l : List Hit). p) (replicate k noHit) p (queryOf p ns (replicate k noHit)) same same
+    go (Query k t ns) = after-carry P (λ (l : List Hit). p) (replicate k noHit) p (queryOf p t ns (replicate k noHit)) same same
     go (Mean n) = after-carry P (λ (u : Unit {0}). p) tt p (meanOf p n) same same
     go (Forecast plan counts) = after-carry P (λ (u : Unit {0}). p) tt p (forecastOf (p .state) (p .register) plan counts) same same

@@ -32,8 +32,8 @@ call-unchanged p (Remove w) = unchanged-carry (withStore p) (storeIn p) p (remov
 call-unchanged p (RemoveAll ws) = unchanged-carry (withStore p) (storeIn p) p (removeAllOf (storeIn p) ws) refl (batch-unchanged (storeIn p) ws)
 call-unchanged p Flush = unchanged-carry (withStore p) (storeIn p) p (flushOf (storeIn p)) refl (flush-unchanged (storeIn p))
 call-unchanged p Step = unchanged-carry (withStore p) (storeIn p) p (stepOf (storeIn p)) refl (step-unchanged (storeIn p))
-call-unchanged p (Query k ns) =
-    unchanged-carry (λ (l : List Hit). p) (replicate k noHit) p (queryOf p ns (replicate k noHit)) refl (query-unchanged p ns (replicate k noHit))
+call-unchanged p (Query k t ns) =
+    unchanged-carry (λ (l : List Hit). p) (replicate k noHit) p (queryOf p t ns (replicate k noHit)) refl (query-unchanged p t ns (replicate k noHit))
 call-unchanged p (Mean n) = unchanged-carry (λ (u : Unit {0}). p) tt p (meanOf p n) refl (mean-unchanged p n)
 call-unchanged p (Forecast plan counts) =
     unchanged-carry (λ (u : Unit {0}). p) tt p (forecastOf (p .state) (p .register) plan counts) refl (forecast-unchanged (p .state) (p .register) plan counts)

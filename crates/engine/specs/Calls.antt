@@ -42,7 +42,7 @@ probeCall p (Remove w) = carry (withStore p) (removeOf (storeIn p) w)
 probeCall p (RemoveAll ws) = carry (withStore p) (removeAllOf (storeIn p) ws)
 probeCall p Flush = carry (withStore p) (flushOf (storeIn p))
 probeCall p Step = carry (withStore p) (stepOf (storeIn p))
-probeCall p (Query k ns) = carry (λ (l : List Hit). p) (queryOf p ns (replicate k noHit))
+probeCall p (Query k t ns) = carry (λ (l : List Hit). p) (queryOf p t ns (replicate k noHit))
 probeCall p (Mean n) = carry (λ (u : Unit {0}). p) (meanOf p n)
 probeCall p (Forecast plan counts) = carry (λ (u : Unit {0}). p) (forecastOf (p .state) (p .register) plan counts)
 

@@ -3,7 +3,10 @@ use Rattle.lists.proofs.Prelude.{true, false, not, _&&_, true≢false, List, []
 use Rattle.lists.proofs.Stores.{joined-append}
 use Rattle.words.specs.Words.{allOnes}
 use Rattle.postings.specs.declared.Posting.{Posting}
+use Rattle.postings.specs.Order.{ordered}
 use Rattle.postings.specs.Merge.{isZero}
+use Rattle.postings.specs.Spans.{lowest, highest}
+use Rattle.postings.proofs.Spans.{lowest-some, span-some}
 use Rattle.state.specs.declared.Windows.{Windows}
 use Rattle.state.specs.declared.Buffer.{Buffer}
 use Rattle.state.specs.declared.Partition.{Partition}
@@ -13,11 +16,11 @@ use Rattle.state.proofs.Kept.{posting-kept, buffer-kept}
 use Rattle.card.specs.Blocks.{isFree, onCard}
 use Rattle.blocks.specs.Writes.{store}
 use Rattle.blocks.proofs.Stores.{apart}
-use Rattle.partitions.specs.Layout.{lengthOf, encode}
+use Rattle.partitions.specs.Layout.{encode, recordOf}
 use Rattle.partitions.specs.Reading.{chainOf, postingsOf, inPartitions}
-use Rattle.partitions.specs.Formed.{partitionRule, chainsOf, partitionsFormed, listRule, inRange, Writable}
+use Rattle.partitions.specs.Formed.{partitionRule, chainsOf, partitionsFormed, listRule, listsRule, inRange, Writable}
 use Rattle.partitions.proofs.Lengths.{one-block}
-use Rattle.partitions.proofs.Kept.{AgreeAll, chain-written, rule-written, postings-written, chains-kept, all-kept, formed-kept, store-keeps, rules-apart}
+use Rattle.partitions.proofs.Kept.{AgreeAll, chain-written, rule-written, postings-written, lists-written, chains-kept, all-kept, formed-kept, store-keeps, rules-apart}
 
 -- what a buffer that keeps its rule holds can be written
 pub buffer-writable : (w : Windows) (b : Buffer) → bufferRule w b ≡ true → length (b .postings) ≡ 128 → 1 ≤ b .used → Writable (buffered b)
@@ -35,9 +38,20 @@ buffer-writable w b e long h =
       fitting = every-from (postingRule w) (postingRule w) (λ p. inRange (p .count)) (λ p u v. le-leb _ _ (posting-kept w p u .small)) (buffered b) r r;
     }
 
+-- a list that may be used has no window 0
+pub list-windows : (l : List Posting) → listRule l ≡ true → every (λ q. leb 1 (q .window)) l ≡ true
+unfolding listRule
+list-windows l e =
+    let r = and-right (ordered l) _ e in
+    every-from (λ (q : Posting). leb 1 (q .window) && not (isZero (q .count))) (λ (q : Posting). leb 1 (q .window) && not (isZero (q .count))) (λ q. leb 1 (q .window)) (λ q a b. and-left (leb 1 (q .window)) _ a) l r r
+
+-- the windows of what can be written are those of a record
+pub writable-span : (ps : List Posting) → Writable ps → (1 ≤ lowest ps) × (lowest ps ≤ highest ps)
+writable-span ps w = (lowest-some ps (list-windows ps (w .formed)), span-some ps (w .some))
+
 -- the record of a flush to block b
 abbrev pub flushRecord : ℕ → List Posting → Partition
-flushRecord b ps = record { first = b; level = 0; length = lengthOf ps }
+flushRecord b ps = recordOf b 0 ps
 
 -- the card after it
 abbrev pub flushCard : List ℕ → ℕ → List Posting → List ℕ
@@ -73,6 +87,10 @@ module _ (W : List ℕ) (n b : ℕ) (ps : List Posting) (long : length W ≡ 102
     -- its postings are those that were buffered
     pub flush-postings : postingsOf (flushCard W b ps) (flushRecord b ps) ≡ ps
     flush-postings = postings-written W (b ∷ []) n 0 ps long on-card refl (sym (one-block ps few)) w
+
+    -- and all its lists keep their rule
+    pub flush-lists : listsRule (flushCard W b ps) (flushRecord b ps) ≡ true
+    flush-lists = lists-written W (b ∷ []) n 0 ps long on-card refl (sym (one-block ps few)) w
 
     -- with other finished partitions
     module _ (qs : List Partition) (most : n ≤ allOnes) (free : isFree W b ≡ true) (formed : partitionsFormed W n qs ≡ true) where

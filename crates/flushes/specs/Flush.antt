@@ -16,7 +16,7 @@ use Rattle.state.specs.Levels.{ofLevel}
 use Rattle.card.specs.Blocks.{freeBlocks}
 use Rattle.card.specs.Chains.{blocksFor}
 use Rattle.blocks.specs.Writes.{store}
-use Rattle.partitions.specs.Layout.{lengthOf, encode}
+use Rattle.partitions.specs.Layout.{encode, recordOf}
 use Rattle.state.specs.Rules.{stateRule}
 use Rattle.state.specs.Probe.{Store, sameLength, storeOf}
 use Rattle.answers.specs.Numbers.{replied}
@@ -32,7 +32,7 @@ unfoldable pub flushedTo : State → ℕ → State
 flushedTo s b =
     withTaken
     (withPartitions (withBuffer s (bufferOf []))
-    (partitionsOf (finished (s .partitions) ++ (record { first = b; level = 0; length = lengthOf (buffered (s .buffer)) } ∷ []))))
+    (partitionsOf (finished (s .partitions) ++ (recordOf b 0 (buffered (s .buffer)) ∷ []))))
     b
 
 -- the free block that a flush takes

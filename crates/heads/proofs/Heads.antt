@@ -1,5 +1,5 @@
 -- One head: put, taken, and moved.
-use Rattle.lists.proofs.Prelude.{true, _&&_, List, [], _∷_, map, _≡_, refl, sym, ap, _∙_, subst, ℕ, zero, suc, _+_, _-_, _*_, _/_, _%_, _<_, _≤_, arith, eqb, ltb, pos, length, getD, set, take, drop, getD-take, getD-drop, drop-cons, eq-eqb, ne-eqb, lt-ltb, le-ltb, ltb-true, ltb-false, by-test}
+use Rattle.lists.proofs.Prelude.{true, _&&_, List, [], _∷_, map, _≡_, refl, sym, ap, _∙_, subst, ℕ, zero, suc, _+_, _-_, _*_, _/_, _%_, _<_, _≤_, arith, eqb, ltb, pos, length, getD, set, take, drop, drop-cons, eq-eqb, ne-eqb, lt-ltb, le-ltb, ltb-true, ltb-false, by-test}
 use Rattle.keyed.specs.Keys.{Item, reach, rest, headVal, headFine}
 use Rattle.postings.specs.Pack.{wordCount, wordWindow, isPosting}
 use Rattle.card.specs.declared.Cursor.{Cursor}
@@ -7,6 +7,7 @@ use Rattle.card.specs.Blocks.{link}
 use Rattle.card.specs.Cursors.{aheadAt, ahead, Good, headOf, movedOf}
 use Rattle.card.proofs.Cursors.{ahead-more, in-block, in-card, link-in, good-moved}
 use Rattle.kway.specs.Parts.{part}
+use Rattle.kway.proofs.Parts.{first-of}
 use Rattle.heads.specs.Heads.{itemOf, cursorAt, wordAt, comes, Lies, coming, view, Kept}
 
 -- four numbers
@@ -195,6 +196,4 @@ viewed W R h xs e = rw e
 
 -- the reach of head i
 pub reach-at : (W R H : List ℕ) (i : ℕ) → Kept W R (part 4 i H) → getD H (4 * i) 0 ≡ reach (view W R (part 4 i H))
-reach-at W R H i g =
-    let z : 4 * i + 0 ≡ 4 * i = omega arith in
-    sym (getD-take 4 (drop (4 * i) H) 0 0 (omega arith) ∙ getD-drop (4 * i) H 0 0 ∙ ap (λ (j : ℕ). getD H j 0) z) ∙ g .top
+reach-at W R H i g = sym (first-of 4 i H (omega arith)) ∙ g .top

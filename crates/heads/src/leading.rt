@@ -1,4 +1,6 @@
 // One list leads: as long as no other list has the key, its head alone is looked at.
+use kway::Lead;
+use kway::Led;
 ghost use mathlib.Core.Path.{_≡_};
 ghost use mathlib.Core.List.{map};
 ghost use Prim.Native.Nat.{_*_, _≤_, _<_};
@@ -7,25 +9,9 @@ ghost use lib.Signed.{mag};
 ghost use Rattle.lists.specs.All.{AllOf};
 ghost use Rattle.keyed.specs.Keys.{rest, topFrom, headVals, headsFine};
 ghost use Rattle.words.specs.Words.{words as wordsOf};
+ghost use Rattle.kway.specs.Leads.{Leads};
 ghost use Rattle.kway.specs.Parts.{parts};
 ghost use Rattle.heads.specs.Heads.{Kept, views};
-ghost use Rattle.heads.specs.Leads.{Leads};
-
-// One more than the greatest key at any head, a list that has it, and one more than the greatest key at the others.
-pub struct Lead {
-    pub top: u32,
-    pub at: u32,
-    pub others: u32,
-}
-
-// What is taken of all lists under a key, and the list that leads afterwards.
-pub struct Led {
-    pub sum: i32,
-    pub fine: bool,
-    pub next: u32,
-    pub at: u32,
-    pub others: u32,
-}
 
 // The list that leads. The promise is over card and run, which are not read.
 pub fn leader(card: &[u8], run: &[u32], heads: &[u32], n: usize) -> Lead

@@ -2,6 +2,7 @@
 use Rattle.lists.proofs.Prelude.{Bool, true, _≡_, refl, ap, ap₂, _∙_, List, [], _∷_, map, ℕ, _*_, every, down, rising, and-left, and-right}
 use Rattle.weights.specs.Weights.{largest, sixteenths, tfWeight, idfWeight}
 use Rattle.postings.specs.Merge.{nonzero, pairs}
+use Rattle.postings.specs.Spans.{lowest, highest}
 use Rattle.answers.specs.Answers.{Answer, refuseIf, choose, next, after, inTurn}
 use Rattle.state.specs.Rules.{cardLength, registerLength}
 use Rattle.identifiers.specs.Names.{badLength, numbersOf}
@@ -14,8 +15,8 @@ use Rattle.ranking.specs.Hits.{frequency, score, matching, ranked}
 use Rattle.ranking.specs.Asked.{badQuery}
 use Rattle.averages.specs.Average.{total}
 use Rattle.engine.specs.Calls.{Call, run}
-use Rattle.accounts.specs.Account.{emptyAccount, takenFrom, blocksOf, blocksIn, inputsOf, merged, blocksAhead, completed, furthered, steppedAccount, flushedAccount, overflows, exceeds, addedTo, stepping, flushing, flushingIf}
-use Rattle.accounts.specs.Ledger.{emptyLedger, live, shown, existing, opens, closes, counts, removes}
+use Rattle.accounts.specs.Account.{emptyAccount, takenFrom, readBy, blocksOf, blocksIn, inputsOf, merged, blocksAhead, completed, furthered, steppedAccount, flushedAccount, overflows, exceeds, addedTo, stepping, flushing, flushingIf}
+use Rattle.accounts.specs.Ledger.{emptyLedger, live, shown, existing, shownWithin, existingWithin, opens, closes, counts, removes}
 use Rattle.accounts.specs.Books.{takenBack, plannedIn, books, expected}
 use Rattle.histories.specs.Statement.{SameAnswers}
 use Rattle.histories.specs.Table.{Case, Tf, Idf, Sized, Registered, Numbered, History, onBooks, onBytes, latest, worked, table, TableHolds}
@@ -23,7 +24,7 @@ use Rattle.histories.proofs.Theorem.{same-answers}
 
 -- on ledger and account
 pub table-expected : TableHolds onBooks
-unfolding TableHolds worked table onBooks down rising largest sixteenths tfWeight idfWeight nonzero pairs refuseIf choose next after inTurn badLength numbersOf names registerRule added recordingRule recorded planCalls follow lengthOf frequency score matching ranked badQuery total run emptyAccount takenFrom blocksOf blocksIn inputsOf merged blocksAhead completed furthered steppedAccount flushedAccount overflows exceeds addedTo stepping flushing flushingIf emptyLedger live shown existing opens closes counts removes takenBack plannedIn books expected
+unfolding TableHolds worked table onBooks down rising largest sixteenths tfWeight idfWeight nonzero pairs refuseIf choose next after inTurn badLength numbersOf names registerRule added recordingRule recorded planCalls follow lengthOf frequency score matching ranked badQuery total run emptyAccount takenFrom blocksOf blocksIn inputsOf merged blocksAhead completed furthered steppedAccount flushedAccount overflows exceeds addedTo stepping flushing flushingIf emptyLedger live shown existing shownWithin existingWithin readBy lowest highest opens closes counts removes takenBack plannedIn books expected
 table-expected = refl
 
 -- the card of a case has a length within the limits

@@ -6,10 +6,12 @@ use Prim.Native.Nat.{ℕ, zero, suc, _-_, _*_, _/_}
 use lib.ListN.{take, length, replicate}
 use Rattle.lists.specs.Lists.{joined}
 use Rattle.weights.specs.Weights.{tfWeight, idfWeight}
+use Rattle.postings.specs.declared.Stretch.{Stretch}
 use Rattle.answers.specs.Answers.{halted, Answer, done, number, hits, mean, forecast, refused}
 use Rattle.answers.specs.declared.Hit.{Hit}
 use Rattle.identifiers.specs.Names.{Name, badLength, numberOf}
 use Rattle.identifiers.specs.Register.{names, registerRule, added}
+use Rattle.stretches.specs.Reached.{whole}
 use Rattle.engine.specs.Calls.{Call, Open, Event, Close, Remove, RemoveAll, Flush, Step, Query, Mean, Forecast}
 use Rattle.accounts.specs.Books.{expected}
 use Rattle.histories.specs.Statement.{answers}
@@ -56,7 +58,14 @@ twoClosed = Open ∷ Event TILT ∷ Close ∷ Open ∷ Event DOOR ∷ Close ∷ 
 
 -- a query for LUCKY and TILT
 abbrev pub asked : Call
-asked = Query 32 (LUCKY ∷ TILT ∷ [])
+asked = Query 32 whole (LUCKY ∷ TILT ∷ [])
+
+-- the same of a stretch
+abbrev pub from : ℕ → ℕ → Stretch
+from a b = record { first = a; last = b }
+
+abbrev pub between : ℕ → ℕ → Call
+between a b = Query 32 (from a b) (LUCKY ∷ TILT ∷ [])
 
 -- the entries of a plan's identifiers
 abbrev pub planOf : List Name → List ℕ
@@ -118,7 +127,7 @@ table =
     -- identifiers that agree in 16 bytes and differ in the 17th have a number each, and those 16 bytes alone would have another
     ∷ Registered (AsB ∷ AsC ∷ []) true ∷ Numbered (AsB ∷ AsC ∷ []) AsB 0 ∷ Numbered (AsB ∷ AsC ∷ []) AsC 1 ∷ Numbered (AsB ∷ AsC ∷ []) (As 16) 2
     -- so each is worked, found and taken up apart from the other
-    ∷ History 4 (Open ∷ Event AsB ∷ Event AsB ∷ Close ∷ Open ∷ Event AsC ∷ Close ∷ Query 32 (AsB ∷ []) ∷ Query 32 (AsC ∷ []) ∷ Query 32 (As 16 ∷ []) ∷ [])
+    ∷ History 4 (Open ∷ Event AsB ∷ Event AsB ∷ Close ∷ Open ∷ Event AsC ∷ Close ∷ Query 32 whole (AsB ∷ []) ∷ Query 32 whole (AsC ∷ []) ∷ Query 32 whole (As 16 ∷ []) ∷ [])
     (hits (hit 1 400 ∷ []) 1 ∷ hits (hit 2 256 ∷ []) 1 ∷ hits [] 0 ∷ [])
     -- the query gives 1 (432), 3 (144), 2 (144), with 4 postings taken: counts of 3 and 1 weigh 32 and 16, and two of N = 3 windows 9
     ∷ History 4 (three ++ (asked ∷ [])) (hits (hit 1 432 ∷ hit 3 144 ∷ hit 2 144 ∷ []) 4 ∷ [])
@@ -127,20 +136,20 @@ table =
     -- flushed and then removed: its postings are on the card and their negation is buffered, and the hits do not change
     ∷ History 4 (three ++ (Flush ∷ Remove 1 ∷ asked ∷ [])) (done ∷ done ∷ hits (hit 3 256 ∷ hit 2 256 ∷ []) 6 ∷ [])
     -- DOOR worked 2 before a flush and 1 after, in one window: count 3, which weighs 32, and F adds 1, which of N = 2 weighs 16
-    ∷ History 4 (Open ∷ Event TILT ∷ Close ∷ Open ∷ Event DOOR ∷ Event DOOR ∷ Flush ∷ Event DOOR ∷ Close ∷ Query 32 (DOOR ∷ []) ∷ []) (hits (hit 2 512 ∷ []) 2 ∷ [])
+    ∷ History 4 (Open ∷ Event TILT ∷ Close ∷ Open ∷ Event DOOR ∷ Event DOOR ∷ Flush ∷ Event DOOR ∷ Close ∷ Query 32 whole (DOOR ∷ []) ∷ []) (hits (hit 2 512 ∷ []) 2 ∷ [])
     -- on the smallest card two partitions are half of it
     ∷ History 4 (Open ∷ Event DOOR ∷ Flush ∷ Event DOOR ∷ Flush ∷ Event DOOR ∷ Flush ∷ []) (done ∷ done ∷ done ∷ done ∷ done ∷ refused 11 ∷ [])
     -- eight flushes of one pair make a merge of one step; then none is due, and one posting of count 8 is left, which weighs 50
-    ∷ History 64 (Open ∷ times 8 (Event DOOR ∷ Flush ∷ []) ++ (Step ∷ Step ∷ Close ∷ Open ∷ Event TILT ∷ Close ∷ Query 3 (DOOR ∷ []) ∷ []))
+    ∷ History 64 (Open ∷ times 8 (Event DOOR ∷ Flush ∷ []) ++ (Step ∷ Step ∷ Close ∷ Open ∷ Event TILT ∷ Close ∷ Query 3 whole (DOOR ∷ []) ∷ []))
     (done ∷ refused 13 ∷ done ∷ number 2 ∷ done ∷ done ∷ hits (hit 1 800 ∷ []) 1 ∷ [])
     -- window 3 is under way: TILT is in one of N = 2 windows, which weighs 16, though a posting of window 3 is taken. Once it is closed, TILT is in two of N = 3, which weighs 9
-    ∷ History 4 (twoClosed ++ (Open ∷ Event TILT ∷ Query 32 (TILT ∷ []) ∷ Close ∷ Query 32 (TILT ∷ []) ∷ []))
+    ∷ History 4 (twoClosed ++ (Open ∷ Event TILT ∷ Query 32 whole (TILT ∷ []) ∷ Close ∷ Query 32 whole (TILT ∷ []) ∷ []))
     (hits (hit 1 256 ∷ []) 2 ∷ done ∷ hits (hit 3 144 ∷ hit 1 144 ∷ []) 2 ∷ [])
     -- the same where its counts came to the card in eight partitions, which are merged into one: 8 of TILT weigh 50
-    ∷ History 64 (twoClosed ++ (Open ∷ times 8 (Event TILT ∷ Flush ∷ []) ++ (Step ∷ Query 32 (TILT ∷ []) ∷ Close ∷ Query 32 (TILT ∷ []) ∷ [])))
+    ∷ History 64 (twoClosed ++ (Open ∷ times 8 (Event TILT ∷ Flush ∷ []) ++ (Step ∷ Query 32 whole (TILT ∷ []) ∷ Close ∷ Query 32 whole (TILT ∷ []) ∷ [])))
     (done ∷ hits (hit 1 256 ∷ []) 2 ∷ done ∷ hits (hit 3 450 ∷ hit 1 144 ∷ []) 2 ∷ [])
     -- 8 of DOOR weigh 50 and 7 weigh 48: the window with more of them stands first, though the other has the higher number
-    ∷ History 4 (Open ∷ times 8 (Event DOOR ∷ []) ++ (Close ∷ Open ∷ times 7 (Event DOOR ∷ []) ++ (Close ∷ Open ∷ Event TILT ∷ Close ∷ Query 32 (DOOR ∷ []) ∷ [])))
+    ∷ History 4 (Open ∷ times 8 (Event DOOR ∷ []) ++ (Close ∷ Open ∷ times 7 (Event DOOR ∷ []) ++ (Close ∷ Open ∷ Event TILT ∷ Close ∷ Query 32 whole (DOOR ∷ []) ∷ [])))
     (hits (hit 1 450 ∷ hit 2 432 ∷ []) 2 ∷ [])
     -- means: 3 and 1 of LUCKY are 2 in each of two windows; window 4, under way, adds its 1 with its close, and 5 in three windows are 1 with 2 left over. Without
     -- window 1 the mean is 1. DOOR, whose only window is removed, and an identifier never counted are refused with 15, and an empty one with 4
@@ -154,8 +163,14 @@ table =
     -- identifier, at which the plan stops with 4. A list that does not add up is refused with 3. While a window is open, a plan stops at its first open with 5
     ∷ History 4 (three ++ (Flush ∷ Forecast (planOf (LUCKY ∷ AsB ∷ DOOR ∷ [] ∷ AsC ∷ [])) (2 ∷ 0 ∷ 3 ∷ []) ∷ Forecast (planOf (LUCKY ∷ [])) (2 ∷ []) ∷ Open ∷ Forecast (planOf (LUCKY ∷ [])) (1 ∷ []) ∷ []))
     (forecast 0 1 4 (halted 3 2 4) ∷ refused 3 ∷ number 4 ∷ forecast 0 1 3 (halted 1 0 5) ∷ [])
+    -- stretches, where windows 1 and 2 lie in one partition, window 3 in the next, and window 4, under way, in the buffer, whose posting is always taken. From 2 to 3 N is 2, and LUCKY and TILT are in one
+    -- window each; both partitions are taken. From 3 to 3 the first is passed over, and N is 1, which weighs 0; from 1 to 2 the second is. From 0 to 0 no window lies, and from 3 to 2 the query is
+    -- refused with 17, but with 14 where no identifier is named
+    ∷ History 8 (Open ∷ Event LUCKY ∷ Event LUCKY ∷ Event LUCKY ∷ Event TILT ∷ Close ∷ Open ∷ Event LUCKY ∷ Close ∷ Flush ∷ Open ∷ Event TILT ∷ Event DOOR ∷ Close ∷ Flush ∷ Open ∷ Event TILT
+    ∷ between 2 3 ∷ between 3 3 ∷ between 1 2 ∷ between 0 0 ∷ between 3 2 ∷ Query 32 (from 3 2) [] ∷ [])
+    (hits (hit 3 256 ∷ hit 2 256 ∷ []) 5 ∷ hits (hit 3 0 ∷ []) 2 ∷ hits (hit 1 256 ∷ hit 2 0 ∷ []) 4 ∷ hits [] 1 ∷ refused 17 ∷ refused 14 ∷ [])
     -- the command program's example
-    ∷ History 16 (Open ∷ Event LUCKY ∷ Event LUCKY ∷ Event LUCKY ∷ Event TILT ∷ Close ∷ Open ∷ Event LUCKY ∷ Close ∷ Query 2 (LUCKY ∷ TILT ∷ []) ∷ [])
+    ∷ History 16 (Open ∷ Event LUCKY ∷ Event LUCKY ∷ Event LUCKY ∷ Event TILT ∷ Close ∷ Open ∷ Event LUCKY ∷ Close ∷ Query 2 whole (LUCKY ∷ TILT ∷ []) ∷ [])
     (number 1 ∷ done ∷ done ∷ done ∷ done ∷ done ∷ number 2 ∷ done ∷ done ∷ hits (hit 1 256 ∷ hit 2 0 ∷ []) 3 ∷ [])
     ∷ []
 

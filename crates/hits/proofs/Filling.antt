@@ -1,7 +1,8 @@
 -- A lent list that is filled with hits, and that a query whose hits fill it gives what the query is.
 use Rattle.lists.proofs.Prelude.{List, _++_, _≡_, refl, sym, ap, _∙_, ℕ, _+_, _≤_, _<_, arith, length, getD, set, take, drop, length-take-le, length-front, take-at, take-append-seam}
 use Rattle.lists.proofs.Padding.{blend-more}
-use Rattle.answers.specs.Answers.{hits}
+use Rattle.postings.specs.declared.Stretch.{Stretch}
+use Rattle.answers.specs.Answers.{Answer, hits}
 use Rattle.answers.specs.Numbers.{foundAs}
 use Rattle.answers.specs.declared.Found.{Found}
 use Rattle.answers.specs.declared.Found.the-variants as found
@@ -37,21 +38,21 @@ used-listed : (t : Top) (l : List Hit) → t ≡ topOf l → length (listedHits 
 used-listed t l e = ap (λ (x : Top). length (listedHits x)) e ∙ ap length (take-append-seam l _) ∙ sym (ap (λ (x : Top). x .used) e)
 
 -- the hits of an answer are the same, read from the filled list
-same-hits : (p : Probe) (ns : List Name) (k : ℕ) (places : List Hit) (a : Found) (t : Top) → Finds p ns k a t → foundAs a (fill (listedHits t) places) ≡ foundAs a (t .hits)
-same-hits p ns k places (found.Hits n taken) t v =
+same-hits : (x : Answer) (k : ℕ) (places : List Hit) (a : Found) (t : Top) → Finds x k a t → foundAs a (fill (listedHits t) places) ≡ foundAs a (t .hits)
+same-hits x k places (found.Hits n taken) t v =
     let e : n ≡ t .used = v .used n taken refl in
-    let l : length (listedHits t) ≡ n = used-listed t (hitsIn (answered p ns k)) (v .kept) ∙ sym e in
+    let l : length (listedHits t) ≡ n = used-listed t (hitsIn x) (v .kept) ∙ sym e in
     ap (λ (hs : List Hit). hits hs taken) (take-at (listedHits t) (drop (length (listedHits t)) places) n l ∙ ap (λ (m : ℕ). take m (t .hits)) (sym e))
-same-hits p ns k places (found.Refused why) t v = refl
+same-hits x k places (found.Refused why) t v = refl
 
 -- what the search finds for as many places, and a list filled with it, are what the query gives
-pub found-given : (p : Probe) (ns : List Name) (places : List Hit) (a : Found) (t : Top) (after : List Hit) → Finds p ns (length places) a t → after ≡ fill (listedHits t) places
-    → Gives places (queryOf p ns places) (foundAs a after) after
-found-given p ns places a t after v e =
-    let both = found-filled p ns places a t v in
-    record { answer = ap (foundAs a) e ∙ same-hits p ns (length places) places a t v ∙ both .0; left = e ∙ both .1 }
+pub found-given : (p : Probe) (st : Stretch) (ns : List Name) (places : List Hit) (a : Found) (t : Top) (after : List Hit) → Finds (answered p st ns (length places)) (length places) a t → after ≡ fill (listedHits t) places
+    → Gives places (queryOf p st ns places) (foundAs a after) after
+found-given p st ns places a t after v e =
+    let both = found-filled p st ns places a t v in
+    record { answer = ap (foundAs a) e ∙ same-hits _ (length places) places a t v ∙ both .0; left = e ∙ both .1 }
 
 -- an answer says no more hits than there are places
-pub found-counted : (p : Probe) (ns : List Name) (k : ℕ) (a : Found) (t : Top) → Finds p ns k a t → hitCount a ≤ k
-found-counted p ns k (found.Hits n taken) t v = let e : n ≡ t .used = v .used n taken refl in omega (arith, e, v .fits)
-found-counted p ns k (found.Refused why) t v = omega arith
+pub found-counted : (x : Answer) (k : ℕ) (a : Found) (t : Top) → Finds x k a t → hitCount a ≤ k
+found-counted x k (found.Hits n taken) t v = let e : n ≡ t .used = v .used n taken refl in omega (arith, e, v .fits)
+found-counted x k (found.Refused why) t v = omega arith

@@ -1,6 +1,7 @@
 // The query that is lent a list for its hits.
 use answers::Found;
 use answers::Hit;
+use postings::Stretch;
 use ranking::Top;
 use state::State;
 ghost use mathlib.Core.List.{map};
@@ -39,11 +40,18 @@ fn fill_by(hits: &mut [Hit], top: Top)
     }
 }
 
-// The query: its hits go to the first places of the lent list.
-pub fn query(s: State, card: &[u8], register: &[u8], ids: &[&[u8]], hits: &mut [Hit]) -> Found
-    ensures { λ r. ⌜ Asks s (now (card .entry)) (now (register .entry)) (map now (now (ids .entry))) (now (hits .entry)) r (now (hits .exit)) ⌝ }
+// The query of a stretch of windows: its hits go to the first places of the lent list.
+pub fn query(
+    s: State,
+    card: &[u8],
+    register: &[u8],
+    ids: &[&[u8]],
+    t: Stretch,
+    hits: &mut [Hit],
+) -> Found
+    ensures { λ r. ⌜ Asks s (now (card .entry)) (now (register .entry)) t (map now (now (ids .entry))) (now (hits .entry)) r (now (hits .exit)) ⌝ }
 {
-    let m = queries::search(s, card, register, ids, hits.len());
+    let m = queries::search(s, card, register, ids, t, hits.len());
     fill_by(hits, m.top);
     m.answer
 }

@@ -1,5 +1,5 @@
 -- Reading an image and writing a state are each other's inverse.
-use Rattle.lists.proofs.Prelude.{true, List, [], _∷_, _++_, map, map-id, append-assoc, _≡_, refl, sym, ap, _∙_, ℕ, zero, suc, _+_, _-_, _*_, _/_, _%_, _<_, _≤_, arith, ltb, length, getD, length-append, length-map, List·getD-append, getD-append-add, ext-getD, ltb-true, ltb-false, joined, upTo, by-test, length-rising, upTo-at, map-upTo, joined-at, length-joined}
+use Rattle.lists.proofs.Prelude.{true, List, [], _∷_, _++_, map, map-id, append-assoc, _≡_, refl, sym, ap, _∙_, ℕ, zero, suc, _+_, _-_, _*_, _/_, _%_, _<_, _≤_, arith, ltb, length, getD, length-append, length-map, List·getD-append, getD-append-add, ext-getD, ltb-true, ltb-false, joined, upTo, by-test, length-rising, upTo-at, map-upTo, div-add-mod', joined-at, length-joined}
 use mir.Syntax.{w16}
 use mir.Val.{SFits}
 use Rattle.postings.specs.declared.Posting.{Posting}
@@ -20,10 +20,10 @@ at-middle : (p m q : List ℕ) (k i : ℕ) → length p ≡ k → i < length m �
 at-middle p m q k i e h =
     rw (← e) (getD-append-add p (m ++ q) i 0 ∙ List·getD-append m q 0 i h)
 
--- what stands in part r of the j-th of parts of three, in the middle of a list
-at-parts : {A : Type 0} (f : A → List ℕ) → ((x : A) → length (f x) ≡ 3) → (p : List ℕ) (l : List A) (q : List ℕ) (d : A) (k j r : ℕ) → length p ≡ k → j < length l → r < 3
-    → getD (p ++ (joined (map f l) ++ q)) (k + (3 * j + r)) 0 ≡ getD (f (getD l j d)) r 0
-at-parts f h p l q d k j r e a b = rw (← e) (getD-append-add p (joined (map f l) ++ q) (3 * j + r) 0 ∙ joined-at f 3 h l q d 0 j r a b)
+-- what stands at place r of the j-th of parts of n, in the middle of a list
+at-parts : {A : Type 0} (f : A → List ℕ) (n : ℕ) → ((x : A) → length (f x) ≡ n) → (p : List ℕ) (l : List A) (q : List ℕ) (d : A) (k j r : ℕ) → length p ≡ k → j < length l → r < n
+    → getD (p ++ (joined (map f l) ++ q)) (k + (n * j + r)) 0 ≡ getD (f (getD l j d)) r 0
+at-parts f n h p l q d k j r e a b = rw (← e) (getD-append-add p (joined (map f l) ++ q) (n * j + r) 0 ∙ joined-at f n h l q d 0 j r a b)
 
 -- the same behind the parts: place i of the end
 at-end : (p m : List ℕ) (k i : ℕ) → length p ≡ k → getD (p ++ m) (k + i) 0 ≡ getD m i 0
@@ -55,10 +55,10 @@ module _ (s : State) (z : Sized s) where
       let p = joined (map postingWords (s .buffer .postings)) in
       omega (arith, length-append head2 (p ++ (s .partitions .used ∷ [])), length-append p (s .partitions .used ∷ []), length-joined postingWords 3 (λ x. refl) (s .buffer .postings), length2, z .postings)
 
-  length4 : length head4 ≡ 610
+  length4 : length head4 ≡ 712
   length4 =
       let p = joined (map recordWords (s .partitions .records)) in
-      omega (arith, length-append head3 p, length-joined recordWords 3 (λ x. refl) (s .partitions .records), length3, z .records)
+      omega (arith, length-append head3 p, length-joined recordWords 5 (λ x. refl) (s .partitions .records), length3, z .records)
 
   abbrev tail3 : List ℕ
   tail3 = joined (map recordWords (s .partitions .records)) ++ lastWords (s .taken) (s .merge)
@@ -98,7 +98,7 @@ module _ (s : State) (z : Sized s) where
       ap (λ (w : List ℕ). getD w 71 0) (cut1 ∙ sym (append-assoc head1 (s .listed .ids) q)) ∙ at-end (head1 ++ s .listed .ids) q 71 0 e
 
   at-postings : (j r : ℕ) → j < 128 → r < 3 → getD (imageOf s) (72 + (3 * j + r)) 0 ≡ getD (postingWords (getD (s .buffer .postings) j noPosting)) r 0
-  at-postings j r a b = rw cut2 (at-parts postingWords (λ x. refl) head2 (s .buffer .postings) tail2 noPosting 72 j r length2 (omega (arith, z .postings)) b)
+  at-postings j r a b = rw cut2 (at-parts postingWords 3 (λ x. refl) head2 (s .buffer .postings) tail2 noPosting 72 j r length2 (omega (arith, z .postings)) b)
 
   at-partitions : getD (imageOf s) 456 0 ≡ s .partitions .used
   at-partitions =
@@ -106,11 +106,11 @@ module _ (s : State) (z : Sized s) where
       let e : length (head2 ++ p) ≡ 456 = omega (arith, length-append head2 p, length2, length-joined postingWords 3 (λ x. refl) (s .buffer .postings), z .postings) in
       ap (λ (w : List ℕ). getD w 456 0) (cut2 ∙ sym (append-assoc head2 p tail2)) ∙ at-end (head2 ++ p) tail2 456 0 e
 
-  at-records : (j r : ℕ) → j < 51 → r < 3 → getD (imageOf s) (457 + (3 * j + r)) 0 ≡ getD (recordWords (getD (s .partitions .records) j noPartition)) r 0
-  at-records j r a b = rw cut3 (at-parts recordWords (λ x. refl) head3 (s .partitions .records) (lastWords (s .taken) (s .merge)) noPartition 457 j r length3 (omega (arith, z .records)) b)
+  at-records : (j r : ℕ) → j < 51 → r < 5 → getD (imageOf s) (457 + (5 * j + r)) 0 ≡ getD (recordWords (getD (s .partitions .records) j noPartition)) r 0
+  at-records j r a b = rw cut3 (at-parts recordWords 5 (λ x. refl) head3 (s .partitions .records) (lastWords (s .taken) (s .merge)) noPartition 457 j r length3 (omega (arith, z .records)) b)
 
-  at-last : (i : ℕ) → getD (imageOf s) (610 + i) 0 ≡ getD (lastWords (s .taken) (s .merge)) i 0
-  at-last i = rw cut4 (at-end head4 (lastWords (s .taken) (s .merge)) 610 i length4)
+  at-last : (i : ℕ) → getD (imageOf s) (712 + i) 0 ≡ getD (lastWords (s .taken) (s .merge)) i 0
+  at-last i = rw cut4 (at-end head4 (lastWords (s .taken) (s .merge)) 712 i length4)
 
   -- From a state and back --------------------------------------------------------------------------------------------
 
@@ -126,10 +126,12 @@ module _ (s : State) (z : Sized s) where
   records-back : map (recordIn (imageOf s)) (upTo 51) ≡ s .partitions .records
   records-back =
       map-upTo (recordIn (imageOf s)) (λ p. p) (s .partitions .records) noPartition 51 (z .records) (λ j h.
-      let e0 : 457 + 3 * j ≡ 457 + (3 * j + 0) = omega arith in
-      let e1 : 458 + 3 * j ≡ 457 + (3 * j + 1) = omega arith in
-      let e2 : 459 + 3 * j ≡ 457 + (3 * j + 2) = omega arith in
-      rw (e0, e1, e2, at-records j 0 h (omega arith), at-records j 1 h (omega arith), at-records j 2 h (omega arith)))
+      let e0 : 457 + 5 * j ≡ 457 + (5 * j + 0) = omega arith in
+      let e1 : 458 + 5 * j ≡ 457 + (5 * j + 1) = omega arith in
+      let e2 : 459 + 5 * j ≡ 457 + (5 * j + 2) = omega arith in
+      let e3 : 460 + 5 * j ≡ 457 + (5 * j + 3) = omega arith in
+      let e4 : 461 + 5 * j ≡ 457 + (5 * j + 4) = omega arith in
+      rw (e0, e1, e2, e3, e4, at-records j 0 h (omega arith), at-records j 1 h (omega arith), at-records j 2 h (omega arith), at-records j 3 h (omega arith), at-records j 4 h (omega arith)))
       ∙ map-id (s .partitions .records)
 
   ids-back : map (λ i. getD (imageOf s) (7 + i) 0) (upTo 64) ≡ s .listed .ids
@@ -191,18 +193,20 @@ module _ (b : List ℕ) (h : imageRule b ≡ true) where
   postings-same j r a l =
       at-postings (stateIn w) sized j r a l ∙ ap (λ (p : Posting). getD (postingWords p) r 0) (upTo-at (postingIn w) 128 j noPosting a) ∙ posting-same j r a l
 
-  record-same : (j r : ℕ) → r < 3 → getD (recordWords (recordIn w j)) r 0 ≡ getD w (457 + (3 * j + r)) 0
+  record-same : (j r : ℕ) → r < 5 → getD (recordWords (recordIn w j)) r 0 ≡ getD w (457 + (5 * j + r)) 0
   record-same j zero l = ap (λ (k : ℕ). getD w k 0) (omega arith)
   record-same j (suc zero) l = ap (λ (k : ℕ). getD w k 0) (omega arith)
   record-same j (suc (suc zero)) l = ap (λ (k : ℕ). getD w k 0) (omega arith)
-  record-same j (suc (suc (suc r))) l = absurd (omega arith)
+  record-same j (suc (suc (suc zero))) l = ap (λ (k : ℕ). getD w k 0) (omega arith)
+  record-same j (suc (suc (suc (suc zero)))) l = ap (λ (k : ℕ). getD w k 0) (omega arith)
+  record-same j (suc (suc (suc (suc (suc r))))) l = absurd (omega arith)
 
-  records-same : (j r : ℕ) → j < 51 → r < 3 → getD (imageOf (stateIn w)) (457 + (3 * j + r)) 0 ≡ getD w (457 + (3 * j + r)) 0
+  records-same : (j r : ℕ) → j < 51 → r < 5 → getD (imageOf (stateIn w)) (457 + (5 * j + r)) 0 ≡ getD w (457 + (5 * j + r)) 0
   unfolding stateIn
   records-same j r a l =
       at-records (stateIn w) sized j r a l ∙ ap (λ (p : Partition). getD (recordWords p) r 0) (upTo-at (recordIn w) 51 j noPartition a) ∙ record-same j r l
 
-  last-same : (i : ℕ) → i < 4 → getD (imageOf (stateIn w)) (610 + i) 0 ≡ getD w (610 + i) 0
+  last-same : (i : ℕ) → i < 4 → getD (imageOf (stateIn w)) (712 + i) 0 ≡ getD w (712 + i) 0
   unfolding stateIn
   last-same zero l = at-last (stateIn w) sized 0
   last-same (suc zero) l = at-last (stateIn w) sized 1
@@ -214,20 +218,20 @@ module _ (b : List ℕ) (h : imageRule b ≡ true) where
   by-distance : (k i : ℕ) → k ≤ i → getD (imageOf (stateIn w)) (k + (i - k)) 0 ≡ getD w (k + (i - k)) 0 → getD (imageOf (stateIn w)) i 0 ≡ getD w i 0
   by-distance k i l e = let d : k + (i - k) ≡ i = omega arith in rw d at e
 
-  -- and among parts of three
-  by-thirds : (k i : ℕ) → k ≤ i → getD (imageOf (stateIn w)) (k + (3 * ((i - k) / 3) + (i - k) % 3)) 0 ≡ getD w (k + (3 * ((i - k) / 3) + (i - k) % 3)) 0
+  -- and among parts of n
+  by-parts : (n k i : ℕ) → k ≤ i → getD (imageOf (stateIn w)) (k + (n * ((i - k) / n) + (i - k) % n)) 0 ≡ getD w (k + (n * ((i - k) / n) + (i - k) % n)) 0
       → getD (imageOf (stateIn w)) i 0 ≡ getD w i 0
-  by-thirds k i l e = let d : k + (3 * ((i - k) / 3) + (i - k) % 3) ≡ i = omega arith in rw d at e
+  by-parts n k i l e = let d : k + (n * ((i - k) / n) + (i - k) % n) ≡ i = omega (arith, div-add-mod' (i - k) n) in rw d at e
 
-  same-at : (i : ℕ) → i < 614 → getD (imageOf (stateIn w)) i 0 ≡ getD w i 0
+  same-at : (i : ℕ) → i < 716 → getD (imageOf (stateIn w)) i 0 ≡ getD w i 0
   same-at i l =
       by-test (ltb i 7) (λ t. front-same i (ltb-true i 7 t)) (λ f1.
       by-test (ltb i 71) (λ t. by-distance 7 i (ltb-false i 7 f1) (ids-same (i - 7) (omega (arith, ltb-true i 71 t)))) (λ f2.
       by-test (ltb i 72) (λ t. let e : 71 ≡ i = omega (arith, ltb-true i 72 t, ltb-false i 71 f2) in rw e at buffer-same) (λ f3.
-      by-test (ltb i 456) (λ t. by-thirds 72 i (ltb-false i 72 f3) (postings-same ((i - 72) / 3) ((i - 72) % 3) (omega (arith, ltb-true i 456 t)) (omega arith))) (λ f4.
+      by-test (ltb i 456) (λ t. by-parts 3 72 i (ltb-false i 72 f3) (postings-same ((i - 72) / 3) ((i - 72) % 3) (omega (arith, ltb-true i 456 t)) (omega arith))) (λ f4.
       by-test (ltb i 457) (λ t. let e : 456 ≡ i = omega (arith, ltb-true i 457 t, ltb-false i 456 f4) in rw e at partitions-same) (λ f5.
-      by-test (ltb i 610) (λ t. by-thirds 457 i (ltb-false i 457 f5) (records-same ((i - 457) / 3) ((i - 457) % 3) (omega (arith, ltb-true i 610 t)) (omega arith))) (λ f6.
-      by-distance 610 i (ltb-false i 610 f6) (last-same (i - 610) (omega (arith, ltb-false i 610 f6)))))))))
+      by-test (ltb i 712) (λ t. by-parts 5 457 i (ltb-false i 457 f5) (records-same ((i - 457) / 5) ((i - 457) % 5) (omega (arith, ltb-true i 712 t)) (omega arith))) (λ f6.
+      by-distance 712 i (ltb-false i 712 f6) (last-same (i - 712) (omega (arith, ltb-false i 712 f6)))))))))
 
   -- the image of the state that is read from an image
   pub words-back : imageOf (stateIn w) ≡ w

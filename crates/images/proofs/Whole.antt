@@ -13,11 +13,11 @@ pub record Sized (s : State) : Type 0 where
 length-postings : (s : State) → Sized s → length (bufferWords (s .buffer)) ≡ 385
 length-postings s z = omega (arith, length-joined postingWords 3 (λ p. refl) (s .buffer .postings), z .postings)
 
-length-records : (s : State) → Sized s → length (partitionsWords (s .partitions)) ≡ 154
-length-records s z = omega (arith, length-joined recordWords 3 (λ p. refl) (s .partitions .records), z .records)
+length-records : (s : State) → Sized s → length (partitionsWords (s .partitions)) ≡ 256
+length-records s z = omega (arith, length-joined recordWords 5 (λ p. refl) (s .partitions .records), z .records)
 
--- an image has 614 words
-pub length-image : (s : State) → Sized s → length (imageOf s) ≡ 614
+-- an image has 716 words
+pub length-image : (s : State) → Sized s → length (imageOf s) ≡ 716
 unfolding imageOf
 length-image s z =
     let a = listedWords (s .listed) in
@@ -33,8 +33,8 @@ sets-whole l vs h =
     ∙ (let e : 0 + length vs ≡ length l = omega arith in rw (e, drop-of-length-le l {i = length l} (omega arith)) (append-nil vs))
 
 -- the parts, each from its place on
-pub parts-whole : (s : State) → Sized s → (w : List ℕ) → length w ≡ 614
-    → sets (sets (sets (sets (sets w 0 (numberWords (s .lengths) (s .windows))) 6 (listedWords (s .listed))) 71 (bufferWords (s .buffer))) 456 (partitionsWords (s .partitions))) 610 (lastWords (s .taken) (s .merge)) ≡ imageOf s
+pub parts-whole : (s : State) → Sized s → (w : List ℕ) → length w ≡ 716
+    → sets (sets (sets (sets (sets w 0 (numberWords (s .lengths) (s .windows))) 6 (listedWords (s .listed))) 71 (bufferWords (s .buffer))) 456 (partitionsWords (s .partitions))) 712 (lastWords (s .taken) (s .merge)) ≡ imageOf s
 unfolding imageOf
 parts-whole s z w h =
     let a = numberWords (s .lengths) (s .windows) in
@@ -47,7 +47,7 @@ parts-whole s z w h =
     let w3 = sets w2 71 c in
     let p1 : 6 + length b ≡ 71 = omega (arith, z .ids) in
     let p2 : 71 + length c ≡ 456 = omega (arith, length-postings s z) in
-    let p3 : 456 + length d ≡ 610 = omega (arith, length-records s z) in
+    let p3 : 456 + length d ≡ 712 = omega (arith, length-records s z) in
     sym (sets-append w 0 a (b ++ (c ++ (d ++ e)))
     ∙ sets-append w1 6 b (c ++ (d ++ e)) ∙ ap (λ (k : ℕ). sets w2 k (c ++ (d ++ e))) p1
     ∙ sets-append w2 71 c (d ++ e) ∙ ap (λ (k : ℕ). sets w3 k (d ++ e)) p2

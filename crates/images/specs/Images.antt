@@ -1,4 +1,4 @@
--- The state as bytes: 614 little-endian words, one for each number, in the order in which the state names them.
+-- The state as bytes: 716 little-endian words, one for each number, in the order in which the state names them.
 use mathlib.Core.Bool.{Bool, _||_, _&&_, cond}
 use mathlib.Core.List.{List, [], _∷_, _++_, map}
 use Prim.Native.Nat.{ℕ, _+_, _-_, _*_, _%_}
@@ -32,9 +32,9 @@ lowered x = cond (leb 32768 x) (pos (x - 32768)) (negsuc (32767 - x))
 abbrev pub postingWords : Posting → List ℕ
 postingWords p = p .id ∷ p .window ∷ raised (p .count) ∷ []
 
--- a finished partition: its first block, its level, its length
+-- a finished partition: its first block, its level, its length, its lowest and its highest window
 abbrev pub recordWords : Partition → List ℕ
-recordWords p = p .first ∷ p .level ∷ p .length ∷ []
+recordWords p = p .first ∷ p .level ∷ p .length ∷ p .lowest ∷ p .highest ∷ []
 
 -- the words of each part
 abbrev pub numberWords : Lengths → Windows → List ℕ
@@ -52,7 +52,7 @@ partitionsWords p = p .used ∷ joined (map recordWords (p .records))
 abbrev pub lastWords : ℕ → MergeJob → List ℕ
 lastWords taken m = taken ∷ m .first ∷ m .length ∷ m .steps ∷ []
 
--- the image: words 0 to 5, 6 to 70, 71 to 455, 456 to 609, 610 to 613
+-- the image: words 0 to 5, 6 to 70, 71 to 455, 456 to 711, 712 to 715
 unfoldable pub imageOf : State → List ℕ
 imageOf s =
     numberWords (s .lengths) (s .windows)
@@ -70,7 +70,13 @@ abbrev pub bufferIn : List ℕ → Buffer
 bufferIn w = record { used = getD w 71 0; postings = map (postingIn w) (upTo 128) }
 
 abbrev pub recordIn : List ℕ → ℕ → Partition
-recordIn w i = record { first = getD w (457 + 3 * i) 0; level = getD w (458 + 3 * i) 0; length = getD w (459 + 3 * i) 0 }
+recordIn w i = record {
+  first = getD w (457 + 5 * i) 0;
+  level = getD w (458 + 5 * i) 0;
+  length = getD w (459 + 5 * i) 0;
+  lowest = getD w (460 + 5 * i) 0;
+  highest = getD w (461 + 5 * i) 0;
+}
 
 abbrev pub partitionsIn : List ℕ → Partitions
 partitionsIn w = record { used = getD w 456 0; records = map (recordIn w) (upTo 51) }
@@ -82,7 +88,7 @@ abbrev pub windowsIn : List ℕ → Windows
 windowsIn w = record { last = getD w 2 0; live = getD w 3 0; current = getD w 4 0; events = getD w 5 0 }
 
 abbrev pub mergeIn : List ℕ → MergeJob
-mergeIn w = record { first = getD w 611 0; length = getD w 612 0; steps = getD w 613 0 }
+mergeIn w = record { first = getD w 713 0; length = getD w 714 0; steps = getD w 715 0 }
 
 unfoldable pub stateIn : List ℕ → State
 stateIn w = record {
@@ -91,7 +97,7 @@ stateIn w = record {
   listed = listedIn w;
   buffer = bufferIn w;
   partitions = partitionsIn w;
-  taken = getD w 610 0;
+  taken = getD w 712 0;
   merge = mergeIn w;
 }
 
@@ -99,12 +105,12 @@ stateIn w = record {
 
 -- the places of numbers that may need all 32 bits: the lengths of the buffers, of the partitions and of the output, and the steps
 abbrev pub wide : ℕ → Bool
-wide i = ltb i 2 || (leb 612 i || (leb 457 i && (ltb i 610 && eqb ((i - 457) % 3) 2)))
+wide i = ltb i 2 || (leb 714 i || (leb 457 i && (ltb i 712 && eqb ((i - 457) % 5) 2)))
 
 -- every other number is below 65,536
 abbrev pub fits : List ℕ → ℕ → Bool
 fits w i = wide i || ltb (getD w i 0) 65536
 
--- 614 words, each of which fits its place
+-- 716 words, each of which fits its place
 unfoldable pub imageRule : List ℕ → Bool
-imageRule image = eqb (length image) 2456 && every (fits (words image)) (upTo 614)
+imageRule image = eqb (length image) 2864 && every (fits (words image)) (upTo 716)

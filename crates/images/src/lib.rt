@@ -1,4 +1,4 @@
-// The state as bytes, for callers in other languages: 614 little-endian words, one for each number.
+// The state as bytes, for callers in other languages: 716 little-endian words, one for each number.
 use postings::Posting;
 use state::Buffer;
 use state::Lengths;
@@ -18,16 +18,16 @@ ghost use Prim.Native.Nat.{_+_, _*_, _≤_, _<_};
 ghost use lib.ListN.{length, getD};
 ghost use lib.Seq.{sets};
 ghost use Rattle.words.specs.Words.{words as wordsOf, bytes};
-ghost use Rattle.images.specs.Images.{raised, lowered, numberWords, listedWords, bufferWords, partitionsWords, lastWords, imageOf, listedIn, postingIn, bufferIn, recordIn, partitionsIn, lengthsIn, windowsIn, mergeIn, stateIn, wide, imageRule};
+ghost use Rattle.images.specs.Images.{raised, lowered, numberWords, listedWords, bufferWords, recordWords, partitionsWords, lastWords, imageOf, listedIn, postingIn, bufferIn, recordIn, partitionsIn, lengthsIn, windowsIn, mergeIn, stateIn, wide, imageRule};
 
 // Bytes of a state's image, a word for each number.
-pub const BYTES: usize = 2456;
+pub const BYTES: usize = 2864;
 
-// Whether a place holds a number that may need all 32 bits. Those of the partitions stand at every third place, 459 being the first.
+// Whether a place holds a number that may need all 32 bits. Those of the partitions stand at every fifth place, 459 being the first.
 fn is_wide(at: usize) -> bool
     ensures { λ r. ⌜ r ≡ wide at ⌝ }
 {
-    (at < 2) | ((at >= 612) | ((at >= 457) & ((at < 610) & (at % 3 == 0))))
+    (at < 2) | ((at >= 714) | ((at >= 457) & ((at < 712) & (at % 5 == 4))))
 }
 
 // Whether these bytes are the image of a state, whatever rules that breaks.
@@ -39,7 +39,7 @@ pub fn image_ok(image: &[u8]) -> bool
     }
     let mut ok = true;
     let mut at: usize = 0;
-    while at < 614 {
+    while at < 716 {
         ok = ok & (is_wide(at) | (words::word_at(image, at) < 65536));
         at += 1;
     }
@@ -48,7 +48,7 @@ pub fn image_ok(image: &[u8]) -> bool
 
 // A number that is below 65,536.
 fn narrow(image: &[u8], at: usize) -> u16
-    requires { ⌜ (imageRule (now image) ≡ true) × (at < 614) × (wide at ≡ false) ⌝ }
+    requires { ⌜ (imageRule (now image) ≡ true) × (at < 716) × (wide at ≡ false) ⌝ }
     ensures { λ r. ⌜ r ≡ getD (wordsOf (now (image .entry))) at 0 ⌝ }
 {
     words::word_at(image, at) as u16
@@ -130,13 +130,17 @@ fn read_record(image: &[u8], i: usize) -> Partition
     requires { ⌜ (imageRule (now image) ≡ true) × (i < 51) ⌝ }
     ensures { λ r. ⌜ r ≡ recordIn (wordsOf (now (image .entry))) i ⌝ }
 {
-    let first = narrow(image, 457 + 3 * i);
-    let level = narrow(image, 458 + 3 * i);
-    let length = words::word_at(image, 459 + 3 * i);
+    let first = narrow(image, 457 + 5 * i);
+    let level = narrow(image, 458 + 5 * i);
+    let length = words::word_at(image, 459 + 5 * i);
+    let lowest = narrow(image, 460 + 5 * i);
+    let highest = narrow(image, 461 + 5 * i);
     Partition {
         first: first,
         level: level,
         length: length,
+        lowest: lowest,
+        highest: highest,
     }
 }
 
@@ -150,6 +154,8 @@ fn read_partitions(image: &[u8]) -> Partitions
         first: 0,
         level: 0,
         length: 0,
+        lowest: 0,
+        highest: 0,
     };
     let mut records = [none; MOST_PARTITIONS];
     let mut i: usize = 0;
@@ -199,9 +205,9 @@ fn read_merge(image: &[u8]) -> MergeJob
     requires { ⌜ imageRule (now image) ≡ true ⌝ }
     ensures { λ r. ⌜ r ≡ mergeIn (wordsOf (now (image .entry))) ⌝ }
 {
-    let first = narrow(image, 611);
-    let length = words::word_at(image, 612);
-    let steps = words::word_at(image, 613);
+    let first = narrow(image, 713);
+    let length = words::word_at(image, 714);
+    let steps = words::word_at(image, 715);
     MergeJob {
         first: first,
         length: length,
@@ -219,7 +225,7 @@ pub fn read_state(image: &[u8]) -> State
     let listed = read_listed(image);
     let buffer = read_buffer(image);
     let partitions = read_partitions(image);
-    let taken = narrow(image, 610);
+    let taken = narrow(image, 712);
     let merge = read_merge(image);
     State {
         lengths: lengths,
@@ -234,7 +240,7 @@ pub fn read_state(image: &[u8]) -> State
 
 // Three words into the image from word `at` on.
 fn put_three(image: &mut [u8], at: usize, a: u32, b: u32, c: u32)
-    requires { ⌜ (length (now image) ≡ 2456) × (at + 3 ≤ 614) ⌝ }
+    requires { ⌜ (length (now image) ≡ 2864) × (at + 3 ≤ 716) ⌝ }
     ensures { λ r. ⌜ wordsOf (now (image .exit)) ≡ sets (wordsOf (now (image .entry))) at (a ∷ b ∷ c ∷ []) ⌝ }
 {
     words::put_word(image, at, a);
@@ -244,7 +250,7 @@ fn put_three(image: &mut [u8], at: usize, a: u32, b: u32, c: u32)
 
 // The open window's identifiers.
 fn put_listed(image: &mut [u8], l: Listed)
-    requires { ⌜ length (now image) ≡ 2456 ⌝ }
+    requires { ⌜ length (now image) ≡ 2864 ⌝ }
     ensures { λ r. ⌜ (wordsOf (now (image .exit)) ≡ sets (wordsOf (now (image .entry))) 6 (listedWords l)) × (length (l .ids) ≡ 64) ⌝ }
 {
     words::put_word(image, 6, l.used as u32);
@@ -257,7 +263,7 @@ fn put_listed(image: &mut [u8], l: Listed)
 
 // The buffered postings.
 fn put_buffer(image: &mut [u8], b: Buffer)
-    requires { ⌜ length (now image) ≡ 2456 ⌝ }
+    requires { ⌜ length (now image) ≡ 2864 ⌝ }
     ensures { λ r. ⌜ (wordsOf (now (image .exit)) ≡ sets (wordsOf (now (image .entry))) 71 (bufferWords b)) × (length (b .postings) ≡ 128) ⌝ }
 {
     words::put_word(image, 71, b.used as u32);
@@ -275,23 +281,34 @@ fn put_buffer(image: &mut [u8], b: Buffer)
     }
 }
 
+// A finished partition's record.
+fn put_record(image: &mut [u8], i: usize, p: Partition)
+    requires { ⌜ (length (now image) ≡ 2864) × (i < 51) ⌝ }
+    ensures { λ r. ⌜ wordsOf (now (image .exit)) ≡ sets (wordsOf (now (image .entry))) (457 + 5 * i) (recordWords p) ⌝ }
+{
+    let at = 457 + 5 * i;
+    put_three(image, at, p.first as u32, p.level as u32, p.length);
+    words::put_word(image, at + 3, p.lowest as u32);
+    words::put_word(image, at + 4, p.highest as u32);
+}
+
 // The finished partitions.
 fn put_partitions(image: &mut [u8], ps: Partitions)
-    requires { ⌜ length (now image) ≡ 2456 ⌝ }
+    requires { ⌜ length (now image) ≡ 2864 ⌝ }
     ensures { λ r. ⌜ (wordsOf (now (image .exit)) ≡ sets (wordsOf (now (image .entry))) 456 (partitionsWords ps)) × (length (ps .records) ≡ 51) ⌝ }
 {
     words::put_word(image, 456, ps.used as u32);
     let mut i: usize = 0;
     while i < MOST_PARTITIONS {
         let p = ps.records[i];
-        put_three(image, 457 + 3 * i, p.first as u32, p.level as u32, p.length);
+        put_record(image, i, p);
         i += 1;
     }
 }
 
 // The lengths of the buffers and the windows' numbers.
 fn put_numbers(image: &mut [u8], l: Lengths, w: Windows)
-    requires { ⌜ length (now image) ≡ 2456 ⌝ }
+    requires { ⌜ length (now image) ≡ 2864 ⌝ }
     ensures { λ r. ⌜ wordsOf (now (image .exit)) ≡ sets (wordsOf (now (image .entry))) 0 (numberWords l w) ⌝ }
 {
     put_three(image, 0, l.card, l.register, w.last as u32);
@@ -300,16 +317,16 @@ fn put_numbers(image: &mut [u8], l: Lengths, w: Windows)
 
 // The block last taken and the merge in progress.
 fn put_last(image: &mut [u8], taken: u16, m: MergeJob)
-    requires { ⌜ length (now image) ≡ 2456 ⌝ }
-    ensures { λ r. ⌜ wordsOf (now (image .exit)) ≡ sets (wordsOf (now (image .entry))) 610 (lastWords taken m) ⌝ }
+    requires { ⌜ length (now image) ≡ 2864 ⌝ }
+    ensures { λ r. ⌜ wordsOf (now (image .exit)) ≡ sets (wordsOf (now (image .entry))) 712 (lastWords taken m) ⌝ }
 {
-    put_three(image, 610, taken as u32, m.first as u32, m.length);
-    words::put_word(image, 613, m.steps);
+    put_three(image, 712, taken as u32, m.first as u32, m.length);
+    words::put_word(image, 715, m.steps);
 }
 
 // The image of a state.
 pub fn write_state(image: &mut [u8], s: State)
-    requires { ⌜ length (now image) ≡ 2456 ⌝ }
+    requires { ⌜ length (now image) ≡ 2864 ⌝ }
     ensures { λ r. ⌜ now (image .exit) ≡ bytes (imageOf s) ⌝ }
 {
     put_numbers(image, s.lengths, s.windows);

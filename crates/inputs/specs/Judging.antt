@@ -10,10 +10,11 @@ use Rattle.keyed.specs.Keys.{Item, allFall, keyPairs as keyedPairs}
 use Rattle.postings.specs.declared.Posting.{Posting}
 use Rattle.postings.specs.Merge.{isZero, nonzero, pairs}
 use Rattle.postings.specs.Sums.{under}
+use Rattle.postings.specs.Spans.{smaller, larger, lowest, highest}
 use Rattle.state.specs.declared.Partition.{Partition}
 use Rattle.partitions.specs.Layout.{termCount}
-use Rattle.partitions.specs.Reading.{postingsOf, inPartitions}
-use Rattle.partitions.specs.Formed.{listRule, inRange}
+use Rattle.partitions.specs.Reading.{inPartitions}
+use Rattle.partitions.specs.Formed.{listsRule, inRange}
 use Rattle.scans.specs.Keys.{postingOf}
 use Rattle.inputs.specs.declared.Totals.{Totals}
 
@@ -23,21 +24,28 @@ allInRange ps = every (λ p. inRange (p .count)) ps
 
 -- the inputs' lists keep their rule, and the sums of their pairs fit
 unfoldable pub inputsFormed : List ℕ → List Partition → Bool
-inputsFormed W ps = every (λ p. listRule (postingsOf W p)) ps && allInRange (pairs (inPartitions W ps))
+inputsFormed W ps = every (listsRule W) ps && allInRange (pairs (inPartitions W ps))
 
--- the totals of pairs: how many, how many with a sum other than 0, and of these how many identifiers
+-- the totals of pairs: how many, how many with a sum other than 0, and of these how many identifiers, and the lowest and the highest window
 unfoldable pub totalsOf : List Posting → Totals
-totalsOf ps = record { fine = true; pairs = length ps; postings = length (nonzero ps); terms = termCount (nonzero ps) }
+totalsOf ps = record {
+  fine = true;
+  pairs = length ps;
+  postings = length (nonzero ps);
+  terms = termCount (nonzero ps);
+  lowest = lowest (nonzero ps);
+  highest = highest (nonzero ps);
+}
 
 -- and how many of them are under each identifier
 unfoldable pub countsById : List Posting → List ℕ
 countsById ps = map (λ i. length (under i (nonzero ps))) (upTo 1024)
 
--- totals of zeros
+-- totals of no pairs
 abbrev pub zeros : Bool → Totals
-zeros fine = record { fine = fine; pairs = 0; postings = 0; terms = 0 }
+zeros fine = record { fine = fine; pairs = 0; postings = 0; terms = 0; lowest = 65535; highest = 0 }
 
--- what is told of inputs; of malformed ones zeros
+-- what is told of inputs; of malformed ones that of no pairs
 unfoldable pub judgedOf : List ℕ → List Partition → Totals
 judgedOf W ps = cond (inputsFormed W ps) (totalsOf (pairs (inPartitions W ps))) (zeros false)
 
@@ -62,8 +70,15 @@ risen terms n = cond (eqb n 0) (terms + 1) terms
 unfoldable pub totalsMore : Totals → ℕ → Posting → Totals
 totalsMore t n p =
     cond (isZero (p .count))
-    (record { fine = t .fine; pairs = t .pairs + 1; postings = t .postings; terms = t .terms })
-    (record { fine = t .fine; pairs = t .pairs + 1; postings = t .postings + 1; terms = risen (t .terms) n })
+    (record { fine = t .fine; pairs = t .pairs + 1; postings = t .postings; terms = t .terms; lowest = t .lowest; highest = t .highest })
+    (record {
+      fine = t .fine;
+      pairs = t .pairs + 1;
+      postings = t .postings + 1;
+      terms = risen (t .terms) n;
+      lowest = smaller (t .lowest) (p .window);
+      highest = larger (t .highest) (p .window);
+    })
 
 -- and the numbers by identifier
 unfoldable pub countsMore : List ℕ → Posting → List ℕ

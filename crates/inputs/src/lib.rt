@@ -22,13 +22,15 @@ ghost use Rattle.scans.specs.Heads.{views};
 ghost use Rattle.inputs.specs.Judging.{inputsFormed, judgedOf, countsById, zeros as zerosOf, Small, risen as risenOf, totalsMore, countsMore, untold, resumed, Told};
 ghost use Rattle.inputs.specs.Ahead.{pairsAhead, Ready, Formed, outWords, Matched, batched};
 
-// What is told of a merge's inputs: whether they are well formed, how many pairs they have, how many of these have a sum other than 0, and of how many
-// identifiers.
+// What is told of a merge's inputs: whether they are well formed, how many pairs they have, how many of these have a sum other than 0, of how many
+// identifiers these are, and their lowest and highest window.
 pub struct Totals {
     pub fine: bool,
     pub pairs: u32,
     pub postings: u32,
     pub terms: u16,
+    pub lowest: u16,
+    pub highest: u16,
 }
 
 // The pair that is taken next, and one more than the greatest key at any head past it.
@@ -78,7 +80,7 @@ fn pair_of(key: u32, sum: i32) -> Posting
     }
 }
 
-// Totals of zeros.
+// Totals of no pairs.
 fn zeros(fine: bool) -> Totals
     ensures { λ r. ⌜ r ≡ zerosOf fine ⌝ }
 {
@@ -87,6 +89,8 @@ fn zeros(fine: bool) -> Totals
         pairs: 0,
         postings: 0,
         terms: 0,
+        lowest: 65535,
+        highest: 0,
     }
 }
 
@@ -112,6 +116,8 @@ fn tally(t: Totals, counts: &mut [u16], p: Posting) -> Totals
     let n = counts[i];
     next.postings = t.postings + 1;
     next.terms = risen(t.terms, n);
+    next.lowest = spans::smaller(t.lowest, p.window);
+    next.highest = spans::larger(t.highest, p.window);
     counts[i] = n + 1;
     next
 }
@@ -154,6 +160,9 @@ pub fn judge(card: &[u8], ps: Partitions, heads: &mut [u32], counts: &mut [u16])
         × (r .fine ≡ true → now (counts .exit) ≡ countsById (pairsOf (inPartitions (wordsOf (now (card .entry))) (finished ps))))
         × Small r ⌝ }
 {
+    if !spans::spans_ok(card, ps) {
+        return zeros(false);
+    }
     let n = ps.used as usize;
     let top = scans::open_heads(card, ps, heads);
     walk(card, heads, n, top, counts)

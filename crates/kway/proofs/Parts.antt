@@ -1,5 +1,5 @@
 -- A part put back into an array: it stands in its place, and the others are as they were.
-use Rattle.lists.proofs.Prelude.{List, [], _∷_, _++_, map, ⊎-elim, _≡_, refl, sym, ap, _∙_, ℕ, zero, suc, _+_, _-_, _*_, _<_, _≤_, eq-or-lt-of-le, mul-suc, mul-le-mul-left, add-one, arith, length, getD, take, drop, take-append-drop, length-drop, length-take-le, take-at, drop-at, take-append-le, drop-append-le, drop-drop, take-suc, AllOf, map-append}
+use Rattle.lists.proofs.Prelude.{List, [], _∷_, _++_, map, ⊎-elim, _≡_, refl, sym, ap, _∙_, ℕ, zero, suc, _+_, _-_, _*_, _<_, _≤_, eq-or-lt-of-le, mul-suc, mul-le-mul-left, add-one, arith, length, add-zero, getD, getD-take, getD-drop, take, drop, take-append-drop, length-drop, length-take-le, take-at, drop-at, take-append-le, drop-append-le, drop-drop, take-suc, AllOf, map-append}
 use borrow.Rule.Slice.PartMut.{putMid, same-len-mid, mid-len, drop-put}
 use Rattle.kway.specs.Parts.{part, parts}
 
@@ -10,6 +10,10 @@ putIn w H P i = putMid (w * i) (w * i + w - w * i) H P
 -- the end of an earlier part
 pub ends : (w j i : ℕ) → j < i → w * j + w ≤ w * i
 ends w j i h = let a = mul-le-mul-left {m = suc j} {n = i} w h in let b = mul-suc w j in omega arith
+
+-- the first number of a part
+pub first-of : (w i : ℕ) (H : List ℕ) → 0 < w → getD (part w i H) 0 0 ≡ getD H (w * i) 0
+first-of w i H h = getD-take w (drop (w * i) H) 0 0 h ∙ getD-drop (w * i) H 0 0 ∙ ap (λ (n : ℕ). getD H n 0) (add-zero (w * i))
 
 pub width : (w i : ℕ) → w * i + w - w * i ≡ w
 width w i = omega arith

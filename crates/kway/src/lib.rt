@@ -26,6 +26,22 @@ pub struct Taken {
     pub next: u32,
 }
 
+// One more than the greatest key at any head, a list that has it, and one more than the greatest key at the others.
+pub struct Lead {
+    pub top: u32,
+    pub at: u32,
+    pub others: u32,
+}
+
+// What is taken of all lists under a key, and the list that leads afterwards.
+pub struct Led {
+    pub sum: i32,
+    pub fine: bool,
+    pub next: u32,
+    pub at: u32,
+    pub others: u32,
+}
+
 // A count more.
 pub fn added(sum: i32, count: i16) -> i32
     requires { ⌜ mag sum ≤ 16777216 ⌝ }

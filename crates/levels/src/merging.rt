@@ -19,6 +19,8 @@ fn no_partitions() -> Partitions
         first: 0,
         level: 0,
         length: 0,
+        lowest: 0,
+        highest: 0,
     };
     Partitions {
         used: 0,

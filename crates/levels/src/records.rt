@@ -31,6 +31,8 @@ fn record_at(p: Partitions, i: usize) -> Partition
         first: 0,
         level: 0,
         length: 0,
+        lowest: 0,
+        highest: 0,
     }
 }
 

@@ -17,7 +17,7 @@ pub use Rattle.lists.specs.Lists.{keep, any, every, empty, different, el
 unfoldable pub use Rattle.lists.specs.Lists.{below, rising, down}
 unfoldable pub use Rattle.lists.specs.All.{AllOf}
 pub use Rattle.lists.proofs.Bools.{by-test, and-left, and-right, or-none, or-swap, and-both, and-swap, or-right, and-past, and-past-two, and-turned, choose, cond-same}
-pub use Rattle.lists.proofs.Tests.{every-mem, every-kept, every-from, every-keep, keep-append, keep-all, every-append, every-take, every-drop, keep-none, length-keep, every-replicate, every-at, any-append, keep-same, keep-down, any-none, every-member, keep-both, keep-up, keep-low, map-kept, empty-length, empty-none, empty-is, empty-not}
+pub use Rattle.lists.proofs.Tests.{every-mem, every-kept, every-from, every-keep, keep-append, keep-all, every-append, every-take, every-drop, keep-none, length-keep, every-replicate, every-at, any-append, keep-same, keep-agree, every-down, keep-down, any-none, every-member, every-both, keep-both, keep-up, keep-low, map-kept, empty-length, empty-none, empty-is, empty-not}
 pub use Rattle.lists.proofs.Arrays.{unmapped, of-used, of-at}
 pub use Rattle.lists.proofs.Turns.{near-next, used-turn, used-end, passed, failed, turn, end, choose-place, and-judged, rest, rest-begin, rest-turn, rest-end}
 pub use Rattle.lists.proofs.Runs.{never, getD-rising, keep-here, keep-past, getD-sets-out, apart-append, apart-none, leb-less, leb-none, apart-hit, apart-more, union-more, eqb-swap, apart}

@@ -37,21 +37,21 @@ pub joined-append : {A B : Type 0} (f : A → List B) (l m : List A) → joined 
 joined-append f [] m = refl
 joined-append f (x ∷ l) m = ap (λ r. f x ++ r) (joined-append f l m) ∙ sym (append-assoc (f x) (joined (map f l)) (joined (map f m)))
 
--- lists of three elements each, stored one after another from place k on
-module _ {A : Type 0} (f : A → List ℕ) (k : ℕ) where
+-- lists of n elements each, stored one after another from place k on
+module _ {A : Type 0} (f : A → List ℕ) (n k : ℕ) where
   -- storing from word k on the parts of l is, after i of them, storing those that are left
   abbrev pub Parts : List ℕ → List A → List ℕ → ℕ → Type 0
-  Parts W₀ l W i = sets W₀ k (joined (map f l)) ≡ sets W (k + 3 * i) (joined (map f (drop i l)))
+  Parts W₀ l W i = sets W₀ k (joined (map f l)) ≡ sets W (k + n * i) (joined (map f (drop i l)))
 
   -- one part more
-  pub parts-turn : (W : List ℕ) (l : List A) (i : ℕ) (d : A) → i < length l → length (f (getD l i d)) ≡ 3
-      → sets W (k + 3 * i) (joined (map f (drop i l))) ≡ sets (sets W (k + 3 * i) (f (getD l i d))) (k + 3 * (i + 1)) (joined (map f (drop (i + 1) l)))
+  pub parts-turn : (W : List ℕ) (l : List A) (i : ℕ) (d : A) → i < length l → length (f (getD l i d)) ≡ n
+      → sets W (k + n * i) (joined (map f (drop i l))) ≡ sets (sets W (k + n * i) (f (getD l i d))) (k + n * (i + 1)) (joined (map f (drop (i + 1) l)))
   parts-turn W l i d h e =
-      let more : k + 3 * i + length (f (getD l i d)) ≡ k + 3 * (i + 1) = omega arith in
+      let more : k + n * i + length (f (getD l i d)) ≡ k + n * (i + 1) = omega arith in
       rw (add-one i, drop-cons l i d h)
-      (sets-append W (k + 3 * i) (f (getD l i d)) (joined (map f (drop (suc i) l)))
+      (sets-append W (k + n * i) (f (getD l i d)) (joined (map f (drop (suc i) l)))
       ∙ rw (more, add-one i))
 
   -- none is left
-  pub parts-end : (W : List ℕ) (l : List A) (i : ℕ) → length l ≤ i → sets W (k + 3 * i) (joined (map f (drop i l))) ≡ W
+  pub parts-end : (W : List ℕ) (l : List A) (i : ℕ) → length l ≤ i → sets W (k + n * i) (joined (map f (drop i l))) ≡ W
   parts-end W l i h = rw (drop-of-length-le l h)

@@ -26,6 +26,11 @@ module _ {A : Type 0} where
   keep-same t u h [] = refl
   keep-same t u h (x ∷ l) = rw (h x, keep-same t u h l)
 
+  -- tests that agree on all of a list keep the same of it
+  pub keep-agree : (t u p : A → Bool) → ((x : A) → p x ≡ true → t x ≡ u x) → (l : List A) → every p l ≡ true → keep t l ≡ keep u l
+  keep-agree t u p h [] e = refl
+  keep-agree t u p h (x ∷ l) e = rw (h x (and-left (p x) _ e), keep-agree t u p h l (and-right (p x) _ e))
+
   pub keep-append : (t : A → Bool) (l m : List A) → keep t (l ++ m) ≡ keep t l ++ keep t m
   keep-append t [] m = refl
   keep-append t (x ∷ l) m = by-test (t x) (λ e. rw (e, keep-append t l m)) (λ e. rw (e, keep-append t l m))
@@ -74,6 +79,14 @@ module _ {A : Type 0} where
   keep-none t (x ∷ l) e = let n = or-none (t x) (any t l) e in rw (n .0, keep-none t l (n .1))
 
   -- kept by two tests, one after the other
+  -- two tests of every element at once
+  pub every-both : (s t : A → Bool) (l : List A) → every (λ x. s x && t x) l ≡ (every s l && every t l)
+  every-both s t [] = refl
+  every-both s t (x ∷ l) =
+      by-test (s x)
+      (λ y. by-test (t x) (λ z. rw (y, z, every-both s t l)) (λ n. rw (y, n) (sym (and-false (every s l)))))
+      (λ n. rw n)
+
   pub keep-both : (s t u : A → Bool) → ((x : A) → u x ≡ (s x && t x)) → (l : List A) → keep u l ≡ keep s (keep t l)
   keep-both s t u e [] = refl
   keep-both s t u e (x ∷ l) =
@@ -124,6 +137,12 @@ module _ {A : Type 0} where
   empty-not [] e = absurd (true≢false e)
   empty-not (x ∷ l) e = omega arith
 
+-- what 1 to n pass
+pub every-down : (t : ℕ → Bool) (n : ℕ) → ((v : ℕ) → v < n → t (suc v) ≡ true) → every t (down n) ≡ true
+unfolding down
+every-down t zero h = refl
+every-down t (suc n) h = and-both (t (suc n)) _ (h n (omega arith)) (every-down t n (λ v k. h v (omega arith)))
+
 -- two tests that agree on 1 to n keep the same of them
 pub keep-down : (t u : ℕ → Bool) (n : ℕ) → ((w : ℕ) → w ≤ n → t w ≡ u w) → keep t (down n) ≡ keep u (down n)
 unfolding down
@@ -153,12 +172,13 @@ keep-low t p m M h low high =
     all zero f = refl
     all (suc n) f = rw (f n (omega arith), and-true (t (suc n)), all n (λ v k. f v (omega arith)))
 
--- tests and functions that agree on 1 to n have the same values of what is kept
-pub map-kept : {A : Type 0} (f g : ℕ → A) (t u : ℕ → Bool) (m : ℕ) → ((v : ℕ) → v ≤ m → t v ≡ u v) → ((v : ℕ) → v ≤ m → f v ≡ g v) → map f (keep t (down m)) ≡ map g (keep u (down m))
-unfolding down
-map-kept f g t u zero a b = refl
-map-kept f g t u (suc m) a b =
-    let rest = map-kept f g t u m (λ v h. a v (omega arith)) (λ v h. b v (omega arith)) in
-    by-test (u (suc m))
-    (λ y. rw (a (suc m) (omega arith), y) (ap₂ _∷_ (b (suc m) (omega arith)) rest))
-    (λ z. rw (a (suc m) (omega arith), z) rest)
+-- tests and functions that agree on all of a list have the same values of what is kept
+pub map-kept : {A B : Type 0} (f g : A → B) (t u p : A → Bool) (l : List A) → every p l ≡ true → ((x : A) → p x ≡ true → t x ≡ u x) → ((x : A) → p x ≡ true → f x ≡ g x)
+    → map f (keep t l) ≡ map g (keep u l)
+map-kept f g t u p [] e a b = refl
+map-kept f g t u p (x ∷ l) e a b =
+    let h = and-left (p x) _ e in
+    let rest = map-kept f g t u p l (and-right (p x) _ e) a b in
+    by-test (u x)
+    (λ y. rw (a x h, y) (ap₂ _∷_ (b x h) rest))
+    (λ z. rw (a x h, z) rest)

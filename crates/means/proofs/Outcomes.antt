@@ -1,35 +1,37 @@
 -- What a mean comes to, test by test.
-use Rattle.lists.proofs.Prelude.{Bool, true, false, _&&_, and-true, not, List, [], _∷_, _≡_, ℕ, _<_, _≤_, arith, eqb, length, lt-ltb, le-ltb, every}
+use Rattle.lists.proofs.Prelude.{Bool, true, false, _&&_, and-true, not, List, [], _∷_, _≡_, refl, _∙_, ℕ, _<_, _≤_, arith, eqb, length, lt-ltb, le-ltb, every}
 use Rattle.words.specs.Words.{words}
 use Rattle.postings.specs.Sums as S
 use Rattle.postings.specs.Sums.{amount}
-use Rattle.answers.specs.Answers.{refuse, leave, refuseIf}
+use Rattle.answers.specs.Answers.{Outcome, refuse, leave, refuseIf}
 use Rattle.answers.specs.Numbers.{refusalNumber}
 use Rattle.answers.specs.declared.Refusal.{Refusal}
 use Rattle.state.specs.declared.State.{State}
 use Rattle.state.specs.Views.{blocks, finished}
 use Rattle.state.specs.Rules.{stateRule}
 use Rattle.state.specs.Probe.{Probe}
-use Rattle.state.specs.Shown.{shown}
+use Rattle.state.specs.Shown.{shownIn}
 use Rattle.identifiers.specs.Names.{Name, badLength, numberOf, numbersOf}
 use Rattle.identifiers.specs.Register.{names, registerRule}
 use Rattle.partitions.specs.Reading.{stored}
 use Rattle.partitions.specs.Formed.{partitionsFormed, identifierFormed}
+use Rattle.stretches.specs.Reached.{readBy, whole}
+use Rattle.sums.specs.Tally.{listsRuled}
 use Rattle.admission.specs.Admission.{firstOf, sameLengths, probeTests}
 use Rattle.admission.proofs.Laws.{refused-apart, barred}
 use Rattle.ranking.specs.Hits.{frequency}
 use Rattle.queries.specs.Query.{countIn, numbers, queryFormed}
 use Rattle.averages.specs.Average.{total, averaged, averaging}
-use Rattle.means.specs.Mean.{frequencyIn, totalIn, meaning, meanOf}
+use Rattle.means.specs.Mean.{frequencyIn, totalIn, meaning, meanOf, restOf}
 
 -- ---- F and the sum of one identifier, and of none
 
 module _ (W : List ℕ) (s : State) (i : ℕ) where
-  frequency-one : frequencyIn W s (i ∷ []) ≡ S.frequency (shown (s .windows)) (stored W s) i
+  frequency-one : frequencyIn W s (i ∷ []) ≡ S.frequency (shownIn whole (s .windows)) (stored W s) i
   unfolding frequencyIn frequency S.frequency countIn
   frequency-one = omega arith
 
-  total-one : totalIn W s (i ∷ []) ≡ amount (shown (s .windows)) (stored W s) i
+  total-one : totalIn W s (i ∷ []) ≡ amount (shownIn whole (s .windows)) (stored W s) i
   unfolding totalIn total amount countIn
   total-one = omega arith
 
@@ -44,20 +46,31 @@ module _ (ms : List Name) (n : Name) where
 
 -- ---- the refusals in order
 
+-- a test that does not hold
+unrefused : (k : ℕ) (o : Outcome (Unit {0})) → refuseIf false k o ≡ o
+unfolding refuseIf
+unrefused k o = refl
+
 module _ (p : Probe) (n : Name) where
   abbrev is : List ℕ
   is = numbers (p .register) (n ∷ [])
 
+  -- the state as it is read
+  abbrev read : State
+  read = readBy whole (p .state)
+
   -- F and the sum
   abbrev f : ℕ
-  f = frequencyIn (words (p .card)) (p .state) is
+  f = frequencyIn (words (p .card)) read is
 
   abbrev t : ℕ
-  t = totalIn (words (p .card)) (p .state) is
+  t = totalIn (words (p .card)) read is
 
   -- what refusal 3 asks beyond the register's rule
   abbrev rest : Bool
-  rest = partitionsFormed (words (p .card)) (blocks (p .state)) (finished (p .state .partitions)) && every (identifierFormed (words (p .card)) (p .state)) is
+  rest =
+      partitionsFormed (words (p .card)) (blocks (p .state)) (finished (p .state .partitions))
+      && (listsRuled (words (p .card)) read && every (identifierFormed (words (p .card)) read) is)
 
   -- refused by what is judged first
   pub mean-barred : (why : Refusal) → refusalNumber why ≡ firstOf (1 ∷ 2 ∷ 3 ∷ []) (probeTests (stateRule (p .state)) (p .state .lengths) (p .card) (p .register))
@@ -74,15 +87,28 @@ module _ (p : Probe) (n : Name) where
     unfolding meanOf meaning queryFormed refuseIf
     mean-partitions d = rw (a, b, c, d)
 
-    module _ (d : partitionsFormed (words (p .card)) (blocks (p .state)) (finished (p .state .partitions)) ≡ true) where
-      -- of an identifier that the register has not
-      pub mean-unknown : length (names (p .register)) ≤ numberOf (names (p .register)) n → meanOf p n ≡ averaging n 0 0
-      unfolding meanOf meaning queryFormed averaging refuseIf frequencyIn totalIn
-      mean-unknown h = rw (a, b, c, d, number-unknown (names (p .register)) n h)
+    -- past them the rest decides
+    pub mean-rest : partitionsFormed (words (p .card)) (blocks (p .state)) (finished (p .state .partitions)) ≡ true → meanOf p n ≡ restOf (words (p .card)) read (p .register) n
+    unfolding meanOf meaning queryFormed restOf
+    mean-rest d = rw (a, b, c, d) (unrefused 1 _ ∙ unrefused 2 _ ∙ refused-apart (listsRuled (words (p .card)) read) (every (identifierFormed (words (p .card)) read) is) 3 _)
 
-      -- and of one that it has
-      pub mean-known : (i : ℕ) → i ≡ numberOf (names (p .register)) n → i < length (names (p .register))
-          → meanOf p n ≡ refuseIf (not (identifierFormed (words (p .card)) (p .state) i)) 3 (averaging n (S.frequency (shown (p .state .windows)) (stored (words (p .card)) (p .state)) i) (amount (shown (p .state .windows)) (stored (words (p .card)) (p .state)) i))
-      unfolding meanOf meaning queryFormed averaging refuseIf
-      mean-known i e h =
-          rw (a, b, c, d, number-known (names (p .register)) n (omega arith), ← e, and-true (identifierFormed (words (p .card)) (p .state) i), frequency-one (words (p .card)) (p .state) i, total-one (words (p .card)) (p .state) i)
+-- ---- the rest, where s is the state as it is read
+
+module _ (W : List ℕ) (s : State) (register : List ℕ) (n : Name) where
+  -- 3 for a list
+  pub rest-lists : listsRuled W s ≡ false → restOf W s register n ≡ refuse 3
+  unfolding restOf refuseIf
+  rest-lists d = rw d
+
+  module _ (d : listsRuled W s ≡ true) where
+    -- of an identifier that the register has not
+    pub rest-unknown : length (names register) ≤ numberOf (names register) n → restOf W s register n ≡ averaging n 0 0
+    unfolding restOf averaging refuseIf frequencyIn totalIn
+    rest-unknown h = rw (d, number-unknown (names register) n h)
+
+    -- and of one that it has
+    pub rest-known : (i : ℕ) → i ≡ numberOf (names register) n → i < length (names register)
+        → restOf W s register n ≡ refuseIf (not (identifierFormed W s i)) 3 (averaging n (S.frequency (shownIn whole (s .windows)) (stored W s) i) (amount (shownIn whole (s .windows)) (stored W s) i))
+    unfolding restOf averaging refuseIf
+    rest-known i e h =
+        rw (d, number-known (names register) n (omega arith), ← e, and-true (identifierFormed W s i), frequency-one W s i, total-one W s i)

@@ -3,6 +3,7 @@ use Rattle.lists.proofs.Prelude.{Bool, true, false, _||_, _&&_, not, cond, List
 use Rattle.words.specs.Words.{allOnes}
 use Rattle.postings.specs.declared.Posting.{Posting}
 use Rattle.postings.specs.Merge.{nonzero}
+use Rattle.postings.specs.Spans.{lowest, highest}
 use Rattle.state.specs.declared.State.{State}
 use Rattle.state.specs.Views.{padded, blocks, finished}
 use Rattle.card.specs.Blocks.{noBlock, isFree, freeBlocks}
@@ -17,7 +18,7 @@ use Rattle.blocks.proofs.ByteRule.{store-fills, release-frees, fills-moves, fil
 use Rattle.blocks.proofs.Refills.{refills}
 use Rattle.partitions.specs.Layout.{identifiersOf, termCount, lengthOf, header, entryOf, wordOf, encode}
 use Rattle.partitions.specs.Reading.{postingsOf}
-use Rattle.partitions.specs.Formed.{partitionsFormed, chainsOf, listRule, inRange}
+use Rattle.partitions.specs.Formed.{partitionsFormed, chainsOf, listsRule, inRange}
 use Rattle.plans.specs.Merging.{inputs, taking, result, outputLength, outputBlocks, progress, isLast, outputLevel, outputContent}
 use Rattle.plans.specs.Step.{inProgress, outputChain, outputRule, stepFormed, outputOn, writtenOn}
 use Rattle.plans.proofs.Progress.{front, nonzero-append, nonzero-take, length-progress, all-taken, result-room}
@@ -72,13 +73,13 @@ module _ (s : State) (ps : List Posting) (j : ℕ) where
 
   -- header and entries, or the space for them
   abbrev heading : Bool → List ℕ
-  heading t = cond t (header (outputLevel s) (termCount (result ps)) (length (result ps)) ++ joined (map (entryOf (result ps)) (identifiersOf (result ps)))) (replicate (front ps) allOnes)
+  heading t = cond t (header (outputLevel s) (termCount (result ps)) (length (result ps)) (lowest (result ps)) (highest (result ps)) ++ joined (map (entryOf (result ps)) (identifiersOf (result ps)))) (replicate (front ps) allOnes)
 
   heading-long : (t : Bool) → length (heading t) ≡ front ps
   heading-long true =
       omega (
         arith,
-        length-append (header (outputLevel s) (termCount (result ps)) (length (result ps))) (joined (map (entryOf (result ps)) (identifiersOf (result ps)))),
+        length-append (header (outputLevel s) (termCount (result ps)) (length (result ps)) (lowest (result ps)) (highest (result ps))) (joined (map (entryOf (result ps)) (identifiersOf (result ps)))),
         length-joined (entryOf (result ps)) 3 (λ x. refl) (identifiersOf (result ps)),
       )
   heading-long false = length-replicate (front ps) allOnes
@@ -90,7 +91,7 @@ module _ (s : State) (ps : List Posting) (j : ℕ) where
     where
       go : (t : Bool) → isLast ps (suc j) ≡ t → cond t (encode (outputLevel s) (result ps)) (progress ps (suc j)) ≡ heading t ++ (done ++ next)
       go true y =
-          sym (append-assoc (header (outputLevel s) (termCount (result ps)) (length (result ps))) (joined (map (entryOf (result ps)) (identifiersOf (result ps)))) (map wordOf (result ps)))
+          sym (append-assoc (header (outputLevel s) (termCount (result ps)) (length (result ps)) (lowest (result ps)) (highest (result ps))) (joined (map (entryOf (result ps)) (identifiersOf (result ps)))) (map wordOf (result ps)))
           ∙ ap (λ l. heading true ++ l) (ap (λ l. map wordOf (nonzero l)) (sym (all-taken ps (suc j) y)) ∙ both)
       go false n = ap (λ l. heading false ++ l) both
 
@@ -196,7 +197,7 @@ module _ (W : List ℕ) (s : State) (long : length W ≡ 1024 * blocks s) where
       last : (not (inProgress s) || outputRule W s ps) ≡ true
       last =
           and-right (every (λ p. inRange (p .count)) ps) _
-          (and-right (every (λ p. listRule (postingsOf W p)) (inputs s)) _ (and-right (partitionsFormed W (blocks s) (finished (s .partitions))) _ formed))
+          (and-right (every (listsRule W) (inputs s)) _ (and-right (partitionsFormed W (blocks s) (finished (s .partitions))) _ formed))
 
       go : (t : Bool) → inProgress s ≡ t → Fills W (store W (cond t bs (take n (freeBlocks W (blocks s) (s .taken)))) (outputContent s ps (suc j)))
       go true y = going (sym (ap (λ t. not t || outputRule W s ps) y) ∙ last)

@@ -48,6 +48,8 @@ fn no_deed(why: Refusal) -> Deed
         pairs: 0,
         postings: 0,
         terms: 0,
+        lowest: 65535,
+        highest: 0,
     };
     let o = Output {
         first: 65534,

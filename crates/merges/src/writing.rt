@@ -50,7 +50,16 @@ fn complete(card: &mut [u8], o: Output, level: u16, t: Totals, counts: &[u16])
         × Chained (wordsOf (now card)) (o .first) (o .blocks) × (length (now counts) ≡ 1024) ⌝ }
     ensures { λ r. ⌜ wordsOf (now (card .exit)) ≡ withFront (wordsOf (now (card .entry))) level t (now (counts .entry)) o ⌝ }
 {
-    outputs::write_header(card, o.first, o.blocks, level, t.terms, t.postings);
+    outputs::write_header(
+        card,
+        o.first,
+        o.blocks,
+        level,
+        t.terms,
+        t.postings,
+        t.lowest,
+        t.highest,
+    );
     outputs::write_entries(card, o.first, o.blocks, counts);
 }
 
@@ -86,6 +95,8 @@ pub fn list_after(last: bool, ps: Partitions, t: Totals, o: Output) -> Partition
         first: o.first,
         level: level,
         length: output_length(t),
+        lowest: t.lowest,
+        highest: t.highest,
     };
     levels::merging::replaced_by(ps, t.postings != 0, q)
 }

@@ -25,7 +25,7 @@ pub fn reply_number(reply: Reply) -> u32
 
 // The number of an answer, with the image put back where the call is done.
 pub fn settle(image: &mut [u8], after: Replied) -> u32
-    requires { ⌜ length (now image) ≡ 2456 ⌝ }
+    requires { ⌜ length (now image) ≡ 2864 ⌝ }
     ensures { λ r. ⌜ (repliedBy r ≡ replied (after .reply)) × (now (image .exit) ≡ leftOn (replied (after .reply)) (after .state) (now (image .entry))) ⌝ }
 {
     let reply = after.reply;
@@ -40,7 +40,7 @@ pub fn settle(image: &mut [u8], after: Replied) -> u32
 
 // The same for an open.
 pub fn settle_open(image: &mut [u8], after: Opening) -> u32
-    requires { ⌜ length (now image) ≡ 2456 ⌝ }
+    requires { ⌜ length (now image) ≡ 2864 ⌝ }
     ensures { λ r. ⌜ (openedBy r ≡ openedAs (after .answer)) × (now (image .exit) ≡ leftOn (openedAs (after .answer)) (after .state) (now (image .entry))) ⌝ }
 {
     let answer = after.answer;

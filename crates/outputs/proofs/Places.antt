@@ -85,13 +85,6 @@ module _ (W : List ℕ) (first n : ℕ) (g : Chained W first n) where
 
 -- Cursors ------------------------------------------------------------------------------------------------------------
 
--- a cursor that moves has less to come
-pub moved-less : (W : List ℕ) (c : Cursor) → 0 < c .left → movedOf W c .left < c .left
-moved-less W c h =
-    by-test (eqb (c .word) 1022 && ltb 1 (c .left))
-    (λ y. rw y (omega arith))
-    (λ y. rw y (omega arith))
-
 -- one with none to come has no word that is not all ones
 pub every-none : (W : List ℕ) (c : Cursor) → c .left ≡ 0 → every (eqb allOnes) (ahead W c) ≡ true
 unfolding aheadAt

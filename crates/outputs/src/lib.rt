@@ -70,9 +70,18 @@ pub fn write_words(card: &mut [u8], first: u16, n: u32, offset: u32, content: &[
 }
 
 // The header, at the beginning of the content of the n blocks from `first` on.
-pub fn write_header(card: &mut [u8], first: u16, n: u32, level: u16, terms: u16, count: u32)
+pub fn write_header(
+    card: &mut [u8],
+    first: u16,
+    n: u32,
+    level: u16,
+    terms: u16,
+    count: u32,
+    lowest: u16,
+    highest: u16,
+)
     requires { ⌜ (length (now card) % 4 ≡ 0) × (0 < n) × (totalLength terms count < 4294967296) × Chained (wordsOf (now card)) first n ⌝ }
-    ensures { λ r. ⌜ wordsOf (now (card .exit)) ≡ written (wordsOf (now (card .entry))) (chain (wordsOf (now (card .entry))) first n) 0 (header level terms count) ⌝ }
+    ensures { λ r. ⌜ wordsOf (now (card .exit)) ≡ written (wordsOf (now (card .entry))) (chain (wordsOf (now (card .entry))) first n) 0 (header level terms count lowest highest) ⌝ }
 {
     let t = terms as u32;
     let fields = [
@@ -82,8 +91,8 @@ pub fn write_header(card: &mut [u8], first: u16, n: u32, level: u16, terms: u16,
         32 + 12 * t,
         32 + 12 * t + 4 * count,
         level as u32,
-        0,
-        0,
+        lowest as u32,
+        highest as u32,
     ];
     write_words(card, first, n, 0, &fields);
 }

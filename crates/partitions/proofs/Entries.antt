@@ -2,6 +2,7 @@
 use Rattle.lists.proofs.Prelude.{List, _++_, map, map-id, append-assoc, _≡_, refl, ap, _∙_, ℕ, _+_, _*_, _<_, arith, length, getD, drop, getD-append-add, drop-append-add, drop-at, joined, upTo, map-upTo, length-joined, joined-at}
 use Rattle.postings.specs.declared.Posting.{Posting}
 use Rattle.postings.specs.Sums.{under}
+use Rattle.postings.specs.Spans.{lowest, highest}
 use Rattle.partitions.specs.Layout.{identifiersOf, termCount, entryOf, wordOf, header, encode}
 use Rattle.partitions.specs.Reading.{field, entryNumber, entryCount, entryFirst, postingWords}
 use Rattle.partitions.proofs.Groups.{lower}
@@ -9,10 +10,10 @@ use Rattle.partitions.proofs.Groups.{lower}
 module _ (level : ℕ) (ps : List Posting) (rest : List ℕ) where
   -- header, entries, postings, and what follows
   parts : encode level ps ++ rest
-      ≡ header level (termCount ps) (length ps) ++ (joined (map (entryOf ps) (identifiersOf ps)) ++ (map wordOf ps ++ rest))
+      ≡ header level (termCount ps) (length ps) (lowest ps) (highest ps) ++ (joined (map (entryOf ps) (identifiersOf ps)) ++ (map wordOf ps ++ rest))
   unfolding encode
   parts =
-      let h = header level (termCount ps) (length ps) in
+      let h = header level (termCount ps) (length ps) (lowest ps) (highest ps) in
       ap (λ (r : List ℕ). h ++ r) (append-assoc (joined (map (entryOf ps) (identifiersOf ps))) (map wordOf ps) rest)
 
   -- the header begins with the number of identifiers
@@ -29,7 +30,7 @@ module _ (level : ℕ) (ps : List Posting) (rest : List ℕ) where
   entry-word : (j r : ℕ) → j < termCount ps → r < 3 → getD (encode level ps ++ rest) (8 + (3 * j + r)) 0 ≡ getD (entryOf ps (getD (identifiersOf ps) j 0)) r 0
   entry-word j r a b =
       rw parts
-      (getD-append-add (header level (termCount ps) (length ps)) (joined (map (entryOf ps) (identifiersOf ps)) ++ (map wordOf ps ++ rest)) (3 * j + r) 0
+      (getD-append-add (header level (termCount ps) (length ps) (lowest ps) (highest ps)) (joined (map (entryOf ps) (identifiersOf ps)) ++ (map wordOf ps ++ rest)) (3 * j + r) 0
       ∙ joined-at (entryOf ps) 3 (λ i. refl) (identifiersOf ps) (map wordOf ps ++ rest) 0 0 j r a b)
 
   -- entry j has the number of identifier j
@@ -47,7 +48,7 @@ module _ (level : ℕ) (ps : List Posting) (rest : List ℕ) where
   -- past the entries stand the postings
   pub posting-words : postingWords (encode level ps ++ rest) ≡ map wordOf ps ++ rest
   posting-words =
-      let h = header level (termCount ps) (length ps) in
+      let h = header level (termCount ps) (length ps) (lowest ps) (highest ps) in
       let es = joined (map (entryOf ps) (identifiersOf ps)) in
       ap (λ (k : ℕ). drop (8 + 3 * k) (encode level ps ++ rest)) field-terms ∙ ap (λ (r : List ℕ). drop (8 + 3 * termCount ps) r) parts
       ∙ drop-append-add h (es ++ (map wordOf ps ++ rest)) (3 * termCount ps)

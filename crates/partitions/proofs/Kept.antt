@@ -1,7 +1,8 @@
 -- A partition that is written to free blocks is read back, and every other one is read as before.
-use Rattle.lists.proofs.Prelude.{true, _&&_, List, [], _∷_, _++_, _≡_, refl, sym, ap, ap₂, _∙_, ℕ, _+_, _*_, _-_, _≤_, arith, length, getD, replicate, every, different, AllOf, and-left, and-right, and-both, every-from}
+use Rattle.lists.proofs.Prelude.{true, _&&_, List, [], _∷_, _++_, _≡_, refl, sym, ap, ap₂, _∙_, ℕ, _+_, _*_, _-_, _≤_, arith, length, getD, replicate, eq-eqb, every, different, AllOf, and-left, and-right, and-both, every-from}
 use Rattle.words.specs.Words.{allOnes}
 use Rattle.postings.specs.declared.Posting.{Posting}
+use Rattle.postings.specs.Spans.{lowest, highest}
 use Rattle.state.specs.declared.Partition.{Partition}
 use Rattle.card.specs.Blocks.{isFree, onCard}
 use Rattle.card.specs.Chains.{blocksFor, chain, chainRule, content}
@@ -11,11 +12,15 @@ use Rattle.blocks.proofs.FreeBlocks.{chain-taken, apart-free}
 use Rattle.blocks.proofs.Stored.{chain-stored, rule-stored, content-stored}
 use Rattle.partitions.specs.Layout.{lengthOf, encode, writtenAs}
 use Rattle.partitions.specs.Reading.{chainOf, decode, postingsOf, inPartitions}
-use Rattle.partitions.specs.Formed.{headerRule, entriesRule, partitionRule, chainsOf, partitionsFormed, Writable}
+use Rattle.partitions.specs.Formed.{headerRule, entriesRule, partitionRule, chainsOf, partitionsFormed, spanRule, listsRule, listRule, Writable}
 use Rattle.partitions.proofs.Lookup.{rule-chain}
 use Rattle.partitions.proofs.Lengths.{length-encode, blocks-hold, blocks-some}
 use Rattle.partitions.proofs.Trips.{decode-encode}
 use Rattle.partitions.proofs.Rules.{list-ordered, header-rule, entries-rule}
+
+-- the record of what is written tells its windows
+pub span-own : (bs : List ℕ) (level : ℕ) (ps : List Posting) → spanRule (writtenAs bs level ps) ps ≡ true
+span-own bs level ps = rw (eq-eqb (lowest ps) (lowest ps) refl) (eq-eqb (highest ps) (highest ps) refl)
 
 -- Written ----------------------------------------------------------------------------------------------------------
 
@@ -43,7 +48,7 @@ module _ (W bs : List ℕ) (n level : ℕ) (ps : List Posting) (long : length W 
         and-both (chainRule c n (getD bs 0 0) (blocksFor (lengthOf ps))) _
         (ap (chainRule c n (getD bs 0 0)) (sym fits) ∙ rule-stored W bs (encode level ps) n long on new (omega (arith, blocks-some ps)))
         (rw content-written
-        (and-both (headerRule p (encode level ps ++ rest)) _ (header-rule level ps rest p (w .some) refl refl)
+        (and-both (headerRule p (encode level ps ++ rest)) _ (header-rule level ps rest p (w .some) refl refl (span-own bs level ps))
         (entries-rule level ps rest (list-ordered ps (w .formed)) (w .numbered))))
 
     -- and the postings are read back
@@ -52,6 +57,12 @@ module _ (W bs : List ℕ) (n level : ℕ) (ps : List Posting) (long : length W 
     postings-written =
         ap decode content-written
         ∙ decode-encode level ps (replicate (1023 * length bs - length (encode level ps)) allOnes) (list-ordered ps (w .formed)) (w .fitting)
+
+    -- and all its lists keep their rule
+    pub lists-written : listsRule (store W bs (encode level ps)) (writtenAs bs level ps) ≡ true
+    unfolding listsRule
+    lists-written =
+        rw postings-written (and-both (listRule ps) (spanRule (writtenAs bs level ps) ps) (w .formed) (span-own bs level ps))
 
 -- Kept -------------------------------------------------------------------------------------------------------------
 
@@ -76,6 +87,11 @@ module _ (W′ W : List ℕ) (q : Partition) (a : Agree W′ W (chainOf W q)) wh
   pub postings-kept : postingsOf W′ q ≡ postingsOf W q
   unfolding postingsOf
   postings-kept = ap decode content-kept
+
+  -- all its lists keep their rule on both or on neither
+  pub lists-kept : listsRule W′ q ≡ listsRule W q
+  unfolding listsRule
+  lists-kept = ap (λ (l : List Posting). listRule l && spanRule q l) postings-kept
 
 -- two cards that agree on the blocks of every partition of a list
 abbrev pub AgreeAll : List ℕ → List ℕ → List Partition → Type 0

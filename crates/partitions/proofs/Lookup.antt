@@ -41,8 +41,8 @@ pub record Headed (p : Partition) (c : List ℕ) : Type 0 where
   pub total : field c 4 ≡ totalLength (field c 0) (field c 1)
   pub long : p .length ≡ totalLength (field c 0) (field c 1)
   pub level : field c 5 ≡ p .level
-  pub spare : field c 6 ≡ 0
-  pub last : field c 7 ≡ 0
+  pub lowest : field c 6 ≡ p .lowest
+  pub highest : field c 7 ≡ p .highest
 
 -- the rule says all of it
 pub headed : (p : Partition) (c : List ℕ) → headerRule p c ≡ true → Headed p c
@@ -63,8 +63,8 @@ headed p c e =
       total = t;
       long = sym (eqb-true (field c 4) (p .length) (and-left _ _ e5)) ∙ t;
       level = eqb-true (field c 5) (p .level) (and-left _ _ e6);
-      spare = eqb-true (field c 6) 0 (and-left _ _ e7);
-      last = eqb-true (field c 7) 0 (and-right (eqb (field c 6) 0) _ e7);
+      lowest = eqb-true (field c 6) (p .lowest) (and-left _ _ e7);
+      highest = eqb-true (field c 7) (p .highest) (and-right (eqb (field c 6) (p .lowest)) _ e7);
     }
 
 -- The entries ------------------------------------------------------------------------------------------------------

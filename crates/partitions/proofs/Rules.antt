@@ -1,12 +1,13 @@
 -- What is written as a partition keeps every rule of a partition that is read.
-use Rattle.lists.proofs.Prelude.{true, List, _++_, map, _≡_, refl, sym, ap, _∙_, ℕ, _+_, _*_, _≤_, zero-add, eqb, leb, length, le-leb, eq-eqb, every, totalBy, same, upTo, and-left, and-both, every-map, total-map, same-refl}
+use Rattle.lists.proofs.Prelude.{true, List, _++_, map, _≡_, refl, sym, ap, _∙_, ℕ, _+_, _*_, _≤_, zero-add, eqb, leb, length, le-leb, eq-eqb, eqb-true, every, totalBy, same, upTo, and-left, and-right, and-both, every-map, total-map, same-refl}
 use Rattle.postings.specs.declared.Posting.{Posting}
 use Rattle.postings.specs.Order.{ordered}
 use Rattle.postings.specs.Sums.{under}
+use Rattle.postings.specs.Spans.{lowest, highest}
 use Rattle.state.specs.declared.Partition.{Partition}
 use Rattle.partitions.specs.Layout.{identifiersOf, termCount, totalLength, lengthOf, encode}
 use Rattle.partitions.specs.Reading.{field, entryNumber, entryCount, entryFirst}
-use Rattle.partitions.specs.Formed.{headerRule, entriesRule, ascending, running, listRule}
+use Rattle.partitions.specs.Formed.{headerRule, entriesRule, ascending, running, listRule, spanRule}
 use Rattle.partitions.proofs.Groups.{lower, every-identifier, identifiers-ascending, groups-some, groups-total, groups-running}
 use Rattle.partitions.proofs.Lengths.{terms-some}
 use Rattle.partitions.proofs.Entries.{field-postings, numbers-encoded, counts-encoded, firsts-encoded}
@@ -18,9 +19,10 @@ list-ordered ps e = and-left (ordered ps) _ e
 
 module _ (level : ℕ) (ps : List Posting) (rest : List ℕ) where
   -- the header
-  pub header-rule : (p : Partition) → 1 ≤ length ps → p .length ≡ lengthOf ps → p .level ≡ level → headerRule p (encode level ps ++ rest) ≡ true
+  pub header-rule : (p : Partition) → 1 ≤ length ps → p .length ≡ lengthOf ps → p .level ≡ level → spanRule p ps ≡ true
+      → headerRule p (encode level ps ++ rest) ≡ true
   unfolding encode lengthOf
-  header-rule p s l v =
+  header-rule p s l v w =
       let n = termCount ps in
       let k = length ps in
       let t = totalLength n k in
@@ -31,7 +33,9 @@ module _ (level : ℕ) (ps : List Posting) (rest : List ℕ) where
       (and-both (eqb (field f 3) (32 + 12 * n)) _ (eq-eqb (field f 3) (32 + 12 * n) refl)
       (and-both (eqb (field f 4) t) _ (eq-eqb (field f 4) t refl)
       (and-both (eqb (field f 4) (p .length)) _ (eq-eqb (field f 4) (p .length) (sym l))
-      (and-both (eqb (field f 5) (p .level)) _ (eq-eqb (field f 5) (p .level) (sym v)) refl))))))
+      (and-both (eqb (field f 5) (p .level)) _ (eq-eqb (field f 5) (p .level) (sym v))
+      (and-both (eqb (field f 6) (p .lowest)) _ (eq-eqb (field f 6) (p .lowest) (sym (eqb-true _ _ (and-left (eqb (p .lowest) (lowest ps)) _ w))))
+      (eq-eqb (field f 7) (p .highest) (sym (eqb-true _ _ (and-right (eqb (p .lowest) (lowest ps)) _ w)))))))))))
 
   -- the entries
   pub entries-rule : ordered ps ≡ true → every (λ p. leb (p .id) 1023) ps ≡ true → entriesRule (encode level ps ++ rest) ≡ true

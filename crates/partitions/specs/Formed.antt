@@ -11,6 +11,7 @@ use Rattle.postings.specs.declared.Posting.{Posting}
 use Rattle.postings.specs.Order.{ordered}
 use Rattle.postings.specs.Merge.{isZero, pairs}
 use Rattle.postings.specs.Sums.{under}
+use Rattle.postings.specs.Spans.{lowest, highest}
 use Rattle.state.specs.declared.Partition.{Partition}
 use Rattle.state.specs.declared.State.{State}
 use Rattle.state.specs.Views.{finished}
@@ -18,7 +19,7 @@ use Rattle.card.specs.Chains.{blocksFor, chainRule, content}
 use Rattle.partitions.specs.Layout.{totalLength}
 use Rattle.partitions.specs.Reading.{field, entryNumber, entryCount, entryFirst, chainOf, postingsOf, inPartitions, stored}
 
--- a header names at least one identifier and one posting, the layout's offsets, the record's length and level, and twice 0
+-- a header names at least one identifier and one posting, the layout's offsets, and the record's length, level, lowest and highest window
 abbrev pub headerRule : Partition → List ℕ → Bool
 headerRule p c =
     leb 1 (field c 0)
@@ -26,7 +27,7 @@ headerRule p c =
     && (eqb (field c 2) 32
     && (eqb (field c 3) (32 + 12 * field c 0)
     && (eqb (field c 4) (totalLength (field c 0) (field c 1))
-    && (eqb (field c 4) (p .length) && (eqb (field c 5) (p .level) && (eqb (field c 6) 0 && eqb (field c 7) 0)))))))
+    && (eqb (field c 4) (p .length) && (eqb (field c 5) (p .level) && (eqb (field c 6) (p .lowest) && eqb (field c 7) (p .highest))))))))
 
 -- each number is below the next
 abbrev pub ascending : List ℕ → Bool
@@ -64,6 +65,14 @@ partitionsFormed W limit ps = every (partitionRule W limit) ps && different (cha
 -- a list that is used: in order, no window 0, no count of size 0
 unfoldable pub listRule : List Posting → Bool
 listRule l = ordered l && every (λ p. leb 1 (p .window) && not (isZero (p .count))) l
+
+-- the windows of a partition's postings reach from the lowest to the highest that its record, and so its header, tells
+abbrev pub spanRule : Partition → List Posting → Bool
+spanRule p l = eqb (p .lowest) (lowest l) && eqb (p .highest) (highest l)
+
+-- all lists of a partition, where a call reads them all: each one may be used, and the windows are those told
+unfoldable pub listsRule : List ℕ → Partition → Bool
+listsRule W p = listRule (postingsOf W p) && spanRule p (postingsOf W p)
 
 -- does a sum fit a posting
 abbrev pub inRange : ℤ → Bool

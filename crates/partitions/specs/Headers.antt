@@ -6,7 +6,7 @@ use Rattle.partitions.specs.declared.Header.{Header}
 
 -- its eight words
 abbrev pub headerWords : Header → List ℕ
-headerWords h = h .terms ∷ h .count ∷ h .entries ∷ h .postings ∷ h .total ∷ h .level ∷ h .spare ∷ h .last ∷ []
+headerWords h = h .terms ∷ h .count ∷ h .entries ∷ h .postings ∷ h .total ∷ h .level ∷ h .lowest ∷ h .highest ∷ []
 
 -- the header in block b
 abbrev pub headerIn : List ℕ → ℕ → Header
@@ -17,6 +17,6 @@ headerIn W b = record {
   postings = wordIn W b 3;
   total = wordIn W b 4;
   level = wordIn W b 5;
-  spare = wordIn W b 6;
-  last = wordIn W b 7;
+  lowest = wordIn W b 6;
+  highest = wordIn W b 7;
 }

@@ -36,8 +36,8 @@ struct Header {
     postings: u32,
     total: u32,
     level: u32,
-    spare: u32,
-    last: u32,
+    lowest: u32,
+    highest: u32,
 }
 
 // The header in a partition's first block.
@@ -51,8 +51,8 @@ fn read_header(card: &[u8], first: u16) -> Header
     let postings = card::block_word(card, first, 3);
     let total = card::block_word(card, first, 4);
     let level = card::block_word(card, first, 5);
-    let spare = card::block_word(card, first, 6);
-    let last = card::block_word(card, first, 7);
+    let lowest = card::block_word(card, first, 6);
+    let highest = card::block_word(card, first, 7);
     Header {
         terms: terms,
         count: count,
@@ -60,8 +60,8 @@ fn read_header(card: &[u8], first: u16) -> Header
         postings: postings,
         total: total,
         level: level,
-        spare: spare,
-        last: last,
+        lowest: lowest,
+        highest: highest,
     }
 }
 
@@ -71,8 +71,8 @@ fn header_fits(h: Header, p: Partition) -> bool
 {
     let postings_at = 32 + 12 * h.terms as u64;
     let total = postings_at + 4 * h.count as u64;
-    let zeros = (h.spare == 0) & (h.last == 0);
-    let recorded = (h.total == p.length) & ((h.level == p.level as u32) & zeros);
+    let span = (h.lowest == p.lowest as u32) & (h.highest == p.highest as u32);
+    let recorded = (h.total == p.length) & ((h.level == p.level as u32) & span);
     let placed = (h.postings as u64 == postings_at) & ((h.total as u64 == total) & recorded);
     (h.terms >= 1) & ((h.count >= 1) & ((h.entries == 32) & placed))
 }

@@ -5,6 +5,7 @@ use Rattle.postings.specs.Order.{ordered}
 use Rattle.postings.specs.Merge.{isCounted, nonzero, pairs}
 use Rattle.postings.specs.Sums.{under}
 use Rattle.postings.proofs.Merge.{pairs-ordered, nonzero-ordered}
+use Rattle.postings.specs.Spans.{lowest, highest}
 use Rattle.state.specs.declared.Partition.{Partition}
 use Rattle.state.specs.declared.Partitions.{Partitions}
 use Rattle.state.specs.declared.State.{State}
@@ -96,6 +97,14 @@ module _ (W : List ℕ) (s : State) (is : Partitions) (t : Totals) (g : Judged W
   unfolding totalsOf
   postings-told = ap (λ (u : Totals). u .postings) (g .totals)
 
+  pub lowest-told : t .lowest ≡ lowest (result ps)
+  unfolding totalsOf
+  lowest-told = ap (λ (u : Totals). u .lowest) (g .totals)
+
+  pub highest-told : t .highest ≡ highest (result ps)
+  unfolding totalsOf
+  highest-told = ap (λ (u : Totals). u .highest) (g .totals)
+
   pub pairs-told : t .pairs ≡ length ps
   unfolding totalsOf
   pairs-told = ap (λ (u : Totals). u .pairs) (g .totals)
@@ -183,11 +192,11 @@ module _ (W : List ℕ) (s : State) (is : Partitions) (t : Totals) (g : Judged W
         whole-stored ns n level e =
             let r = result ps in
             let c = progress ps (suc j) in
-            let hs = header level (termCount r) (length r) in
+            let hs = header level (termCount r) (length r) (lowest r) (highest r) in
             let es = joined (map (entryOf r) (identifiersOf r)) in
             let le = length-joined (entryOf r) 3 (λ x. refl) (identifiersOf r) in
             let lp = length-progress ps (suc j) in
-            rw (links-kept, x, terms-told, postings-told, entries-told ns n)
+            rw (links-kept, x, terms-told, postings-told, lowest-told, highest-told, entries-told ns n)
             (ap (λ (U : List ℕ). written U bs 8 es) (store-over W bs (blocks s) (g .long) blocks-of c 0 hs (room (suc j)) (omega arith))
             ∙ store-over W bs (blocks s) (g .long) blocks-of (sets c 0 hs) 8 es (omega (arith, length-sets c 0 hs, room (suc j))) (omega (arith, length-sets c 0 hs))
             ∙ ap (store W bs) (completed ps level (suc j) e))

@@ -4,6 +4,7 @@ use Rattle.lists.proofs.Stores.{sets-append}
 use Rattle.words.specs.Words.{allOnes}
 use Rattle.postings.specs.declared.Posting.{Posting}
 use Rattle.postings.specs.Merge.{isCounted, nonzero}
+use Rattle.postings.specs.Spans.{lowest, highest}
 use Rattle.card.specs.Chains.{blocksFor}
 use Rattle.partitions.specs.Layout.{identifiersOf, termCount, lengthOf, header, entryOf, wordOf, encode}
 use Rattle.plans.specs.Merging.{result, outputBlocks, progress, isLast}
@@ -66,11 +67,11 @@ module _ (ps : List Posting) where
 
   -- header and entries over the space that was left for them
   pub completed : (level j : ℕ) → isLast ps j ≡ true
-      → sets (sets (progress ps j) 0 (header level (termCount (result ps)) (length (result ps)))) 8 (joined (map (entryOf (result ps)) (identifiersOf (result ps)))) ≡ encode level (result ps)
+      → sets (sets (progress ps j) 0 (header level (termCount (result ps)) (length (result ps)) (lowest (result ps)) (highest (result ps)))) 8 (joined (map (entryOf (result ps)) (identifiersOf (result ps)))) ≡ encode level (result ps)
   unfolding progress encode
   completed level j e =
       let r = result ps in
-      let hs = header level (termCount r) (length r) in
+      let hs = header level (termCount r) (length r) (lowest r) (highest r) in
       let es = joined (map (entryOf r) (identifiersOf r)) in
       let le : length es ≡ 3 * termCount r = length-joined (entryOf r) 3 (λ x. refl) (identifiersOf r) in
       let c = replicate front allOnes ++ map wordOf r in

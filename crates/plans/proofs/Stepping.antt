@@ -20,7 +20,7 @@ use Rattle.card.specs.Blocks.{noBlock, freeBlocks}
 use Rattle.card.specs.Chains.{blocksFor, chain, chainRule}
 use Rattle.partitions.specs.Layout.{lengthOf}
 use Rattle.partitions.specs.Reading.{postingsOf, inPartitions}
-use Rattle.partitions.specs.Formed.{partitionRule, partitionsFormed, listRule}
+use Rattle.partitions.specs.Formed.{partitionRule, partitionsFormed, listsRule}
 use Rattle.partitions.specs.Terms.{Readable}
 use Rattle.inputs.specs.declared.Totals.{Totals}
 use Rattle.inputs.specs.declared.Batch.{Batch}
@@ -38,7 +38,7 @@ use Rattle.plans.specs.Step.{inProgress, outputRule, stepFormed, outputO
 use Rattle.plans.specs.Acting.{standsOn, standing, Judged, Acts, lengthFrom, nextState, thirdOn}
 use Rattle.levels.proofs.Choosing.{levelOf, finished-of, due-some}
 use Rattle.plans.proofs.Merged.{oldest-part, oldest-few, part-all, all-readable}
-use Rattle.plans.proofs.Drafting.{terms-told, postings-told, pairs-told}
+use Rattle.plans.proofs.Drafting.{terms-told, postings-told, lowest-told, highest-told, pairs-told}
 use Rattle.plans.proofs.Refusing.{empty-told, blocks-told}
 
 -- Refusals 1 and 2 -------------------------------------------------------------------------------------------------------
@@ -83,7 +83,7 @@ module _ (s : State) (card : List ℕ) (rule : stateRule s ≡ true) (same : len
         form = k .partitions .form;
         formed = p;
         are = x;
-        range = and-right (every (λ q. listRule (postingsOf W q)) (inputs s)) _ i;
+        range = and-right (every (listsRule W) (inputs s)) _ i;
         totals = y ∙ ap (judgedOf W) f ∙ judged-totals W (inputs s) i;
         small = z;
       }
@@ -145,7 +145,7 @@ module _ (W : List ℕ) (s : State) where
   module _ (p : partitionsFormed W (blocks s) (finished (s .partitions)) ≡ true) where
     formed-rest : stepFormed W s ≡ (inputsFormed W (inputs s) && (not (inProgress s) || outputRule W s (taking W s)))
     unfolding stepFormed inputsFormed taking
-    formed-rest = rw p (sym (and-assoc (every (λ q. listRule (postingsOf W q)) (inputs s)) (allInRange (pairs (inPartitions W (inputs s)))) _))
+    formed-rest = rw p (sym (and-assoc (every (listsRule W) (inputs s)) (allInRange (pairs (inPartitions W (inputs s)))) _))
 
     pub formed-inputs : inputsFormed W (inputs s) ≡ false → stepFormed W s ≡ false
     formed-inputs e = formed-rest ∙ rw e
@@ -199,7 +199,7 @@ module _ (W : List ℕ) (s : State) (is : Partitions) (t : Totals) (g : Judged W
       rw (empty-told W s is t g, e, f)
       (by-test (empty (result ps))
       (λ y. rw y)
-      (λ y. rw (y, terms-told W s is t g, postings-told W s is t g)))
+      (λ y. rw (y, terms-told W s is t g, postings-told W s is t g, lowest-told W s is t g, highest-told W s is t g)))
 
   -- inputs are there exactly where a level is due
   pub none-due : eqb (is .used) 0 ≡ empty (dueIn s)

@@ -93,7 +93,7 @@ withSums W t o b = written W (chain W (o .first) (o .blocks)) (8 + 3 * t .terms 
 -- header and entries, before the postings
 abbrev pub withFront : List ℕ → ℕ → Totals → List ℕ → Output → List ℕ
 withFront W level t ns o =
-    written (written W (chain W (o .first) (o .blocks)) 0 (header level (t .terms) (t .postings))) (chain W (o .first) (o .blocks)) 8 (entriesBy 0 0 ns)
+    written (written W (chain W (o .first) (o .blocks)) 0 (header level (t .terms) (t .postings) (t .lowest) (t .highest))) (chain W (o .first) (o .blocks)) 8 (entriesBy 0 0 ns)
 
 -- the output's words that a step writes: with header and entries after the last
 abbrev pub outputWritten : List ℕ → Bool → ℕ → Totals → List ℕ → Output → Batch → List ℕ
@@ -107,7 +107,14 @@ lengthFrom t = cond (eqb (t .postings) 0) 0 (totalLength (t .terms) (t .postings
 abbrev pub recordFrom : List Partition → Totals → Output → List Partition
 recordFrom fin t o =
     cond (eqb (t .postings) 0) []
-    (record { first = o .first; level = nextLevel (getD (dueLevels (λ (p : Partition). p .level) fin) 0 0); length = lengthFrom t } ∷ [])
+    (record {
+      first = o .first;
+      level = nextLevel (getD (dueLevels (λ (p : Partition). p .level) fin) 0 0);
+      length = lengthFrom t;
+      lowest = t .lowest;
+      highest = t .highest;
+    }
+    ∷ [])
 
 -- the state after the step, by the totals
 unfoldable pub nextState : State → Bool → Totals → Output → State

@@ -13,7 +13,7 @@ use Rattle.state.specs.declared.State.{State}
 use Rattle.state.specs.Views.{finished}
 use Rattle.state.specs.Levels.{nextLevel, dueLevels, oldest}
 use Rattle.card.specs.Chains.{blocksFor}
-use Rattle.partitions.specs.Layout.{termCount, lengthOf, wordOf, encode}
+use Rattle.partitions.specs.Layout.{termCount, lengthOf, wordOf, encode, recordOf}
 use Rattle.partitions.specs.Reading.{inPartitions}
 
 -- the due levels of a state, highest first
@@ -54,7 +54,7 @@ outputLevel s = nextLevel (getD (dueIn s) 0 0)
 
 -- the result as a partition that begins at block b; an empty one makes none
 abbrev pub outputRecord : State → List Posting → ℕ → List Partition
-outputRecord s r b = cond (empty r) [] (record { first = b; level = outputLevel s; length = lengthOf r } ∷ [])
+outputRecord s r b = cond (empty r) [] (recordOf b (outputLevel s) r ∷ [])
 
 -- the content after step j, the last one included: then it is the whole partition
 unfoldable pub outputContent : State → List Posting → ℕ → List ℕ

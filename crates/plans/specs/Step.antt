@@ -20,8 +20,7 @@ use Rattle.state.specs.Probe.{Store, sameLength}
 use Rattle.card.specs.Blocks.{noBlock, freeBlocks}
 use Rattle.card.specs.Chains.{chain, chainRule, content}
 use Rattle.blocks.specs.Writes.{store, release}
-use Rattle.partitions.specs.Reading.{postingsOf}
-use Rattle.partitions.specs.Formed.{partitionsFormed, chainsOf, listRule, inRange}
+use Rattle.partitions.specs.Formed.{partitionsFormed, chainsOf, listsRule, inRange}
 use Rattle.plans.specs.Merging.{dueIn, inputs, taking, result, outputLength, outputBlocks, progress, isLast, outputRecord, outputContent}
 
 -- is a merge in progress
@@ -47,7 +46,7 @@ outputRule W s ps =
 unfoldable pub stepFormed : List ℕ → State → Bool
 stepFormed W s =
     partitionsFormed W (blocks s) (finished (s .partitions))
-    && (every (λ p. listRule (postingsOf W p)) (inputs s)
+    && (every (listsRule W) (inputs s)
     && (every (λ p. inRange (p .count)) (taking W s) && (not (inProgress s) || outputRule W s (taking W s))))
 
 -- the output's blocks: those it has, or the next free ones as a merge begins

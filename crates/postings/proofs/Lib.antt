@@ -4,3 +4,4 @@ pub mod Order
 pub mod Sums
 pub mod Merge
 pub mod Counts
+pub mod Spans

@@ -18,6 +18,12 @@ pub struct Posting {
     pub count: i16,
 }
 
+// A stretch of windows: its first and its last.
+pub struct Stretch {
+    pub first: u16,
+    pub last: u16,
+}
+
 // Whether `p` stands before `q`.
 pub fn precedes(p: Posting, q: Posting) -> bool
     ensures { λ r. ⌜ r ≡ precedes p q ⌝ }

@@ -4,11 +4,12 @@ use Rattle.keyed.specs.Keys.{sums, allFall, overKeys}
 use Rattle.keyed.specs.Groups.{allFallAll}
 use Rattle.weights.specs.Weights.{tfWeight, idfWeight}
 use Rattle.weights.proofs.Laws.{tf-none}
+use Rattle.postings.specs.declared.Stretch.{Stretch}
 use Rattle.postings.specs.Sums.{sum, above, isAbove}
 use Rattle.postings.specs.Sums as S
 use Rattle.answers.specs.declared.Hit.{Hit}
 use Rattle.state.specs.declared.State.{State}
-use Rattle.state.specs.Shown.{shows, shown}
+use Rattle.state.specs.Shown.{showsIn, shownIn}
 use Rattle.partitions.specs.Reading.{stored}
 use Rattle.partitions.specs.Formed.{inRange}
 use Rattle.scores.specs.Terms.{Term, Serves}
@@ -22,38 +23,38 @@ use Rattle.queries.specs.Gathered.{Serving, none, more}
 weighed-or-none : (c x : ℕ) → tfWeight c * x ≡ cond (ltb 0 c) (tfWeight c * x) 0
 weighed-or-none c x = by-test (ltb 0 c) (λ y. rw y) (λ n. let h = ltb-false 0 c n in let e : c ≡ 0 = omega arith in rw (n, e, tf-none) (omega arith))
 
-module _ (W : List ℕ) (s : State) where
+module _ (W : List ℕ) (s : State) (st : Stretch) (live : ℕ) where
   -- ---- terms that stand for identifiers can be merged
 
-  pub served-falls : (is : List ℕ) (ts : List Term) → Serving W s is ts → allFallAll 65536 (groupsIn ts) ≡ true
+  pub served-falls : (is : List ℕ) (ts : List Term) → Serving W s st live is ts → allFallAll 65536 (groupsIn ts) ≡ true
   served-falls [] [] none = refl
   served-falls (i ∷ is) (t ∷ ts) (more v r) = and-both (allFall 65536 (t .lists)) _ (v .falls) (served-falls is ts r)
 
-  pub served-ranges : (w : ℕ) (is : List ℕ) (ts : List Term) → Serving W s is ts → every inRange (map (sums w) (groupsIn ts)) ≡ true
+  pub served-ranges : (w : ℕ) (is : List ℕ) (ts : List Term) → Serving W s st live is ts → every inRange (map (sums w) (groupsIn ts)) ≡ true
   served-ranges w [] [] none = refl
   served-ranges w (i ∷ is) (t ∷ ts) (more v r) = and-both (inRange (sums w (t .lists))) _ (ap inRange (v .totals w) ∙ v .ranges w) (served-ranges w is ts r)
 
   -- ---- what they count and weigh
 
-  served-any : (w : ℕ) (is : List ℕ) (ts : List Term) → Serving W s is ts → any isAbove (map (sums w) (groupsIn ts)) ≡ any (λ i. ltb 0 (countIn W s i w)) is
+  served-any : (w : ℕ) (is : List ℕ) (ts : List Term) → Serving W s st live is ts → any isAbove (map (sums w) (groupsIn ts)) ≡ any (λ i. ltb 0 (countIn W s i w)) is
   unfolding countIn
   served-any w [] [] none = refl
   served-any w (i ∷ is) (t ∷ ts) (more v r) = ap₂ _||_ (ap isAbove (v .totals w)) (served-any w is ts r)
 
   -- what an identifier adds to the score of a window
   abbrev adds : ℕ → ℕ → ℕ
-  adds w i = cond (ltb 0 (countIn W s i w)) (tfWeight (countIn W s i w) * idfWeight (s .windows .live) (frequency (countIn W s) (shown (s .windows)) i)) 0
+  adds w i = cond (ltb 0 (countIn W s i w)) (tfWeight (countIn W s i w) * idfWeight live (frequency (countIn W s) (shownIn st (s .windows)) i)) 0
 
-  served-one : (w i : ℕ) (t : Term) → Serves W s i t → tfWeight (above (sums w (t .lists))) * t .weight ≡ adds w i
+  served-one : (w i : ℕ) (t : Term) → Serves W s st live i t → tfWeight (above (sums w (t .lists))) * t .weight ≡ adds w i
   unfolding countIn frequency S.frequency
   served-one w i t v = rw (v .totals w, v .weight) (weighed-or-none (above (sum (stored W s) i w)) _)
 
-  served-score : (w : ℕ) (is : List ℕ) (ts : List Term) → Serving W s is ts → weighAll (weightsIn ts) (map (sums w) (groupsIn ts)) ≡ totalBy (adds w) is
+  served-score : (w : ℕ) (is : List ℕ) (ts : List Term) → Serving W s st live is ts → weighAll (weightsIn ts) (map (sums w) (groupsIn ts)) ≡ totalBy (adds w) is
   served-score w [] [] none = refl
   served-score w (i ∷ is) (t ∷ ts) (more v r) = ap₂ _+_ (served-one w i t v) (served-score w is ts r)
 
   -- nothing is stored of window 0
-  served-none : (is : List ℕ) (ts : List Term) → Serving W s is ts → any (λ i. ltb 0 (countIn W s i 0)) is ≡ false
+  served-none : (is : List ℕ) (ts : List Term) → Serving W s st live is ts → any (λ i. ltb 0 (countIn W s i 0)) is ≡ false
   unfolding countIn
   served-none [] [] none = refl
   served-none (i ∷ is) (t ∷ ts) (more v r) = rw (v .none) (served-none is ts r)
@@ -71,23 +72,24 @@ found-down shows ws S t hit a b z (suc m) =
     (λ y. rw (a (suc m), y) (found-down shows ws S t hit a b z m))
 
 -- the best of what is found are the query's hits
-pub found-hits : (W : List ℕ) (s : State) (k : ℕ) (is : List ℕ) (ts : List Term) → Serving W s is ts → take k (foldr place [] (foundIn (shows (s .windows .current)) ts)) ≡ hitsOf W s k is
+pub found-hits : (W : List ℕ) (s : State) (st : Stretch) (live k : ℕ) (is : List ℕ) (ts : List Term) → Serving W s st live is ts
+    → take k (foldr place [] (foundIn (showsIn st (s .windows .current)) ts)) ≡ hitsOf W s st live k is
 unfolding foundBy hitsOf ranked matching score
-found-hits W s k is ts v =
+found-hits W s st live k is ts v =
     ap (λ (l : List Hit). take k (foldr place [] l))
-    (found-down (shows o) (weightsIn ts) (λ w. map (sums w) (groupsIn ts)) counts (λ w. totalBy (adds W s w) is)
-    (λ w. ap (λ (b : Bool). b && shows o w) (served-any W s w is ts v)) (λ w. served-score W s w is ts v) (ap (λ (b : Bool). b && shows o 0) (served-none W s is ts v)) 65535
-    ∙ ap (map (λ w. record { window = w; score = totalBy (adds W s w) is })) both)
+    (found-down seen (weightsIn ts) (λ w. map (sums w) (groupsIn ts)) counts (λ w. totalBy (adds W s st live w) is)
+    (λ w. ap (λ (b : Bool). b && seen w) (served-any W s st live w is ts v)) (λ w. served-score W s st live w is ts v) (ap (λ (b : Bool). b && seen 0) (served-none W s st live is ts v)) 65535
+    ∙ ap (map (λ w. record { window = w; score = totalBy (adds W s st live w) is })) both)
   where
-    -- the open window
-    o : ℕ
-    o = s .windows .current
+    -- the windows that show
+    seen : ℕ → Bool
+    seen = showsIn st (s .windows .current)
 
     matches : ℕ → Bool
     matches w = any (λ i. ltb 0 (countIn W s i w)) is
 
     counts : ℕ → Bool
-    counts w = matches w && shows o w
+    counts w = matches w && seen w
 
-    both : keep counts (down 65535) ≡ keep matches (shown (s .windows))
-    both = unfold shown in keep-both matches (shows o) counts (λ w. refl) (down 65535)
+    both : keep counts (down 65535) ≡ keep matches (shownIn st (s .windows))
+    both = unfold shownIn in keep-both matches seen counts (λ w. refl) (down 65535)

@@ -7,6 +7,7 @@ use lib.ListN.{length, take}
 use Rattle.lists.specs.Lists.{every, totalBy}
 use Rattle.lists.specs.All.{AllOf}
 use Rattle.words.specs.Words.{words}
+use Rattle.postings.specs.declared.Stretch.{Stretch}
 use Rattle.postings.specs.Sums.{under}
 use Rattle.state.specs.declared.State.{State}
 use Rattle.state.specs.Views.{blocks, finished}
@@ -41,26 +42,26 @@ pub record Readied (s : State) (cs R : List ℕ) (h spare : ℕ) : Type 0 where
 abbrev pub storedUnder : List ℕ → State → List ℕ → ℕ
 storedUnder W s is = totalBy (λ i. length (under i (stored W s))) is
 
--- the terms stand for the identifiers one by one
-pub data Serving (W : List ℕ) (s : State) : List ℕ → List Term → Type 0 where
-  none : Serving W s [] []
-  more : {i : ℕ} {is : List ℕ} {t : Term} {ts : List Term} → Serves W s i t → Serving W s is ts → Serving W s (i ∷ is) (t ∷ ts)
+-- the terms stand for the identifiers one by one, in the stretch st, where live windows exist
+pub data Serving (W : List ℕ) (s : State) (st : Stretch) (live : ℕ) : List ℕ → List Term → Type 0 where
+  none : Serving W s st live [] []
+  more : {i : ℕ} {is : List ℕ} {t : Term} {ts : List Term} → Serves W s st live i t → Serving W s st live is ts → Serving W s st live (i ∷ is) (t ∷ ts)
 
 -- H has the terms of the first five of the identifiers, and k tells how many, and how many postings they have
-pub record Keeps (W R : List ℕ) (s : State) (is : List ℕ) (k : Known) (H : List ℕ) : Type 0 where
+pub record Keeps (W R : List ℕ) (s : State) (st : Stretch) (live : ℕ) (is : List ℕ) (k : Known) (H : List ℕ) : Type 0 where
   pub used : k .used ≡ length (take 5 is)
   pub kept : AllOf (KeptGroup W R (s .partitions .used + 1)) (parts (4 * (s .partitions .used + 1) + 4) (k .used) H)
-  pub served : Serving W s (take 5 is) (termsOf W R (s .partitions .used + 1) (k .used) H)
+  pub served : Serving W s st live (take 5 is) (termsOf W R (s .partitions .used + 1) (k .used) H)
   pub taken : k .taken ≡ storedUnder W s (take 5 is)
 
 -- r tells whether what is read of the identifier i is well formed; if so, what was kept is kept with i as one identifier more
-pub record KeptOf (W R : List ℕ) (s : State) (k : Known) (H : List ℕ) (i : ℕ) (r : Known) (H′ : List ℕ) : Type 0 where
+pub record KeptOf (W R : List ℕ) (s : State) (st : Stretch) (live : ℕ) (k : Known) (H : List ℕ) (i : ℕ) (r : Known) (H′ : List ℕ) : Type 0 where
   pub fine : r .fine ≡ identifierFormed W s i
-  pub keeps : r .fine ≡ true → (is : List ℕ) → Keeps W R s is k H → Keeps W R s (is ++ (i ∷ [])) r H′
+  pub keeps : r .fine ≡ true → (is : List ℕ) → Keeps W R s st live is k H → Keeps W R s st live (is ++ (i ∷ [])) r H′
   pub used : r .used ≤ 5
   pub few : r .taken ≤ 3407872 * r .used
 
 -- r tells of the identifiers whether what is read of them is well formed, and if so H has the terms of the first five
-pub record Gathered (W R : List ℕ) (s : State) (is : List ℕ) (r : Known) (H : List ℕ) : Type 0 where
+pub record Gathered (W R : List ℕ) (s : State) (st : Stretch) (live : ℕ) (is : List ℕ) (r : Known) (H : List ℕ) : Type 0 where
   pub fine : r .fine ≡ every (identifierFormed W s) is
-  pub keeps : r .fine ≡ true → Keeps W R s is r H
+  pub keeps : r .fine ≡ true → Keeps W R s st live is r H

@@ -1,4 +1,5 @@
 // A query's identifiers: what is read of them is judged and counted, and they are tested.
+use postings::Stretch;
 use state::State;
 ghost use mathlib.Core.List.{map};
 ghost use Prim.Native.Nat.{_*_, _≤_, _<_};
@@ -23,12 +24,14 @@ fn keep_one(
     spare: &mut [u32],
     k: Known,
     id: u16,
+    t: Stretch,
+    live: u16,
 ) -> Known
     requires { ⌜ Readied s (now card) (now run) (length (now heads)) (length (now spare)) × (k .used ≤ 5) × (k .taken ≤ 3407872 * k .used) ⌝ }
-    ensures { λ r. ⌜ KeptOf (wordsOf (now (card .entry))) (now (run .entry)) s k (now (heads .entry)) id r (now (heads .exit)) ⌝ }
+    ensures { λ r. ⌜ KeptOf (wordsOf (now (card .entry))) (now (run .entry)) s t live k (now (heads .entry)) id r (now (heads .exit)) ⌝ }
 {
     if k.used >= 5 {
-        let fine = scores::counting::judge_term(card, run, spare, s, id);
+        let fine = scores::counting::judge_term(card, run, spare, s, id, t);
         return Known {
             fine: fine,
             used: k.used,
@@ -39,7 +42,7 @@ fn keep_one(
     let size = 4 * m + 4;
     let at = size * k.used as usize;
     let end = at + size;
-    let o = scores::counting::keep_term(card, run, &mut heads[at..end], spare, s, id);
+    let o = scores::counting::keep_term(card, run, &mut heads[at..end], spare, s, id, t, live);
     Known {
         fine: o.fine,
         used: k.used + 1,
@@ -56,9 +59,11 @@ pub fn gather(
     run: &[u32],
     heads: &mut [u32],
     spare: &mut [u32],
+    t: Stretch,
+    live: u16,
 ) -> Known
     requires { ⌜ Sound s (now card) (now register) × Readied s (now card) (now run) (length (now heads)) (length (now spare)) ⌝ }
-    ensures { λ r. ⌜ Gathered (wordsOf (now (card .entry))) (now (run .entry)) s (numbers (now (register .entry)) (map now (now (ids .entry)))) r (now (heads .exit)) ⌝ }
+    ensures { λ r. ⌜ Gathered (wordsOf (now (card .entry))) (now (run .entry)) s t live (numbers (now (register .entry)) (map now (now (ids .entry)))) r (now (heads .exit)) ⌝ }
 {
     let used = identifiers::used_entries(register);
     let mut known = Known {
@@ -71,7 +76,7 @@ pub fn gather(
         let id = ids[i];
         let number = identifiers::find(register, id);
         if number < used {
-            known = keep_one(s, card, run, heads, spare, known, number as u16);
+            known = keep_one(s, card, run, heads, spare, known, number as u16, t, live);
             let fine = known.fine;
             if !fine {
                 return known;

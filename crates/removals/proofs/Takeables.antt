@@ -10,7 +10,7 @@ use Rattle.state.specs.declared.State.{State}
 use Rattle.state.specs.Views.{blocks, buffered, finished}
 use Rattle.state.proofs.Kept.{rules-of}
 use Rattle.partitions.specs.Reading.{postingsOf, inPartitions, stored}
-use Rattle.partitions.specs.Formed.{partitionsFormed, listRule, sumsInRange}
+use Rattle.partitions.specs.Formed.{partitionsFormed, listsRule, sumsInRange}
 use Rattle.buffer.proofs.Canonical.{canonical-of, rule-canonical, rule-counts}
 use Rattle.flushes.specs.declared.Target.{Target}
 use Rattle.flushes.specs.Flush.{flushedTo}
@@ -45,7 +45,7 @@ pub formed-of : (W : List ℕ) (s : State) (w : ℕ) → removalFormed W s w ≡
 unfolding removalFormed listsFormed
 formed-of W s w e =
     let a = and-right (partitionsFormed W (blocks s) (finished (s .partitions))) _ e in
-    let b = and-right (every (λ p. listRule (postingsOf W p)) (finished (s .partitions))) _ a in
+    let b = and-right (every (listsRule W) (finished (s .partitions))) _ a in
     let c = and-right (sumsInRange (ofWindow w (inPartitions W (finished (s .partitions))))) _ b in
     record {
       parts = and-left (sumsInRange (ofWindow w (inPartitions W (finished (s .partitions))))) _ b;

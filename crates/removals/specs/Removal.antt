@@ -4,11 +4,9 @@ use mathlib.Core.List.{List, [], _∷_, foldr}
 use Prim.Native.Nat.{ℕ, _+_, _-_}
 use lib.Dec.{eqb, ltb}
 use lib.ListN.{length}
-use Rattle.lists.specs.Lists.{any}
 use Rattle.words.specs.Words.{words}
 use Rattle.postings.specs.declared.Posting.{Posting}
 use Rattle.postings.specs.Merge.{put, nonzero, negated}
-use Rattle.postings.specs.Sums.{isAbove}
 use Rattle.answers.specs.Answers.{Outcome, leave, done}
 use Rattle.answers.specs.Order as order
 use Rattle.answers.specs.Order.{until, past, admit}
@@ -20,13 +18,9 @@ use Rattle.partitions.specs.Reading.{stored}
 use Rattle.partitions.specs.Formed.{partitionsFormed}
 use Rattle.flushes.specs.Flush.{flushingIf}
 use Rattle.windows.specs.Calls.{isOpen}
--- the postings of a window, its counts read from the buffers, and refusal 3 of lists and sums
-pub use Rattle.sums.specs.Tally.{ofWindow}
+-- the postings of a window, its counts read from the buffers and whether it lives, and refusal 3 of lists and sums
+pub use Rattle.sums.specs.Tally.{ofWindow, isLive}
 unfoldable pub use Rattle.sums.specs.Tally.{countsOf, listsFormed}
-
--- a removal finds out from card and buffer whether its window is live: one of the counts found is positive
-abbrev pub isLive : List Posting → Bool
-isLive counts = any (λ p. isAbove (p .count)) counts
 
 -- refusal 3: all finished partitions and all their lists, the window's sums over the partitions and with the buffer, and more than 64 of them
 unfoldable pub removalFormed : List ℕ → State → ℕ → Bool

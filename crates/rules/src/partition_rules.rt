@@ -11,13 +11,15 @@ ghost use Rattle.lists.specs.Lists.{every};
 ghost use Rattle.state.specs.Views.{finished};
 ghost use Rattle.state.specs.Rules.{recordRule, unusedRecord, neverRise, partitionsRule};
 
-// Whether a place of the list keeps its rule: a partition's level and length are within their limits where it is used, and zeros else.
+// Whether a place of the list keeps its rule: a partition's level, length and windows are within their limits where it is used, and zeros else.
 fn place_ok(blocks: u32, used: bool, p: Partition) -> bool
     requires { ⌜ blocks ≤ 1048576 ⌝ }
     ensures { λ r. ⌜ r ≡ cond used (recordRule blocks p) (unusedRecord p) ⌝ }
 {
-    (used & ((p.level <= 5) & (p.length <= 4092 * blocks)))
-        | (!used & ((p.first == 0) & ((p.level == 0) & (p.length == 0))))
+    let span = (p.lowest >= 1) & (p.lowest <= p.highest);
+    let unspanned = (p.lowest == 0) & (p.highest == 0);
+    (used & ((p.level <= 5) & ((p.length <= 4092 * blocks) & span)))
+        | (!used & ((p.first == 0) & ((p.level == 0) & ((p.length == 0) & unspanned))))
 }
 
 // Whether each place keeps its rule, and no finished partition has a higher level than the one before it.

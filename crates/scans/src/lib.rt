@@ -23,6 +23,8 @@ ghost use Rattle.kway.specs.Parts.{parts};
 ghost use Rattle.scans.specs.Heads.{ahead, view, Kept, views};
 ghost use Rattle.scans.specs.Items.{items};
 
+pub mod leading; // the merge where one partition leads
+
 // The identifier of a key.
 pub fn key_id(key: u32) -> u16
     requires { ⌜ key < 67108864 ⌝ }

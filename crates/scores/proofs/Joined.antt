@@ -8,13 +8,13 @@ use Rattle.weights.proofs.Laws.{tf-none}
 use Rattle.postings.specs.Sums.{isAbove}
 use Rattle.partitions.specs.Formed.{inRange}
 use Rattle.kway.specs.Parts.{part, parts}
+use Rattle.kway.specs.Leads.{Leads}
 use Rattle.kway.proofs.Parts.{putIn, views-more, Moved, moved-none, now-more, moved-more}
+use Rattle.kway.proofs.Leads.{still-at}
 use Rattle.heads.specs.Heads.{Kept, views}
-use Rattle.heads.specs.Leads.{Leads}
 use Rattle.scores.specs.Terms.{Term, termOf, KeptGroup, termsOf}
 use Rattle.scores.specs.Scores.{groupsIn, weightsIn, moved, weigh, scoreAt}
 use Rattle.scores.proofs.Counts.{Headed, topped, put-behind-long}
-use Rattle.heads.proofs.Leads.{still-at}
 
 -- ---- a term that is not at the window
 

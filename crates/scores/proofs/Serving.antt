@@ -9,19 +9,20 @@ use Rattle.weights.specs.Weights.{idfWeight}
 use Rattle.weights.proofs.Laws.{idf-most}
 use Rattle.postings.specs.Order.{ordered}
 use Rattle.postings.specs.declared.Posting.{Posting}
+use Rattle.postings.specs.declared.Stretch.{Stretch}
 use Rattle.postings.specs.Sums.{sum, under, above, frequency, amount}
 use Rattle.state.specs.declared.State.{State}
 use Rattle.state.specs.Views.{buffered}
-use Rattle.state.specs.Shown.{shows, shown}
+use Rattle.state.specs.Shown.{showsIn, shownIn}
 use Rattle.partitions.specs.Reading.{stored}
 use Rattle.partitions.specs.Formed.{inRange, identifierFormed}
 use Rattle.kway.specs.Parts.{part, parts}
+use Rattle.kway.specs.Leads.{Leads}
 use Rattle.kway.proofs.Parts.{views-more}
 use Rattle.terms.specs.declared.judging.Told.{Told}
 use Rattle.terms.specs.declared.judging.Told.the-variants.{Malformed, Windows}
 use Rattle.heads.specs.Heads.{view, Kept, views}
 use Rattle.terms.specs.Both.{Ready, both}
-use Rattle.heads.specs.Leads.{Leads}
 use Rattle.terms.specs.Judged.{inRanges, ranges, formed, toldOf}
 use Rattle.terms.specs.Opening.{Opens}
 use Rattle.scores.specs.Terms.{Term, termOf, KeptGroup, Serves, toldTerm, Fitting}
@@ -50,17 +51,17 @@ over-at (suc m) j S h e =
 
 -- ---- what is told
 
-module _ (W : List ℕ) (s : State) (i : ℕ) where
-  pub told-malformed : toldTerm W s i ≡ Malformed → identifierFormed W s i ≡ false
+module _ (W : List ℕ) (s : State) (u : Stretch) (i : ℕ) where
+  pub told-malformed : toldTerm W s u i ≡ Malformed → identifierFormed W s i ≡ false
   unfolding toldTerm
   told-malformed e = by-test (identifierFormed W s i) (λ y. let q : Windows _ _ ≡ Malformed = rw y at e in let z : _≡_ {A = ℕ} 0 1 = cc in absurd (omega arith)) (λ n. n)
 
-  pub told-formed : (n t : ℕ) → toldTerm W s i ≡ Windows n t
-      → (identifierFormed W s i ≡ true) × (n ≡ frequency (shown (s .windows)) (stored W s) i) × (t ≡ amount (shown (s .windows)) (stored W s) i)
+  pub told-formed : (n t : ℕ) → toldTerm W s u i ≡ Windows n t
+      → (identifierFormed W s i ≡ true) × (n ≡ frequency (shownIn u (s .windows)) (stored W s) i) × (t ≡ amount (shownIn u (s .windows)) (stored W s) i)
   unfolding toldTerm
   told-formed n t e =
       by-test (identifierFormed W s i)
-      (λ y. let q : Windows (frequency (shown (s .windows)) (stored W s) i) (amount (shown (s .windows)) (stored W s) i) ≡ Windows n t = rw y at e in (y, cc, cc))
+      (λ y. let q : Windows (frequency (shownIn u (s .windows)) (stored W s) i) (amount (shownIn u (s .windows)) (stored W s) i) ≡ Windows n t = rw y at e in (y, cc, cc))
       (λ f. let q : Malformed ≡ Windows n t = rw f at e in let z : _≡_ {A = ℕ} 0 1 = cc in absurd (omega arith))
 
 -- every count is at most 32,767
@@ -74,13 +75,13 @@ amount-most l i h (w ∷ windows) =
     (λ y. rw y (omega (arith, ltb-false 0 (above (sum l i w)) y)))
 
 module _ (W R : List ℕ) (s : State) (i : ℕ) (H : List ℕ) (opens : Opens W R s i H) (small : Below 4294967296 W) (few : Below 4294967296 R)
-    (order : ordered (buffered (s .buffer)) ≡ true) (rules : every rule (buffered (s .buffer)) ≡ true) where
+    (order : ordered (buffered (s .buffer)) ≡ true) (rules : every rule (buffered (s .buffer)) ≡ true) (u : Stretch) where
   abbrev gs : List Group
   gs = both W R (s .partitions .used) H
 
-  -- is a window closed
+  -- is a window of the stretch closed
   abbrev closed : ℕ → Bool
-  closed = shows (s .windows .current)
+  closed = showsIn u (s .windows .current)
 
   -- the lists on the card, the run, and both in one group
   abbrev cards : Group
@@ -114,23 +115,23 @@ module _ (W R : List ℕ) (s : State) (i : ℕ) (H : List ℕ) (opens : Opens W 
         (λ y. ap inRange (sym (totals w) ∙ sums-high 65536 w (ltb-false w 65536 y) all fall))
 
   -- what the judging tells is what is told of the identifier
-  pub judged-same : (r : Told) → r ≡ toldOf closed gs → (r ≡ toldTerm W s i) × Fitting r
+  pub judged-same : (r : Told) → r ≡ toldOf closed gs → (r ≡ toldTerm W s u i) × Fitting r
   unfolding toldOf toldTerm
   judged-same r e =
       by-test (formed gs)
-      (λ y. let same = risen-same W R s i H opens small few order rules y in
-      let told : r ≡ Windows (frequency (shown (s .windows)) (stored W s) i) (amount (shown (s .windows)) (stored W s) i) = e ∙ rw (y, same) in
-      (told ∙ rw (formed-same W R s i H opens small few order rules, y), rw told (rw same at (risen-few closed gs (none-at-zero W R s i H opens small few order rules y)), amount-most (stored W s) i (in-range y) (shown (s .windows)))))
+      (λ y. let same = risen-same W R s i H opens small few order rules y u in
+      let told : r ≡ Windows (frequency (shownIn u (s .windows)) (stored W s) i) (amount (shownIn u (s .windows)) (stored W s) i) = e ∙ rw (y, same) in
+      (told ∙ rw (formed-same W R s i H opens small few order rules, y), rw told (rw same at (risen-few closed gs (none-at-zero W R s i H opens small few order rules y)), amount-most (stored W s) i (in-range y) (shownIn u (s .windows)))))
       (λ n. let told : r ≡ Malformed = e ∙ rw n in (told ∙ rw (formed-same W R s i H opens small few order rules, n), rw told tt))
 
   -- not well formed
   pub judged-bad : toldOf closed gs ≡ Malformed → identifierFormed W s i ≡ false
-  judged-bad e = told-malformed W s i (sym (judged-same Malformed (sym e) .0))
+  judged-bad e = told-malformed W s u i (sym (judged-same Malformed (sym e) .0))
 
   -- well formed
   module _ (n t : ℕ) (told : toldOf closed gs ≡ Windows n t) where
-    counted : (identifierFormed W s i ≡ true) × (n ≡ frequency (shown (s .windows)) (stored W s) i) × (t ≡ amount (shown (s .windows)) (stored W s) i)
-    counted = told-formed W s i n t (sym (judged-same (Windows n t) (sym told) .0))
+    counted : (identifierFormed W s i ≡ true) × (n ≡ frequency (shownIn u (s .windows)) (stored W s) i) × (t ≡ amount (shownIn u (s .windows)) (stored W s) i)
+    counted = told-formed W s u i n t (sym (judged-same (Windows n t) (sym told) .0))
 
     pub judged-good : identifierFormed W s i ≡ true
     judged-good = counted .0
@@ -150,15 +151,15 @@ module _ (W R : List ℕ) (s : State) (i : ℕ) (H : List ℕ) (opens : Opens W 
     all-size = ap (totalBy length) all-parts ∙ total-more length cards run ∙ sym (size-same W R s i H opens small few order rules)
 
     -- the term stands for the identifier
-    pub all-serves : (x : Term) → x ≡ record { lists = all; weight = idfWeight (s .windows .live) n } → Serves W s i x
-    all-serves x e =
-        subst (Serves W s i) (sym e)
+    pub all-serves : (live : ℕ) (x : Term) → x ≡ record { lists = all; weight = idfWeight live n } → Serves W s u live i x
+    all-serves live x e =
+        subst (Serves W s u live i) (sym e)
         (record {
           falls = all-fall;
           totals = totals ok;
           ranges = in-range ok;
           none = total-same W R s i H opens small few order rules 0 ∙ total-none (map (sums 0) gs) (none-at-zero W R s i H opens small few order rules ok);
-          weight = ap (idfWeight (s .windows .live)) (counted .1);
+          weight = ap (idfWeight live) (counted .1);
         })
 
 -- ---- reach, weight and lead put in front of a group's heads

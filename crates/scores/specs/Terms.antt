@@ -10,14 +10,15 @@ use Rattle.lists.specs.All.{AllOf}
 use Rattle.keyed.specs.Keys.{topFrom, sums, allFall}
 use Rattle.keyed.specs.Groups.{Group}
 use Rattle.weights.specs.Weights.{idfWeight}
+use Rattle.postings.specs.declared.Stretch.{Stretch}
 use Rattle.postings.specs.Sums.{sum, under, frequency, amount}
 use Rattle.state.specs.declared.State.{State}
-use Rattle.state.specs.Shown.{shown}
+use Rattle.state.specs.Shown.{shownIn}
 use Rattle.partitions.specs.Reading.{stored}
 use Rattle.partitions.specs.Formed.{inRange, identifierFormed}
 use Rattle.kway.specs.Parts.{parts}
+use Rattle.kway.specs.Leads.{Leads}
 use Rattle.heads.specs.Heads.{Kept, views}
-use Rattle.heads.specs.Leads.{Leads}
 use Rattle.terms.specs.declared.judging.Told.{Told}
 use Rattle.terms.specs.declared.judging.Told.the-variants.{Malformed, Windows}
 use Rattle.scores.specs.declared.counting.Counted.{Counted}
@@ -43,19 +44,20 @@ pub record KeptGroup (W R : List ℕ) (m : ℕ) (P : List ℕ) : Type 0 where
 abbrev pub termsOf : List ℕ → List ℕ → ℕ → ℕ → List ℕ → List Term
 termsOf W R m g H = map (termOf W R m) (parts (4 * m + 4) g H)
 
--- t stands for the identifier i: its lists fall, the sums of each window are those of what is stored, within ±32,767, and its weight is that of N and F
-pub record Serves (W : List ℕ) (s : State) (i : ℕ) (t : Term) : Type 0 where
-  pub falls : allFall 65536 (t .lists) ≡ true
-  pub totals : (w : ℕ) → sums w (t .lists) ≡ sum (stored W s) i w
+-- x stands for the identifier i: its lists fall, the sums of each window are those of what is stored, within ±32,767, and its weight is that of N, which is n, and
+-- F in the stretch t
+pub record Serves (W : List ℕ) (s : State) (t : Stretch) (n i : ℕ) (x : Term) : Type 0 where
+  pub falls : allFall 65536 (x .lists) ≡ true
+  pub totals : (w : ℕ) → sums w (x .lists) ≡ sum (stored W s) i w
   pub ranges : (w : ℕ) → inRange (sum (stored W s) i w) ≡ true
   pub none : sum (stored W s) i 0 ≡ pos 0
-  pub weight : t .weight ≡ idfWeight (s .windows .live) (frequency (shown (s .windows)) (stored W s) i)
+  pub weight : x .weight ≡ idfWeight n (frequency (shownIn t (s .windows)) (stored W s) i)
 
--- what is told of the identifier i: F, and the sum of its counts in the windows that show, where what is read of it is well formed
-unfoldable pub toldTerm : List ℕ → State → ℕ → Told
-toldTerm W s i =
+-- what is told of the identifier i: F, and the sum of its counts in the windows of the stretch t that show, where what is read of it is well formed
+unfoldable pub toldTerm : List ℕ → State → Stretch → ℕ → Told
+toldTerm W s t i =
     cond (identifierFormed W s i)
-    (Windows (frequency (shown (s .windows)) (stored W s) i) (amount (shown (s .windows)) (stored W s) i))
+    (Windows (frequency (shownIn t (s .windows)) (stored W s) i) (amount (shownIn t (s .windows)) (stored W s) i))
     Malformed
 
 -- a window counts at most 32,767, and there are at most 65,535
@@ -64,9 +66,9 @@ Fitting Malformed = Unit {0}
 Fitting (Windows n t) = (n ≤ 65535) × (t ≤ 32767 * n)
 
 -- r tells of the identifier i whether what is read of it is well formed; if so the group P is its term, and r tells how many postings of it are stored
-pub record CountedFor (W R : List ℕ) (s : State) (i m : ℕ) (P : List ℕ) (r : Counted) : Type 0 where
+pub record CountedFor (W R : List ℕ) (s : State) (t : Stretch) (n i m : ℕ) (P : List ℕ) (r : Counted) : Type 0 where
   pub fine : r .fine ≡ identifierFormed W s i
   pub kept : r .fine ≡ true → KeptGroup W R m P
-  pub term : r .fine ≡ true → Serves W s i (termOf W R m P)
+  pub term : r .fine ≡ true → Serves W s t n i (termOf W R m P)
   pub taken : r .fine ≡ true → r .taken ≡ length (under i (stored W s))
   pub few : r .taken ≤ 3407872

@@ -1,4 +1,5 @@
 // One identifier of a query: what is read of it is judged, and its term is kept for the second pass.
+use postings::Stretch;
 use state::State;
 use terms::judging::Told;
 ghost use mathlib.Core.Path.{_≡_};
@@ -66,34 +67,48 @@ fn weigh(card: &[u8], run: &[u32], group: &mut [u32], m: usize, n: u16, f: u16)
     group[3] = l.others;
 }
 
-// What is told of an identifier, if what is read of it is well formed. The heads are opened, and spent by the judging.
-pub fn count_term(card: &[u8], run: &[u32], heads: &mut [u32], s: State, id: u16) -> Told
+// What is told of an identifier in a stretch of windows, if what is read of it is well formed. The heads are opened, and spent by the judging.
+pub fn count_term(
+    card: &[u8],
+    run: &[u32],
+    heads: &mut [u32],
+    s: State,
+    id: u16,
+    t: Stretch,
+) -> Told
     requires { ⌜ (stateRule s ≡ true) × (length (wordsOf (now card)) ≡ 1024 * blocks s)
         × (partitionsFormed (wordsOf (now card)) (blocks s) (finished (s .partitions)) ≡ true)
         × Packed (s .buffer) (now run) × (length (now heads) ≡ 4 * s .partitions .used + 4) ⌝ }
-    ensures { λ r. ⌜ (r ≡ toldTerm (wordsOf (now (card .entry))) s id) × Fitting r ⌝ }
+    ensures { λ r. ⌜ (r ≡ toldTerm (wordsOf (now (card .entry))) s t id) × Fitting r ⌝ }
 {
     let n = s.partitions.used as usize;
     terms::opening::open_heads(card, run, heads, s, id);
     let current = s.windows.current as u32;
-    terms::judging::judge(card, run, heads, n, current)
+    terms::judging::judge(card, run, heads, n, current, t.first as u32, t.last as u32)
 }
 
 // Whether what is read of an identifier is well formed. The heads are spent.
-pub fn judge_term(card: &[u8], run: &[u32], heads: &mut [u32], s: State, id: u16) -> bool
+pub fn judge_term(
+    card: &[u8],
+    run: &[u32],
+    heads: &mut [u32],
+    s: State,
+    id: u16,
+    t: Stretch,
+) -> bool
     requires { ⌜ (stateRule s ≡ true) × (length (wordsOf (now card)) ≡ 1024 * blocks s)
         × (partitionsFormed (wordsOf (now card)) (blocks s) (finished (s .partitions)) ≡ true)
         × Packed (s .buffer) (now run) × (length (now heads) ≡ 4 * s .partitions .used + 4) ⌝ }
     ensures { λ r. ⌜ r ≡ identifierFormed (wordsOf (now (card .entry))) s id ⌝ }
 {
-    let told = count_term(card, run, heads, s, id);
+    let told = count_term(card, run, heads, s, id, t);
     match told {
         Told::Malformed => false,
         Told::Windows(windows, total) => true,
     }
 }
 
-// The same for one of the first five, whose opened heads are kept as its term; the judging spends a copy.
+// The same for one of the first five, whose opened heads are kept as its term, where `live` windows of the stretch exist; the judging spends a copy.
 pub fn keep_term(
     card: &[u8],
     run: &[u32],
@@ -101,24 +116,26 @@ pub fn keep_term(
     heads: &mut [u32],
     s: State,
     id: u16,
+    t: Stretch,
+    live: u16,
 ) -> Counted
     requires { ⌜ (stateRule s ≡ true) × (length (wordsOf (now card)) ≡ 1024 * blocks s)
         × (partitionsFormed (wordsOf (now card)) (blocks s) (finished (s .partitions)) ≡ true)
         × Packed (s .buffer) (now run) × (length (now heads) ≡ 4 * s .partitions .used + 4) × (length (now group) ≡ 4 * s .partitions .used + 8) ⌝ }
-    ensures { λ r. ⌜ CountedFor (wordsOf (now (card .entry))) (now (run .entry)) s id (s .partitions .used + 1) (now (group .exit)) r ⌝ }
+    ensures { λ r. ⌜ CountedFor (wordsOf (now (card .entry))) (now (run .entry)) s t live id (s .partitions .used + 1) (now (group .exit)) r ⌝ }
 {
     let n = s.partitions.used as usize;
     terms::opening::open_heads(card, run, heads, s, id);
     copy(&mut group[4..], heads);
     let current = s.windows.current as u32;
-    let told = terms::judging::judge(card, run, heads, n, current);
+    let told = terms::judging::judge(card, run, heads, n, current, t.first as u32, t.last as u32);
     match told {
         Told::Malformed => Counted {
             fine: false,
             taken: 0,
         },
         Told::Windows(windows, total) => {
-            weigh(card, run, group, n + 1, s.windows.live, windows as u16);
+            weigh(card, run, group, n + 1, live, windows as u16);
             let taken = total_left(card, run, &group[4..], n + 1);
             Counted {
                 fine: true,

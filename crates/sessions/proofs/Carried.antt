@@ -1,6 +1,7 @@
 -- What each call promises of a state or a store is what a line promises of the probe.
 use Rattle.lists.proofs.Prelude.{List, _≡_, refl, sym, _∙_, ap, ℕ, arith, replicate}
 use mathlib.Core.Option.{Option, some}
+use Rattle.postings.specs.declared.Stretch.{Stretch}
 use Rattle.answers.specs.Answers.{Answer, Outcome, refuse, leave, answerOf, stateOf, carry}
 use Rattle.answers.specs.Numbers.{foundAs}
 use Rattle.answers.specs.declared.Found.{Found}
@@ -10,7 +11,7 @@ use Rattle.identifiers.specs.Names.{Name}
 use Rattle.state.specs.declared.State.{State}
 use Rattle.state.specs.Probe.{Store, Probe}
 use Rattle.windows.specs.Promises.{Gives, storeOf, probeOf}
-use Rattle.queries.specs.Finds.{Finds}
+use Rattle.queries.specs.Finds.{answered, Finds}
 use Rattle.queries.specs.Query.{queryOf}
 use Rattle.ranking.specs.declared.Top.{Top}
 use Rattle.engine.specs.Calls.{Call, Query, withStore, withState, noHit, probeCall}
@@ -46,21 +47,19 @@ written g w = record { says = rw (← g .answer) w; left = g .left }
 pub obeys-as : {p after : Probe} {c d : Option Call} {buffer : List ℕ} {n : ℕ} → c ≡ d → Obeys p d buffer n after → Obeys p c buffer n after
 obeys-as e t = rw e t
 
-module _ {p : Probe} {ids : List Name} {k : ℕ} {a : Found} {t : Top} (f : Finds p ids k a t) where
-  -- an answer lists as many hits as stand beside it
-  pub few-found : Few a
-  few-found = few a refl
-    where
-      few : (b : Found) → a ≡ b → Few b
-      few (found.Hits n taken) e = omega (arith, f .used n taken e, f .most)
-      few (found.Refused r) e = tt
+-- an answer lists as many hits as stand beside it
+pub few-found : {x : Answer} {k : ℕ} {a : Found} {t : Top} → Finds x k a t → Few a
+few-found {a = found.Hits n taken} f = omega (arith, f .used n taken refl, f .most)
+few-found {a = found.Refused why} f = tt
 
-  pub written-found : {buffer : List ℕ} {n : ℕ} → Says buffer n (answerText (foundAs a (t .hits))) → Obeys p (some (Query k ids)) buffer n p
-  unfolding textOf leftOf probeCall
-  written-found w =
-      let o : Outcome (List Hit) = queryOf p ids (replicate k noHit) in
-      record { says = rw (answer-carry, ← f .answer) w; left = sym (kept o) }
-    where
-      kept : (o : Outcome (List Hit)) → stateOf p (carry (λ (l : List Hit). p) o) ≡ p
-      kept (refuse m) = refl
-      kept (leave x l) = refl
+-- a query made, and its answer written
+pub written-found : {p : Probe} {st : Stretch} {ids : List Name} {k : ℕ} {a : Found} {t : Top} → Finds (answered p st ids k) k a t
+    → {buffer : List ℕ} {n : ℕ} → Says buffer n (answerText (foundAs a (t .hits))) → Obeys p (some (Query k st ids)) buffer n p
+unfolding textOf leftOf probeCall
+written-found {p = p} {st = st} {ids = ids} {k = k} f w =
+    let o : Outcome (List Hit) = queryOf p st ids (replicate k noHit) in
+    record { says = rw (answer-carry, ← f .answer) w; left = sym (kept o) }
+  where
+    kept : (o : Outcome (List Hit)) → stateOf p (carry (λ (l : List Hit). p) o) ≡ p
+    kept (refuse m) = refl
+    kept (leave x l) = refl

@@ -3,6 +3,7 @@ pub mod lines; // the input cut into lines
 
 use commands::Change;
 use commands::Order;
+use postings::Stretch;
 use state::State;
 use windows::Replied;
 ghost use mathlib.Core.List.{map};
@@ -12,6 +13,7 @@ ghost use lib.ListN.{length};
 ghost use Rattle.answers.specs.Numbers.{replied};
 ghost use Rattle.engine.specs.Calls.{Open, Query, probeCall};
 ghost use Rattle.windows.specs.Promises.{Gives, probeOf};
+ghost use Rattle.stretches.specs.Reached.{whole};
 ghost use Rattle.commands.specs.Commands.{changing, changeReach, callIn, commandOf};
 ghost use Rattle.sessions.specs.Answering.{Obeys};
 ghost use Rattle.sessions.specs.Alone.{ObeysAlone};
@@ -84,13 +86,17 @@ fn opened(s: State, out: &mut [u8]) -> Done
     }
 }
 
-// A query with so many places; it leaves everything as it is.
+// A query of all windows with so many places; it leaves everything as it is.
 fn asked(s: State, card: &[u8], register: &[u8], ids: &[&[u8]], places: u32, out: &mut [u8]) -> Done
     requires { ⌜ 1024 ≤ length (now out) ⌝ }
-    ensures { λ r. ⌜ Obeys (probeOf s (now (card .entry)) (now (register .entry))) (some (Query places (map now (now (ids .entry)))))
+    ensures { λ r. ⌜ Obeys (probeOf s (now (card .entry)) (now (register .entry))) (some (Query places whole (map now (now (ids .entry)))))
         (now (out .exit)) (r .used) (probeOf (r .state) (now (card .entry)) (now (register .entry))) ⌝ }
 {
-    let r = engine::query_value(s, card, register, ids, places as usize);
+    let t = Stretch {
+        first: 1,
+        last: 65535,
+    };
+    let r = engine::query_value(s, card, register, ids, t, places as usize);
     let answer = r.answer;
     let top = r.top;
     let hits = top.hits;

@@ -29,13 +29,17 @@ unused-posting p e =
     let r = and-right (eqb (p .id) 0) _ e in
     posting-of (eqb-true _ _ (and-left (eqb (p .id) 0) _ e)) (eqb-true _ _ (and-left (eqb (p .window) 0) _ r)) (zero-count _ (and-right (eqb (p .window) 0) _ r))
 
-record-of : {i j v w a b : ℕ} → i ≡ j → v ≡ w → a ≡ b → _≡_ {A = Partition} (record { first = i; level = v; length = a }) (record { first = j; level = w; length = b })
-record-of p q r = cc
+record-of : {i j v w a b l k h g : ℕ} → i ≡ j → v ≡ w → a ≡ b → l ≡ k → h ≡ g
+    → _≡_ {A = Partition} (record { first = i; level = v; length = a; lowest = l; highest = h }) (record { first = j; level = w; length = b; lowest = k; highest = g })
+record-of p q r s t = cc
 
 unused-record : (p : Partition) → unusedRecord p ≡ true → p ≡ noPartition
 unused-record p e =
     let r = and-right (eqb (p .first) 0) _ e in
-    record-of (eqb-true _ _ (and-left (eqb (p .first) 0) _ e)) (eqb-true _ _ (and-left (eqb (p .level) 0) _ r)) (eqb-true _ _ (and-right (eqb (p .level) 0) _ r))
+    let s = and-right (eqb (p .level) 0) _ r in
+    let t = and-right (eqb (p .length) 0) _ s in
+    record-of (eqb-true _ _ (and-left (eqb (p .first) 0) _ e)) (eqb-true _ _ (and-left (eqb (p .level) 0) _ r)) (eqb-true _ _ (and-left (eqb (p .length) 0) _ s))
+    (eqb-true _ _ (and-left (eqb (p .lowest) 0) _ t)) (eqb-true _ _ (and-right (eqb (p .lowest) 0) _ t))
 
 -- ---- from zeros after the count to the one form
 

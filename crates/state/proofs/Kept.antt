@@ -191,20 +191,30 @@ buffer-kept w b e =
 
 -- ---- finished partitions
 
--- a finished partition's level and length are within their limits
+-- a finished partition's level, length and windows are within their limits
 pub record RecordKept (blockCount : ℕ) (p : Partition) : Type 0 where
   pub level : p .level ≤ 5
   pub length : p .length ≤ 4092 * blockCount
+  pub some : 1 ≤ p .lowest
+  pub span : p .lowest ≤ p .highest
 
 -- what its rule says
 pub record-kept : (blockCount : ℕ) (p : Partition) → recordRule blockCount p ≡ true → RecordKept blockCount p
 unfolding recordRule
-record-kept n p e = record { level = leb-true _ _ (and-left (leb (p .level) 5) _ e); length = leb-true _ _ (and-right (leb (p .level) 5) _ e) }
+record-kept n p e =
+    let a = and-right (leb (p .level) 5) _ e in
+    let b = and-right (leb (p .length) (4092 * n)) _ a in
+    record {
+      level = leb-true _ _ (and-left (leb (p .level) 5) _ e);
+      length = leb-true _ _ (and-left (leb (p .length) (4092 * n)) _ a);
+      some = leb-true _ _ (and-left (leb 1 (p .lowest)) _ b);
+      span = leb-true _ _ (and-right (leb 1 (p .lowest)) _ b);
+    }
 
 -- and back
 pub record-rule : (blockCount : ℕ) (p : Partition) → RecordKept blockCount p → recordRule blockCount p ≡ true
 unfolding recordRule
-record-rule n p k = and-both _ _ (le-leb _ _ (k .level)) (le-leb _ _ (k .length))
+record-rule n p k = rw (le-leb _ _ (k .level), le-leb _ _ (k .length), le-leb _ _ (k .some)) (le-leb _ _ (k .span))
 
 -- at most 51 partitions within their limits, whose levels never rise, and zeros after them
 pub record PartitionsKept (blockCount : ℕ) (p : Partitions) : Type 0 where

@@ -71,13 +71,14 @@ bufferRule w b =
     leb (b .used) 128
     && (ordered (buffered b) && (every (postingRule w) (buffered b) && every unusedPosting (drop (b .used) (b .postings))))
 
--- a finished partition's level is at most 5 and its length lies within the card's content
+-- a finished partition's level is at most 5, its length lies within the card's content, and its lowest window is at least 1 and at most its highest
 unfoldable pub recordRule : ℕ → Partition → Bool
-recordRule blockCount p = leb (p .level) 5 && leb (p .length) (4092 * blockCount)
+recordRule blockCount p =
+    leb (p .level) 5 && (leb (p .length) (4092 * blockCount) && (leb 1 (p .lowest) && leb (p .lowest) (p .highest)))
 
 -- a place of the list of partitions that is not used
 abbrev pub unusedRecord : Partition → Bool
-unusedRecord p = eqb (p .first) 0 && (eqb (p .level) 0 && eqb (p .length) 0)
+unusedRecord p = eqb (p .first) 0 && (eqb (p .level) 0 && (eqb (p .length) 0 && (eqb (p .lowest) 0 && eqb (p .highest) 0)))
 
 -- no partition has a higher level than one before it
 abbrev pub neverRise : List Partition → Bool

@@ -22,7 +22,7 @@ abbrev pub noPosting : Posting
 noPosting = record { id = 0; window = 0; count = pos 0 }
 
 abbrev pub noPartition : Partition
-noPartition = record { first = 0; level = 0; length = 0 }
+noPartition = record { first = 0; level = 0; length = 0; lowest = 0; highest = 0 }
 
 abbrev pub noMerge : MergeJob
 noMerge = record { first = 0; length = 0; steps = 0 }

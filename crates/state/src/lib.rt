@@ -41,11 +41,13 @@ pub struct Buffer {
     pub postings: [Posting; MOST_BUFFERED],
 }
 
-// A finished partition: its first block, its level and its length in bytes.
+// A finished partition: its first block, its level, its length in bytes, and the lowest and the highest window of its postings.
 pub struct Partition {
     pub first: u16,
     pub level: u16,
     pub length: u32,
+    pub lowest: u16,
+    pub highest: u16,
 }
 
 // The finished partitions, oldest first.

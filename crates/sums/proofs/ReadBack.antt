@@ -12,6 +12,7 @@ use Rattle.state.specs.Rules.{postingRule, stateRule}
 use Rattle.state.proofs.Kept.{state-kept, posting-kept}
 use Rattle.partitions.specs.Reading.{postingsOf, inPartitions, stored}
 use Rattle.partitions.specs.Formed.{listRule, sumsInRange}
+use Rattle.spans.proofs.Lists.{lists-spanned}
 use Rattle.kway.specs.Parts.{part, parts}
 use Rattle.scans.specs.Keys.{itemOf, isKeyed}
 use Rattle.scans.specs.Items.{items}
@@ -75,13 +76,13 @@ module _ (s : State) (rule : stateRule s ≡ true) (last : s .windows .last ≤ 
 
 module _ (W : List ℕ) where
   -- what heads have to come are their postings
-  views-lists : (hs : List (List ℕ)) → map (view W) hs ≡ map (map itemOf) (map (ahead W) hs)
+  pub views-lists : (hs : List (List ℕ)) → map (view W) hs ≡ map (map itemOf) (map (ahead W) hs)
   unfolding view items
   views-lists [] = refl
   views-lists (h ∷ hs) = ap (λ (x : Group). map itemOf (ahead W h) ∷ x) (views-lists hs)
 
   -- and have keys
-  heads-keyed : Below 4294967296 W → (hs : List (List ℕ)) → AllOf (Kept W) hs → every (every isKeyed) (map (ahead W) hs) ≡ true
+  pub heads-keyed : Below 4294967296 W → (hs : List (List ℕ)) → AllOf (Kept W) hs → every (every isKeyed) (map (ahead W) hs) ≡ true
   unfolding AllOf
   heads-keyed small [] g = refl
   heads-keyed small (h ∷ hs) g = and-both _ _ (reader-keyed W small (readerAt h) (g .0 .good)) (heads-keyed small hs (g .1))
@@ -122,7 +123,7 @@ module _ (W : List ℕ) (s : State) (b : Buffer) (ws H : List ℕ) (start : ℕ)
       ap (tallyOf w) groups-same
       ∙ tally-lists w lists (buffered (s .buffer)) lists-keyed (ok .keyed) buffer-rule
       ∙ ap (λ (t : Bool). cond t (tallyIf (sumsInRange (ofWindow w (joined lists)) && sumsInRange (ofWindow w (joined lists ++ buffered (s .buffer)))) (countsOf w (joined lists ++ buffered (s .buffer)))) faulty)
-      (every-map listRule (postingsOf W) (finished (s .partitions)))
+      (every-map listRule (postingsOf W) (finished (s .partitions)) ∙ sym (lists-spanned W (finished (s .partitions)) (g .spans)))
 
   -- counts have keys
   counts-keyed : (w : ℕ) → every isKeyed (countsOf w (stored W s)) ≡ true

@@ -1,7 +1,7 @@
 -- The places at which windows are named, and the slots that hold their counts.
-use Rattle.lists.proofs.Prelude.{true, false, List, [], _∷_, _≡_, sym, ap, _∙_, ℕ, suc, _+_, _-_, _*_, _<_, _≤_, add-one, add-zero, arith, eqb, ltb, length, length-map, length-drop, length-take-le, getD, getD-take, getD-drop, getD-set-same, getD-set-other, set, length-set, take, drop, drop-cons, drop-of-length-le, eqb-true, eqb-false, eq-eqb, ne-eqb, ltb-true, ltb-false, elem, by-test, never}
+use Rattle.lists.proofs.Prelude.{true, false, List, [], _∷_, _≡_, sym, ap, _∙_, ℕ, suc, _+_, _-_, _*_, _<_, _≤_, add-one, arith, eqb, ltb, length, length-map, length-drop, length-take-le, getD, getD-set-same, getD-set-other, set, length-set, take, drop, drop-cons, drop-of-length-le, eqb-true, eqb-false, eq-eqb, ne-eqb, ltb-true, ltb-false, elem, by-test, never}
 use Rattle.kway.specs.Parts.{part}
-use Rattle.kway.proofs.Parts.{putIn, put-length, put-here, put-before, put-later}
+use Rattle.kway.proofs.Parts.{first-of, putIn, put-length, put-here, put-before, put-later}
 use Rattle.sums.specs.Views.{heldIn, Tidy, Cleared, firstPlace, heldFor}
 
 -- ---- places
@@ -121,16 +121,12 @@ pub record ClearedTo (n i : ℕ) (T : List ℕ) : Type 0 where
   pub long : length T ≡ 65 * n
   pub none : (j : ℕ) → j < i → getD (part 65 j T) 0 0 ≡ 0
 
--- a slot's first number
-first-of : (j : ℕ) (T : List ℕ) → getD (part 65 j T) 0 0 ≡ getD T (65 * j) 0
-first-of j T = getD-take 65 (drop (65 * j) T) 0 0 (omega arith) ∙ getD-drop (65 * j) T 0 0 ∙ ap (λ (n : ℕ). getD T n 0) (add-zero (65 * j))
-
 -- one more
 pub cleared-more : (n i : ℕ) (T : List ℕ) → i < n → ClearedTo n i T → ClearedTo n (i + 1) (set T (65 * i) 0)
 cleared-more n i T h c = record {
   long = length-set T (65 * i) 0 ∙ c .long;
-  none = λ j g. first-of j (set T (65 * i) 0)
+  none = λ j g. first-of 65 j (set T (65 * i) 0) (omega arith)
       ∙ by-test (eqb j i)
       (λ y. rw (eqb-true j i y) (getD-set-same T (65 * i) 0 0 (omega (arith, c .long))))
-      (λ m. let z = eqb-false j i m in getD-set-other T (65 * i) (65 * j) 0 0 (λ q. z (omega arith)) ∙ sym (first-of j T) ∙ c .none j (omega arith));
+      (λ m. let z = eqb-false j i m in getD-set-other T (65 * i) (65 * j) 0 0 (λ q. z (omega arith)) ∙ sym (first-of 65 j T (omega arith)) ∙ c .none j (omega arith));
 }

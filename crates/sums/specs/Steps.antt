@@ -7,6 +7,7 @@ use lib.Dec.{leb}
 use lib.IntN.{ℤ}
 use lib.ListN.{length}
 use Rattle.lists.specs.All.{AllOf}
+use Rattle.lists.specs.Lists.{every}
 use Rattle.keyed.specs.Keys.{topFrom}
 use Rattle.postings.specs.declared.Posting.{Posting}
 use Rattle.postings.specs.Merge.{isZero}
@@ -15,7 +16,7 @@ use Rattle.state.specs.declared.State.{State}
 use Rattle.state.specs.Views.{finished}
 use Rattle.state.specs.Rules.{stateRule}
 use Rattle.partitions.specs.Reading.{postingsOf}
-use Rattle.partitions.specs.Formed.{inRange}
+use Rattle.partitions.specs.Formed.{inRange, spanRule}
 use Rattle.kway.specs.Parts.{parts}
 use Rattle.scans.specs.Keys.{keyWindow, postingOf}
 use Rattle.scans.specs.Heads.{ahead, views, Kept}
@@ -32,7 +33,8 @@ pub record Counted (l : List ℕ) (k : ℕ) (sum total : ℤ) (r : Bool) (l′ :
   pub counts : r ≡ true → heldIn (keyWindow k) l′ ≡ heldIn (keyWindow k) l ++ countAt k total
   pub tidy : Tidy (keyWindow k) l′
 
--- every finished partition has its head at its first posting, and the greatest key of all is known; b is the buffer
+-- every finished partition has its head at its first posting, and the greatest key of all is known; b is the buffer, and the windows are those that the records
+-- tell
 pub record Begun (W : List ℕ) (s : State) (b : Buffer) (H : List ℕ) (start : ℕ) : Type 0 where
   pub rule : stateRule s ≡ true
   pub buffer : b ≡ s .buffer
@@ -40,3 +42,4 @@ pub record Begun (W : List ℕ) (s : State) (b : Buffer) (H : List ℕ) (start :
   pub kept : AllOf (Kept W) (parts 10 (s .partitions .used) H)
   pub lists : map (ahead W) (parts 10 (s .partitions .used) H) ≡ map (postingsOf W) (finished (s .partitions))
   pub top : start ≡ topFrom 0 (views W (s .partitions .used) H)
+  pub spans : every (λ p. spanRule p (postingsOf W p)) (finished (s .partitions)) ≡ true

@@ -5,13 +5,14 @@ use mathlib.Core.Path.{_≡_}
 use Prim.Native.Nat.{ℕ, _*_, _<_}
 use lib.Dec.{eqb, leb}
 use lib.ListN.{length, getD}
-use Rattle.lists.specs.Lists.{keep, every, elem}
+use Rattle.lists.specs.Lists.{keep, any, every, elem}
 use Rattle.postings.specs.declared.Posting.{Posting}
 use Rattle.postings.specs.Merge.{nonzero, pairs}
+use Rattle.postings.specs.Sums.{isAbove}
 use Rattle.state.specs.declared.State.{State}
 use Rattle.state.specs.Views.{finished}
-use Rattle.partitions.specs.Reading.{postingsOf, inPartitions, stored}
-use Rattle.partitions.specs.Formed.{listRule, sumsInRange}
+use Rattle.partitions.specs.Reading.{inPartitions, stored}
+use Rattle.partitions.specs.Formed.{listsRule, sumsInRange}
 use Rattle.sums.specs.declared.Judged.{Judged}
 use Rattle.kway.specs.Parts.{part}
 use Rattle.scans.specs.Keys.{isKeyed}
@@ -25,9 +26,13 @@ ofWindow w l = keep (λ p. eqb (p .window) w) l
 unfoldable pub countsOf : ℕ → List Posting → List Posting
 countsOf w l = nonzero (pairs (ofWindow w l))
 
--- all lists of the finished partitions keep the rule
+-- a window lives where one of its counts is above 0
+abbrev pub isLive : List Posting → Bool
+isLive counts = any (λ p. isAbove (p .count)) counts
+
+-- all lists of the finished partitions keep their rule
 abbrev pub listsRuled : List ℕ → State → Bool
-listsRuled W s = every (λ p. listRule (postingsOf W p)) (finished (s .partitions))
+listsRuled W s = every (listsRule W) (finished (s .partitions))
 
 -- a window's sums over the partitions and with the buffer are in range, and not more than 64 of them are not 0
 abbrev pub windowFormed : List ℕ → State → ℕ → Bool

@@ -39,7 +39,7 @@ pub struct Judged {
 }
 
 // What the buffer has still to come first: one more than the key, and the count; 0 where nothing is to come.
-struct Front {
+pub struct Front {
     pub reach: u32,
     pub count: i16,
 }
@@ -60,7 +60,7 @@ fn none() -> Counts
 }
 
 // A buffered posting that is to come first.
-fn front_of(p: Posting) -> Front
+pub fn front_of(p: Posting) -> Front
     requires { ⌜ p .id ≤ 1023 ⌝ }
     ensures { λ r. ⌜ (r .reach ≡ keyOf (p .id) (p .window) + 1) × (r .count ≡ p .count) ⌝ }
 {
@@ -71,14 +71,14 @@ fn front_of(p: Posting) -> Front
 }
 
 // The count that the buffer has under the key below `top`.
-fn count_under(f: Front, top: u32) -> i16
+pub fn count_under(f: Front, top: u32) -> i16
     ensures { λ r. ⌜ r ≡ cond (eqb (f .reach) top) (f .count) (pos 0) ⌝ }
 {
     if f.reach == top { f.count } else { 0 }
 }
 
 // The buffer's place past the key below `top`.
-fn past(at: usize, f: Front, top: u32) -> usize
+pub fn past(at: usize, f: Front, top: u32) -> usize
     requires { ⌜ at ≤ 128 ⌝ }
     ensures { λ r. ⌜ r ≡ cond (eqb (f .reach) top) (at + 1) at ⌝ }
 {
@@ -192,8 +192,11 @@ pub fn read_all(card: &[u8], s: State, windows: &[u32], slots: &mut [u32]) -> bo
     ensures { λ r. ⌜ ReadAll (wordsOf (now (card .entry))) s (now (windows .entry)) r (now (slots .exit)) ⌝ }
 {
     clear(slots, windows.len());
-    let mut heads = [0u32; 510];
     let ps = s.partitions;
+    if !spans::spans_ok(card, ps) {
+        return false;
+    }
+    let mut heads = [0u32; 510];
     let start = scans::open_heads(card, ps, &mut heads);
     walk(card, &mut heads, start, s, s.buffer, windows, slots)
 }

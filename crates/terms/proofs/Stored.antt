@@ -6,6 +6,7 @@ use Rattle.keyed.proofs.Walk.{over-same}
 use Rattle.keyed.proofs.Groups.{Zero}
 use Rattle.words.specs.Words.{Below}
 use Rattle.postings.specs.declared.Posting.{Posting}
+use Rattle.postings.specs.declared.Stretch.{Stretch}
 use Rattle.postings.specs.Order.{ordered}
 use Rattle.postings.specs.Pack.{wordWindow, isPosting, posted}
 use Rattle.postings.specs.Sums.{sum, under, above, frequency, amount}
@@ -14,7 +15,7 @@ use Rattle.postings.proofs.Sums.{sum-append, sum-under}
 use Rattle.postings.proofs.Trips.{posting-window}
 use Rattle.state.specs.declared.State.{State}
 use Rattle.state.specs.Views.{buffered, finished}
-use Rattle.state.specs.Shown.{shows, shown}
+use Rattle.state.specs.Shown.{showsIn, shownIn}
 use Rattle.partitions.specs.Reading.{postingsOf, inPartitions, stored}
 use Rattle.partitions.specs.Formed.{listRule, sumsInRange, identifierFormed}
 use Rattle.kway.specs.Parts.{part, parts}
@@ -220,10 +221,10 @@ module _ (W R : List ℕ) (s : State) (i : ℕ) (H : List ℕ) (opens : Opens W 
     unfolding AllOf view
     none-at-zero = (zero-lists W R 65536 hs lists-fall, (rw (zero-words 65536 (coming W R last) run-falls), tt))
 
-    pub risen-same : risen (shows o) gs ≡ record { windows = frequency (shown (s .windows)) (stored W s) i; total = amount (shown (s .windows)) (stored W s) i }
-    unfolding frequency amount shown risen
-    risen-same =
-        over-down (shows o) (λ w. above (sum (stored W s) i w)) (λ w. map (sums w) gs) (λ w. ap above (total-same w))
+    pub risen-same : (t : Stretch) → risen (showsIn t o) gs ≡ record { windows = frequency (shownIn t (s .windows)) (stored W s) i; total = amount (shownIn t (s .windows)) (stored W s) i }
+    unfolding frequency amount shownIn risen
+    risen-same t =
+        over-down (showsIn t o) (λ w. above (sum (stored W s) i w)) (λ w. map (sums w) gs) (λ w. ap above (total-same w))
         (ap above (total-same 0 ∙ total-none (map (sums 0) gs) none-at-zero)) 65535
 
 -- ---- at most 65,535 windows count

@@ -8,10 +8,10 @@ ghost use Rattle.keyed.specs.Keys.{headVals};
 ghost use Rattle.keyed.specs.Groups.{topAll, moveAll};
 ghost use Rattle.words.specs.Words.{words as wordsOf};
 ghost use Rattle.postings.specs.Sums.{above as aboveOf};
-ghost use Rattle.state.specs.Shown.{shows};
+ghost use Rattle.state.specs.Shown.{showsIn};
 ghost use Rattle.terms.specs.Judged.{totalZ, fineAt, toldOf};
+ghost use Rattle.kway.specs.Leads.{Leads};
 ghost use Rattle.heads.specs.Heads.{views};
-ghost use Rattle.heads.specs.Leads.{Leads};
 ghost use Rattle.terms.specs.Both.{Ready, both as bothOf};
 
 // What is taken under a window: whether it is well formed with sums in range, what it counts, one more than the greatest window to come, and the list on
@@ -77,11 +77,19 @@ fn judge_window(
     }
 }
 
-// The whole merge, by falling window, where `current` is the open window's number, or 0: it is judged and counts nothing. No list may reach a window that was
-// passed. The heads are spent by it.
-pub fn judge(card: &[u8], run: &[u32], heads: &mut [u32], n: usize, current: u32) -> Told
+// The whole merge, by falling window. `current` is the open window's number, or 0: it is judged and counts nothing, and so is a window outside the stretch from
+// `first` to `last`. No list may reach a window that was passed. The heads are spent by it.
+pub fn judge(
+    card: &[u8],
+    run: &[u32],
+    heads: &mut [u32],
+    n: usize,
+    current: u32,
+    first: u32,
+    last: u32,
+) -> Told
     requires { ⌜ (length (now heads) ≡ 4 * n + 4) × (n ≤ 51) × Ready (wordsOf (now card)) (now run) n (now heads) ⌝ }
-    ensures { λ r. ⌜ r ≡ toldOf (shows current) (bothOf (wordsOf (now (card .entry))) (now (run .entry)) n (now (heads .entry))) ⌝ }
+    ensures { λ r. ⌜ r ≡ toldOf (showsIn (record { first = first; last = last }) current) (bothOf (wordsOf (now (card .entry))) (now (run .entry)) n (now (heads .entry))) ⌝ }
 {
     let l = heads::leading::leader(card, run, heads, n);
     let mut top = kway::larger(l.top, heads[4 * n]);
@@ -100,7 +108,7 @@ pub fn judge(card: &[u8], run: &[u32], heads: &mut [u32], n: usize, current: u32
         if !fine {
             return Told::Malformed;
         }
-        let count = shown(t.count, w != current);
+        let count = shown(t.count, ((first <= w) & (w <= last)) & (w != current));
         windows += (0 < count) as u32;
         total += count;
         top = t.next;

@@ -96,6 +96,8 @@ fn empty_state(card: u32, register: u32, taken: u16) -> State
         first: 0,
         level: 0,
         length: 0,
+        lowest: 0,
+        highest: 0,
     };
     let buffer = empty_buffer();
     State {

@@ -6,13 +6,15 @@ mod probes;
 mod stack;
 mod timing;
 
-use gemsilver::Identifier;
 use gemsilver::bytes::{self, HIT};
+use gemsilver::{Identifier, Stretch};
 use probes::{
-    Probe, alike, chained, fresh, half_full, name, plan, register, to_merge, with_full_buffer,
+    Probe, alike, chained, fresh, half_full, half_full_of_most, name, plan, register, to_merge,
+    with_full_buffer,
 };
 use second::engine;
-use second::state::{Hit, State};
+use second::state::{Hit, Partition, State};
+use second::stretch::Stretch as SecondStretch;
 use std::hint::black_box;
 use std::path::Path;
 use timing::{compare, once, print, title};
@@ -108,20 +110,86 @@ fn queries() {
     }
 }
 
-/// Times a query. One of an identifier that the register has not takes up no postings: it costs what every query costs besides them.
+/// Times a query over all windows. One of an identifier that the register has not takes up no postings: it costs what every query costs that
+/// reads all lists to count N.
 fn query(blocks: usize, probe: &Probe, names: &[Vec<u8>]) {
     let count = names.len();
+    ask_both(probe, names, Stretch::ALL, |taken| {
+        format!("{blocks}, {count}, {taken}")
+    });
+}
+
+/// Times a query over a stretch, named by the postings that it takes up, and tells the proved engine's time.
+fn ask_both(
+    probe: &Probe,
+    names: &[Vec<u8>],
+    stretch: Stretch,
+    case: impl FnOnce(u64) -> String,
+) -> f64 {
     let ids: Vec<&[u8]> = names.iter().map(|name| &name[..]).collect();
     let identifiers: Vec<Identifier> = ids.iter().map(|&id| id.into()).collect();
+    let Stretch { first, last } = stretch;
+    let other = SecondStretch { first, last };
     let (mut listed, mut hits) = ([0; PLACES * HIT], [Hit::default(); PLACES]);
     let (image, card, register) = (&probe.image, &probe.card, &probe.register);
-    let mut ask = || bytes::query(image, card, register, &identifiers, &mut listed);
+    let mut ask = || bytes::query(image, card, register, &identifiers, stretch, &mut listed);
     let found = ask().expect("a fitting query");
     compare(
-        &format!("{blocks}, {count}, {}", found.taken),
+        &case(found.taken),
         || assert!(ask().is_ok()),
-        || assert!(engine::query(&probe.state, card, register, &ids, &mut hits).is_ok()),
+        || {
+            let found = engine::query(&probe.state, card, register, &ids, other, &mut hits);
+            assert!(found.is_ok());
+        },
+    )
+}
+
+/// How many windows a complaint is about.
+const COMPLAINT: u16 = 140;
+
+/// Queries of one identifier over all windows and over a few, old ones and the newest that partitions have. All postings are read of the partitions that
+/// are not passed over, whatever their identifier, and of the buffer.
+fn stretches() {
+    title(
+        "a query over a stretch, on 4,096 blocks",
+        "partitions, windows, postings read",
     );
+    let mut told = Vec::new();
+    for probe in [half_full(4_096, ENTRIES), half_full_of_most(4_096, ENTRIES)] {
+        let records = probe.state.partitions.to_list();
+        let newest = records.iter().map(|it| it.highest).max().expect("windows");
+        let few = [
+            ("all", Stretch::ALL),
+            ("140 old", stretch_of(200)),
+            ("140 newest", stretch_of(newest - COMPLAINT + 1)),
+        ];
+        for (windows, stretch) in few {
+            let read = postings_read(&probe, stretch);
+            let case = format!("{}, {windows}, {read}", records.len());
+            let time = ask_both(&probe, &[name(3)], stretch, |_| case.clone());
+            told.push(format!("{case}: {:.2}", time * 1e3 / read as f64));
+        }
+    }
+    println!("nanoseconds a posting read: {}", told.join("; "));
+}
+
+fn stretch_of(first: u16) -> Stretch {
+    let last = first + COMPLAINT - 1;
+    Stretch { first, last }
+}
+
+/// The postings of the partitions that a stretch does not pass over, and those of the buffer.
+fn postings_read(probe: &Probe, stretch: Stretch) -> usize {
+    let records = probe.state.partitions.to_list().into_iter();
+    let is_read = |it: &Partition| it.highest >= stretch.first && it.lowest <= stretch.last;
+    // A header's second word.
+    let postings = |it: Partition| {
+        let at = usize::from(it.first) * BLOCK + 4;
+        let word = probe.card[at..at + 4].try_into().expect("four bytes");
+        u32::from_le_bytes(word) as usize
+    };
+    let on_card: usize = records.filter(is_read).map(postings).sum();
+    on_card + usize::from(probe.state.buffer.used)
 }
 
 fn means() {
@@ -138,7 +206,8 @@ fn means() {
 /// read that every mean reads.
 fn mean(blocks: usize, probe: &Probe, name: &[u8]) {
     let (image, card, register) = (&probe.image, &probe.card, &probe.register);
-    let found = bytes::query(image, card, register, &[name.into()], &mut [0; HIT]);
+    let all = Stretch::ALL;
+    let found = bytes::query(image, card, register, &[name.into()], all, &mut [0; HIT]);
     let taken = found.expect("a fitting query").taken;
     let is_counted = taken > 0;
     compare(
@@ -373,11 +442,13 @@ fn stacks() {
     });
     let names: Vec<Vec<u8>> = (0..5).map(name).collect();
     let ids: Vec<Identifier> = names.iter().map(|name| name[..].into()).collect();
-    stack("query", &probes, |probe| {
-        let mut hits = [0; PLACES * HIT];
-        let (image, card, register) = (&probe.image, &probe.card, &probe.register);
-        assert!(bytes::query(image, card, register, &ids, &mut hits).is_ok());
-    });
+    for (what, stretch) in [("query", Stretch::ALL), ("query over 140", stretch_of(200))] {
+        stack(what, &probes, |probe| {
+            let mut hits = [0; PLACES * HIT];
+            let (image, card, register) = (&probe.image, &probe.card, &probe.register);
+            assert!(bytes::query(image, card, register, &ids, stretch, &mut hits).is_ok());
+        });
+    }
     stack("mean", &probes, |probe| {
         let (image, card, register) = (&probe.image, &probe.card, &probe.register);
         assert!(bytes::mean(image, card, register, &names[0]).is_ok());
@@ -400,6 +471,7 @@ fn main() {
     registers();
     events();
     queries();
+    stretches();
     means();
     forecasts();
     removals();

@@ -1,8 +1,8 @@
 //! The same windows and queries for this engine and for others: writes them as text, and times this engine's queries.
 
 use crate::timing::once;
-use gemsilver::{Hit, Identifier, Probe};
-use second::{engine, image, state::Hit as SecondHit};
+use gemsilver::{Hit, Identifier, Probe, Stretch};
+use second::{engine, image, state::Hit as SecondHit, stretch::Stretch as SecondStretch};
 use std::collections::BTreeMap;
 use std::fs;
 use std::path::Path;
@@ -111,11 +111,12 @@ pub fn run(folder: &Path) {
     let mut told = String::new();
     for names in &names {
         let (mut hits, mut expected) = ([Hit::default(); PLACES], [SecondHit::default(); PLACES]);
-        let found = probe.query(&identifiers(names), &mut hits);
+        let found = probe.query(&identifiers(names), Stretch::ALL, &mut hits);
         let listed = found.expect("a query").hits;
         let names: Vec<&[u8]> = names.iter().map(String::as_bytes).collect();
         let (card, register) = (probe.card(), probe.register());
-        let second = engine::query(&state, card, register, &names, &mut expected);
+        let all = SecondStretch::ALL;
+        let second = engine::query(&state, card, register, &names, all, &mut expected);
         assert_eq!(second.map(|found| usize::from(found.hits)), Ok(listed));
         for (hit, expected) in hits[..listed].iter().zip(&expected) {
             let expected = (u32::from(expected.window), expected.score);
@@ -130,11 +131,9 @@ pub fn run(folder: &Path) {
     for _ in 0..7 {
         least = least.min(once(|| {
             for identifiers in &asked {
-                assert!(
-                    probe
-                        .query(identifiers, &mut [Hit::default(); PLACES])
-                        .is_ok()
-                );
+                let mut hits = [Hit::default(); PLACES];
+                let found = probe.query(identifiers, Stretch::ALL, &mut hits);
+                assert!(found.is_ok());
             }
         }));
     }

@@ -64,7 +64,10 @@ fn content(level: u16, identifiers: usize, list: impl Fn(usize) -> Vec<u16>) -> 
     let postings = lists.iter().map(Vec::len).sum();
     let start = 32 + 12 * identifiers;
     let mut words = vec![identifiers, postings, 32, start, start + 4 * postings];
-    words.extend([usize::from(level), 0, 0]);
+    let windows = || lists.iter().flatten().copied();
+    let span = [windows().min(), windows().max()].map(|window| window.expect("postings"));
+    words.push(level.into());
+    words.extend(span.map(usize::from));
     let mut first = 0;
     for (id, list) in lists.iter().enumerate() {
         words.extend([id, list.len(), first]);
@@ -94,10 +97,14 @@ fn add(probe: &mut Probe, level: u16, content: &[u8]) {
         block[CONTENT..].copy_from_slice(&(next as u32).to_le_bytes());
     }
     let partitions = &mut probe.state.partitions;
+    // Lowest and highest window are the last two words of the header.
+    let [lowest, highest] = [24, 28].map(|at| u16::from_le_bytes([content[at], content[at + 1]]));
     partitions.records[usize::from(partitions.used)] = Partition {
         first: first as u16,
         level,
         length: content.len() as u32,
+        lowest,
+        highest,
     };
     partitions.used += 1;
     probe.state.taken = (first + count - 1) as u16;
@@ -146,21 +153,37 @@ fn windows(first: usize, stride: usize, count: usize) -> Vec<u16> {
     (0..count).rev().map(number).collect()
 }
 
-/// A card of which a little less than half is in use, in partitions of all levels, each a third of what the ones before leave.
-/// Older windows are in older partitions, and a window has at most 33 identifiers.
+/// A card of which a little less than half is in use, in nine partitions of all levels, each a third of what the ones before leave.
 pub fn half_full(blocks: usize, entries: usize) -> Probe {
-    let mut probe = empty(blocks, entries);
     let mut room = blocks / 2 - 12;
-    let mut before = 0;
-    for level in [5, 5, 4, 4, 3, 2, 1, 0, 0] {
+    let shares = [5, 5, 4, 4, 3, 2, 1, 0, 0].map(|level| {
         let share = (room / 3).max(1);
+        room -= share.min(room);
+        (level, share)
+    });
+    filled(blocks, entries, &shares)
+}
+
+/// A card as full, in as many partitions as the list may have, all of one length.
+pub fn half_full_of_most(blocks: usize, entries: usize) -> Probe {
+    let levels = [(5, 3), (4, 8), (3, 8), (2, 8), (1, 8), (0, 16)];
+    let levels = levels.map(|(level, count)| vec![level; count]).concat();
+    let share = (blocks / 2 - 12) / levels.len();
+    let shares: Vec<(u16, usize)> = levels.into_iter().map(|level| (level, share)).collect();
+    filled(blocks, entries, &shares)
+}
+
+/// A card with partitions of these levels and blocks. Older windows are in older partitions, and a window has at most 33 identifiers.
+fn filled(blocks: usize, entries: usize, shares: &[(u16, usize)]) -> Probe {
+    let mut probe = empty(blocks, entries);
+    let mut before = 0;
+    for &(level, share) in shares {
         let words = share * CONTENT / 4 - 8;
         let identifiers = entries.min(words / 8);
         let count = (words - 3 * identifiers) / identifiers;
         let content = content(level, identifiers, |id| {
             windows(1 + id % 32 + 32 * before, 32, count)
         });
-        room -= share.min(room);
         before += count;
         add(&mut probe, level, &content);
     }

@@ -63,6 +63,32 @@ unsafe impl Send for Identifier<'_> {}
 // Sound: as above.
 unsafe impl Sync for Identifier<'_> {}
 
+/// The windows that a query is asked over, from a first to a last one.
+///
+/// A first that exceeds the last is refused. 0 is no window, so that 0 to 0 is an empty stretch.
+///
+/// ```
+/// use gemsilver::Stretch;
+///
+/// let complaint = Stretch { first: 200, last: 340 };
+/// assert_ne!(complaint, Stretch::ALL);
+/// ```
+#[derive(Clone, Copy, PartialEq, Eq, Hash, Debug)]
+pub struct Stretch {
+    /// The first window.
+    pub first: u16,
+    /// The last window.
+    pub last: u16,
+}
+
+impl Stretch {
+    /// All windows there can be: 1 to 65,535.
+    pub const ALL: Stretch = Stretch {
+        first: 1,
+        last: 65_535,
+    };
+}
+
 /// A window that a query lists: its number and its score, at most 306,000.
 #[derive(Clone, Copy, PartialEq, Eq, Default, Debug)]
 #[repr(C)]
@@ -135,7 +161,7 @@ impl fmt::Debug for Entry {
 pub struct Found {
     /// How many places of the list are filled; the others are as they were.
     pub hits: usize,
-    /// How many stored postings were taken up.
+    /// How many stored postings were taken up: of the buffer, and of the partitions that the stretch does not pass over.
     pub taken: u64,
 }
 

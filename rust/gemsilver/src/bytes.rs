@@ -14,7 +14,7 @@
 //! ```
 
 use crate::exported;
-use crate::{Forecast, Found, Identifier, Mean, Refusal, Stop};
+use crate::{Forecast, Found, Identifier, Mean, Refusal, Stop, Stretch};
 
 /// Bytes of a place in a list of hits: the window and the score, a little-endian word each.
 pub const HIT: usize = 8;
@@ -24,7 +24,7 @@ const REFUSED: u32 = 65_536;
 
 /// The refusal that a call told by its number.
 fn refusal(number: u32) -> Refusal {
-    Refusal::of_number(number).expect("the engine refuses with a number from 1 to 16")
+    Refusal::of_number(number).expect("the engine refuses with a number from 1 to 17")
 }
 
 /// Nothing, or the refusal.
@@ -161,13 +161,14 @@ pub fn step(image: &mut [u8], card: &mut [u8]) -> Result<(), Refusal> {
     })
 }
 
-/// Fills the list, of [`HIT`] bytes a place, with the closed windows that score highest on the identifiers. Bytes past the last whole place,
-/// and places past the last hit, stay as they are.
+/// Fills the list, of [`HIT`] bytes a place, with the closed windows of the stretch that score highest on the identifiers. Bytes past the last
+/// whole place, and places past the last hit, stay as they are.
 pub fn query(
     image: &[u8],
     card: &[u8],
     register: &[u8],
     identifiers: &[Identifier<'_>],
+    stretch: Stretch,
     hits: &mut [u8],
 ) -> Result<Found, Refusal> {
     // Sound: each pointer and length are those of one slice, those of the identifiers live as long as the call, and all but the
@@ -182,6 +183,8 @@ pub fn query(
             register.len(),
             identifiers.as_ptr(),
             identifiers.len(),
+            stretch.first,
+            stretch.last,
             hits.as_mut_ptr(),
             hits.len(),
         )

@@ -60,6 +60,8 @@ unsafe extern "C" {
         register_length: usize,
         identifiers: *const Identifier<'_>,
         count: usize,
+        first: u16,
+        last: u16,
         hits: *mut u8,
         hits_length: usize,
     ) -> u64;

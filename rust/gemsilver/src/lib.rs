@@ -8,11 +8,11 @@
 //! No call allocates, and the crate needs neither an allocator nor an operating system. The archive that it links is for x86-64 Linux.
 //!
 //! - [`Probe`]: the calls; [`bytes`]: the same calls on three slices.
-//! - [`Identifier`], [`Hit`], [`Found`], [`Mean`], [`Entry`], [`Forecast`]: what goes in and comes out; [`Refusal`]: why a call is refused.
+//! - [`Identifier`], [`Stretch`], [`Hit`], [`Found`], [`Mean`], [`Entry`], [`Forecast`]: what goes in and comes out; [`Refusal`]: why a call is refused.
 //! - [`Snapshot`]: a probe in one file.
 //!
 //! ```
-//! use gemsilver::{Hit, IMAGE, Probe};
+//! use gemsilver::{Hit, IMAGE, Probe, Stretch};
 //!
 //! let mut probe = Probe::start(vec![0; IMAGE], vec![0; 16 * 4096], vec![0; 64 * 65])?;
 //! for events in [&["LUCKY", "LUCKY", "LUCKY", "TILT"][..], &["LUCKY"]] {
@@ -23,7 +23,7 @@
 //!     probe.close()?;
 //! }
 //! let mut hits = [Hit::default(); 2];
-//! let found = probe.query(&["LUCKY".into(), "TILT".into()], &mut hits)?;
+//! let found = probe.query(&["LUCKY".into(), "TILT".into()], Stretch::ALL, &mut hits)?;
 //! assert_eq!((found.hits, found.taken), (2, 3));
 //! assert_eq!(hits, [Hit { window: 1, score: 256 }, Hit { window: 2, score: 0 }]);
 //! # Ok::<(), gemsilver::Refusal>(())
@@ -38,13 +38,13 @@ mod probe;
 mod refusal;
 mod snapshot;
 
-pub use answers::{Entry, Forecast, Found, Hit, Identifier, Mean, Stop};
+pub use answers::{Entry, Forecast, Found, Hit, Identifier, Mean, Stop, Stretch};
 pub use probe::Probe;
 pub use refusal::Refusal;
 pub use snapshot::{Part, Snapshot, SnapshotError, VERSION};
 
-/// Bytes of a state's image: 614 little-endian words.
-pub const IMAGE: usize = 2_456;
+/// Bytes of a state's image: 716 little-endian words.
+pub const IMAGE: usize = 2_864;
 
 /// Bytes of a block of the card; a card has 4 to 4,096 blocks.
 pub const BLOCK: usize = 4_096;

@@ -1,6 +1,6 @@
 //! A probe: its three buffers, and the calls on them.
 
-use crate::{Entry, Forecast, Found, Hit, Identifier, Mean, Refusal, Snapshot, bytes};
+use crate::{Entry, Forecast, Found, Hit, Identifier, Mean, Refusal, Snapshot, Stretch, bytes};
 use core::fmt;
 
 /// A probe: the state's image, the card and the register, which belong together.
@@ -86,15 +86,16 @@ impl<B: AsRef<[u8]>> Probe<B> {
         }
     }
 
-    /// Fills the list with the closed windows that score highest on 1 to 5 different identifiers, by falling score, then falling number. The
-    /// list has 1 to 32 places; those past the last hit stay as they are.
+    /// Fills the list with the closed windows of the stretch that score highest on 1 to 5 different identifiers, by falling score, then falling
+    /// number. The list has 1 to 32 places; those past the last hit stay as they are.
     ///
     /// A window's score is the sum of S(count + 1) x (S(N) - S(F)) over the identifiers that count in it. S(n) is the largest a with
-    /// 2^a <= n^16, N the number of closed windows, and F the number of those in which the identifier counts; where F exceeds N,
-    /// S(N) - S(F) is taken as 0.
+    /// 2^a <= n^16, N the number of closed windows of the stretch, and F the number of those in which the identifier counts.
+    ///
+    /// A partition whose windows all lie outside the stretch is passed over: its postings are not taken up, and its lists are not read.
     ///
     /// ```
-    /// # use gemsilver::{Hit, IMAGE, Probe};
+    /// # use gemsilver::{Hit, IMAGE, Probe, Stretch};
     /// # let mut probe = Probe::start(vec![0; IMAGE], vec![0; 4 * 4096], vec![0; 65])?;
     /// for _ in 0..2 {
     ///     probe.open()?;
@@ -104,14 +105,18 @@ impl<B: AsRef<[u8]>> Probe<B> {
     /// probe.open()?;
     /// probe.event("TILT")?; // the open window is no result yet
     /// let mut hits = [Hit::default(); 32];
-    /// let found = probe.query(&["TILT".into()], &mut hits)?;
+    /// let found = probe.query(&["TILT".into()], Stretch::ALL, &mut hits)?;
     /// assert_eq!((found.hits, found.taken), (2, 3));
     /// assert_eq!(hits[0], Hit { window: 2, score: 0 });
+    /// let found = probe.query(&["TILT".into()], Stretch { first: 1, last: 1 }, &mut hits)?;
+    /// assert_eq!((found.hits, found.taken), (1, 3)); // what is buffered is always taken up
+    /// assert_eq!(hits[0], Hit { window: 1, score: 0 });
     /// # Ok::<(), gemsilver::Refusal>(())
     /// ```
     pub fn query(
         &self,
         identifiers: &[Identifier<'_>],
+        stretch: Stretch,
         hits: &mut [Hit],
     ) -> Result<Found, Refusal> {
         let hits = Hit::bytes_of(hits);
@@ -120,6 +125,7 @@ impl<B: AsRef<[u8]>> Probe<B> {
             self.card(),
             self.register(),
             identifiers,
+            stretch,
             hits,
         )
     }

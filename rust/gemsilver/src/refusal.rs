@@ -46,11 +46,13 @@ pub enum Refusal {
     Uncounted = 15,
     /// A list of windows is empty, has more than 32, or names one twice.
     BadList = 16,
+    /// A stretch whose first window exceeds its last.
+    BadStretch = 17,
 }
 
 impl Refusal {
     /// All of them, by number.
-    pub const ALL: [Refusal; 16] = [
+    pub const ALL: [Refusal; 17] = [
         Refusal::BrokenState,
         Refusal::WrongLength,
         Refusal::Malformed,
@@ -67,6 +69,7 @@ impl Refusal {
         Refusal::BadQuery,
         Refusal::Uncounted,
         Refusal::BadList,
+        Refusal::BadStretch,
     ];
 
     /// The number by which the refusal is known.
@@ -104,6 +107,7 @@ impl Refusal {
             }
             Refusal::Uncounted => "the identifier counts in no closed window",
             Refusal::BadList => "a list of windows is empty, has more than 32, or names one twice",
+            Refusal::BadStretch => "a stretch whose first window exceeds its last",
         }
     }
 }

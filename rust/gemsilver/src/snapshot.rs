@@ -6,7 +6,7 @@ use crate::{BLOCK, ENTRY, IMAGE, Probe};
 use core::fmt;
 
 /// The version that is written, and the only one that is read.
-pub const VERSION: u32 = 1;
+pub const VERSION: u32 = 2;
 
 /// What a snapshot begins with. A line end and an end-of-file mark are in it, so that a copy made as text shows at once.
 const MAGIC: &[u8; 12] = b"GEMSILVER\r\n\x1a";
@@ -217,7 +217,7 @@ impl Part {
     /// The part in words, and what lengths it has.
     fn words(self) -> (&'static str, &'static str) {
         match self {
-            Part::Image => ("image", "2,456 bytes"),
+            Part::Image => ("image", "2,864 bytes"),
             Part::Card => ("card", "4 to 4,096 blocks of 4,096 bytes"),
             Part::Register => ("register", "1 to 1,024 entries of 65 bytes"),
         }
@@ -230,10 +230,18 @@ impl fmt::Display for SnapshotError {
             SnapshotError::Magic { at } => {
                 write!(out, "no snapshot: byte {at} is not that of one")
             }
-            SnapshotError::Version { version } => write!(
-                out,
-                "a snapshot of version {version}, and this program reads version {VERSION}"
-            ),
+            SnapshotError::Version { version } => {
+                write!(
+                    out,
+                    "a snapshot of version {version}, and this program reads version {VERSION}"
+                )?;
+                match version {
+                    1 => {
+                        out.write_str(": in version 1 partitions tell no lowest and highest window")
+                    }
+                    _ => Ok(()),
+                }
+            }
             SnapshotError::Length { part, length } => {
                 let (part, lengths) = part.words();
                 write!(

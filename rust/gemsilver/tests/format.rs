@@ -78,7 +78,7 @@ fn the_example_is_what_is_written() {
             )
         })
         .collect();
-    assert_eq!(told.len(), 10);
+    assert_eq!(told.len(), 14);
     for place in 0..gemsilver::IMAGE / 4 {
         let expected = told
             .iter()

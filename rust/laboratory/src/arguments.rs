@@ -5,6 +5,7 @@ use crate::failure::Failure;
 use crate::looks::Look;
 use crate::session::Name;
 use crate::text;
+use gemsilver::Stretch;
 use second::faults::Fault;
 use std::ffi::{OsStr, OsString};
 use std::os::unix::ffi::{OsStrExt, OsStringExt};
@@ -16,6 +17,8 @@ pub struct Arguments {
     pub sizes: Sizes,
     /// A wrong engine to be shown beside ours.
     pub against: Option<Fault>,
+    /// The windows that queries are asked over, where they are said.
+    pub stretch: Option<Stretch>,
     pub wants_help: bool,
 }
 
@@ -26,6 +29,7 @@ impl Arguments {
             words: Vec::new().into_iter(),
             sizes: Sizes::default(),
             against: None,
+            stretch: None,
             wants_help: false,
         };
         let mut others = Vec::new();
@@ -35,6 +39,8 @@ impl Arguments {
                 b"--blocks" => arguments.sizes.blocks = value("--blocks", words.next())?,
                 b"--entries" => arguments.sizes.entries = value("--entries", words.next())?,
                 b"--against" => arguments.against = Some(fault(words.next().as_deref())?),
+                b"--from" => arguments.edges().first = window_number("--from", words.next())?,
+                b"--to" => arguments.edges().last = window_number("--to", words.next())?,
                 b"--help" | b"-h" => arguments.wants_help = true,
                 b"--" => others.extend(words.by_ref()),
                 option if option.starts_with(b"--") => {
@@ -45,6 +51,16 @@ impl Arguments {
         }
         arguments.words = others.into_iter();
         Ok(arguments)
+    }
+
+    /// The stretch to be told; what is not told of it is as in the one of all windows.
+    fn edges(&mut self) -> &mut Stretch {
+        self.stretch.get_or_insert(Stretch::ALL)
+    }
+
+    /// The windows that queries are asked over: all of them where nothing is said.
+    pub fn stretch(&self) -> Stretch {
+        self.stretch.unwrap_or(Stretch::ALL)
     }
 
     /// The next word.
@@ -155,6 +171,13 @@ fn value<T: std::str::FromStr>(what: &str, word: Option<OsString>) -> Result<T, 
     let word = word.ok_or_else(|| Failure::Usage(format!("{what} takes a number")))?;
     let number = word.to_str().and_then(|word| word.parse().ok());
     number.ok_or_else(|| Failure::Usage(format!("{what}: {} is no number", shown(&word))))
+}
+
+/// The edge of a stretch: 0 to 65,535. Only the engine refuses one whose first exceeds its last.
+fn window_number(option: &str, word: Option<OsString>) -> Result<u16, Failure> {
+    let number: u32 = value(option, word)?;
+    let range = || Failure::Usage(format!("{option} is 0 to 65535, not {number}"));
+    number.try_into().map_err(|_| range())
 }
 
 /// The identifier that is written as it is shown.

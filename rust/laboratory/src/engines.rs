@@ -2,7 +2,7 @@
 
 use crate::lines::{Command, Query};
 use crate::text;
-use gemsilver::{Hit, IMAGE, Identifier, Probe, Refusal};
+use gemsilver::{Hit, IMAGE, Identifier, Probe, Refusal, Stretch};
 use second::faults::Fault;
 use second::ledger::Ledger;
 use second::state::State;
@@ -199,7 +199,7 @@ pub fn found_by<B: AsRef<[u8]>>(
         .collect();
     let mut hits = vec![Hit::default(); query.places];
     let found = probe
-        .query(&identifiers, &mut hits)
+        .query(&identifiers, query.stretch, &mut hits)
         .map_err(Refusal::number)?;
     let listed = hits[..found.hits].iter();
     let listed = listed.map(|hit| (hit.window, hit.score)).collect();
@@ -233,7 +233,10 @@ impl Engine for Ledger {
 
     fn find(&self, query: &Query) -> Result<(Vec<(u32, u32)>, u64), u32> {
         let identifiers = slices(&query.identifiers);
-        let reply = self.query(&identifiers, query.places).map_err(u32::from)?;
+        let Stretch { first, last } = query.stretch;
+        let windows = first.into()..=last.into();
+        let reply = self.query(&identifiers, windows, query.places);
+        let reply = reply.map_err(u32::from)?;
         Ok((reply.hits, reply.taken as u64))
     }
 }
@@ -304,17 +307,13 @@ impl Engine for Second {
 
     fn find(&self, query: &Query) -> Result<(Vec<(u32, u32)>, u64), u32> {
         let ids = slices(&query.identifiers);
+        let Stretch { first, last } = query.stretch;
+        let stretch = second::stretch::Stretch { first, last };
         let mut hits = vec![second::state::Hit::default(); query.places];
+        let (state, card, register) = (&self.state, &self.card, &self.register);
         let found = match self.fault {
-            Some(fault) => wrong::query(
-                fault,
-                &self.state,
-                &self.card,
-                &self.register,
-                &ids,
-                &mut hits,
-            ),
-            None => engine::query(&self.state, &self.card, &self.register, &ids, &mut hits),
+            Some(fault) => wrong::query(fault, state, card, register, &ids, stretch, &mut hits),
+            None => engine::query(state, card, register, &ids, stretch, &mut hits),
         }
         .map_err(number)?;
         let listed = hits[..usize::from(found.hits)].iter();

@@ -24,6 +24,8 @@ IDENTIFIERs are written as they are shown: \\xNN for a byte that does not print,
 
   --blocks N     blocks of the card, 4 to 4096; 16 if not said
   --entries N    entries of the register, 1 to 1024; 64 if not said
+  --from N       where a command asks queries: the first and the last window that
+  --to N         they are asked over, 0 to 65535; 1 and 65535 if not said
   --help         after a command: more of it, with an example
 
 Exit status: 0; 1 where the command found something wrong, as its help says;

@@ -48,6 +48,13 @@ pub fn obey(
     if wants_help || arguments.wants_help {
         return help::one(command, out);
     }
+    if arguments.stretch.is_some() && !command.asks {
+        let why = format!(
+            "{} asks no query: it takes no --from and --to",
+            command.name
+        );
+        return Err(Failure::Usage(why));
+    }
     (command.obey)(&mut arguments, out)
 }
 

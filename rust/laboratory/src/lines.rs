@@ -3,6 +3,7 @@
 //! A line that begins with `#` is a comment here; everything else is read as the command program reads it.
 
 use crate::failure::Failure;
+use gemsilver::Stretch;
 use std::fs;
 use std::path::Path;
 
@@ -25,11 +26,22 @@ pub enum Command {
     Query(Query),
 }
 
-/// A query: the places in its list, and its identifiers.
+/// A query: the places in its list, its identifiers, and the windows that it is asked over. A line asks over all of them.
 #[derive(Clone, PartialEq, Eq, Debug)]
 pub struct Query {
     pub places: usize,
     pub identifiers: Vec<Vec<u8>>,
+    pub stretch: Stretch,
+}
+
+impl Command {
+    /// The same command; a query is asked over a stretch.
+    pub fn over(self, stretch: Stretch) -> Command {
+        match self {
+            Command::Query(query) => Command::Query(Query { stretch, ..query }),
+            other => other,
+        }
+    }
 }
 
 /// A line, taken apart.
@@ -100,6 +112,7 @@ fn command(line: &[u8]) -> Result<Command, &'static str> {
         [b"Q", places, ref identifiers @ ..] => Ok(Command::Query(Query {
             places: number(places)? as usize,
             identifiers: identifiers.iter().map(|field| field.to_vec()).collect(),
+            stretch: Stretch::ALL,
         })),
         [b"O" | b"C" | b"F" | b"M", ..] => Err("this command stands alone"),
         [b"E", ..] => Err("E takes one identifier"),

@@ -1,7 +1,8 @@
 //! What lies where, as text.
 
-use crate::text::{count, identifier, signed};
+use crate::text::{count, identifier, signed, windows};
 use crate::view::{Owner, Posting, View};
+use gemsilver::Stretch;
 use std::fmt::Write;
 
 /// The line above everything that is only shown.
@@ -92,15 +93,30 @@ impl View {
         let stored = &self.partitions[place];
         let lists = stored.postings.chunk_by(|one, next| one.id == next.id);
         format!(
-            "partition {} of {}: level {}, {} bytes, blocks {}; {}, {}",
+            "partition {} of {}: level {}, windows {} to {}, {} bytes, blocks {}; {}, {}",
             place + 1,
             self.partitions.len(),
             stored.level,
+            stored.lowest,
+            stored.highest,
             stored.bytes,
             numbers(&stored.blocks),
             count(lists.count(), "identifier"),
             count(stored.postings.len(), "posting")
         )
+    }
+
+    /// Which partitions a query over a stretch passes over.
+    pub fn passed_over_line(&self, stretch: Stretch) -> String {
+        let all = self.partitions.len();
+        let places = (0..all).filter(|&place| self.partitions[place].is_passed_over(stretch));
+        let passed: Vec<usize> = places.map(|place| place + 1).collect();
+        let passed = match &passed[..] {
+            [] => "none".to_string(),
+            _ => numbers(&passed),
+        };
+        let all = count(all, "partition");
+        format!("{}: of {all} passed over: {passed}", windows(stretch))
     }
 
     fn partition(&self, number: usize) -> Result<String, String> {

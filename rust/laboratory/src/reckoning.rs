@@ -1,16 +1,18 @@
 //! How a score comes about, reckoned step by step from what is read for display.
 
 use crate::view::{Sums, View};
+use gemsilver::Stretch;
 use second::weights::{count_weight, rarity_weight, sixteenths};
 use std::cmp::Reverse;
+use std::collections::BTreeSet;
 
-/// An identifier of a query: how many closed windows have it, and what that weighs.
+/// An identifier of a query: how many closed windows of its stretch have it, and what that weighs.
 #[derive(Clone, PartialEq, Eq, Debug)]
 pub struct Rarity {
     pub identifier: Vec<u8>,
     /// Its number, if the register has it.
     pub id: Option<usize>,
-    /// F: in how many closed windows its count is above 0.
+    /// F: in how many closed windows of the stretch its count is above 0.
     pub windows: u32,
     /// S(F), 0 where F is 0.
     pub sixteenths: u32,
@@ -29,7 +31,7 @@ pub struct Product {
 /// What a query's scores are reckoned from.
 #[derive(Clone, PartialEq, Eq, Debug)]
 pub struct Reckoning {
-    /// N and S(N), 0 where N is 0.
+    /// N, how many closed windows of the stretch are live, and S(N), 0 where N is 0.
     pub live: u32,
     pub sixteenths: u32,
     pub rarities: Vec<Rarity>,
@@ -46,29 +48,37 @@ fn logarithm(number: u32) -> u32 {
 }
 
 impl Reckoning {
-    /// Reckons the weights of a query's identifiers.
-    pub fn of(view: &View, identifiers: &[Vec<u8>]) -> Reckoning {
+    /// Reckons the weights of a query's identifiers over a stretch. What partitions hold that it passes over is of windows outside, so that the
+    /// sums need not leave it out.
+    pub fn of(view: &View, identifiers: &[Vec<u8>], stretch: Stretch) -> Reckoning {
+        let inside = u32::from(stretch.first)..=u32::from(stretch.last);
         let sums = view.sums();
+        let mut counts = sums.clone();
+        counts.retain(|(_, Reverse(window)), sum| {
+            *window != view.open && inside.contains(window) && *sum > 0
+        });
+        let windows: BTreeSet<u32> = counts.keys().map(|pair| pair.1.0).collect();
+        let live = windows.len() as u32;
         let rarity = |identifier: &Vec<u8>| {
             let id = view.names.iter().position(|name| name == identifier);
-            let windows = id.map_or(0, |id| windows_with(&sums, view.open, id));
+            let windows = id.map_or(0, |id| windows_with(&counts, id));
             Rarity {
                 identifier: identifier.clone(),
                 id,
                 windows,
                 sixteenths: logarithm(windows),
-                weight: rarity_weight(narrow(view.live), narrow(windows)),
+                weight: rarity_weight(narrow(live), narrow(windows)),
             }
         };
         Reckoning {
-            live: view.live,
-            sixteenths: logarithm(view.live),
+            live,
+            sixteenths: logarithm(live),
             rarities: identifiers.iter().map(rarity).collect(),
             sums,
         }
     }
 
-    /// The products of a closed window, one for each identifier that counts in it.
+    /// The products of a window, one for each identifier that counts in it.
     pub fn products(&self, window: u32) -> Vec<Option<Product>> {
         let product = |rarity: &Rarity| {
             let sum = *self.sums.get(&(rarity.id?, Reverse(window)))?;
@@ -84,11 +94,10 @@ impl Reckoning {
     }
 }
 
-/// In how many windows but the open one an identifier's count is above 0.
-fn windows_with(sums: &Sums, open: u32, id: usize) -> u32 {
-    let lists = sums.range((id, Reverse(u32::MAX))..=(id, Reverse(0)));
-    let counts = lists.filter(|&(&(_, Reverse(window)), &sum)| window != open && sum > 0);
-    counts.count() as u32
+/// In how many windows of these an identifier counts.
+fn windows_with(counts: &Sums, id: usize) -> u32 {
+    let list = counts.range((id, Reverse(u32::MAX))..=(id, Reverse(0)));
+    list.count() as u32
 }
 
 /// A number of 16 bits; a greater one only a foreign card has.

@@ -8,7 +8,7 @@ use std::collections::BTreeSet;
 pub type Fault = String;
 
 /// The words that may need all 32 bits; so may each record's length.
-const WIDE: [usize; 4] = [0, 1, 612, 613];
+const WIDE: [usize; 4] = [0, 1, 714, 715];
 /// The highest number of an identifier, and the greatest size of a count.
 const LAST_NUMBER: u32 = 1_023;
 const COUNT: u32 = 32_767;
@@ -28,9 +28,9 @@ impl<'a> Image<'a> {
         self.buffer()?;
         self.records()?;
         let blocks = self.0[0] / 4_096;
-        self.rule(610, self.0[610] < blocks, "no block of the card")?;
-        let is_none = self.0[613] > 0 || self.0[611..613] == [0, 0];
-        self.rule(613, is_none, "no steps, though there is an output")
+        self.rule(712, self.0[712] < blocks, "no block of the card")?;
+        let is_none = self.0[715] > 0 || self.0[713..715] == [0, 0];
+        self.rule(715, is_none, "no steps, though there is an output")
     }
 
     /// The words of the used places of an array, so many a place, behind the word that counts them.
@@ -50,7 +50,7 @@ impl<'a> Image<'a> {
 
     fn narrow(&self) -> Result<(), Fault> {
         for (place, &word) in self.0.iter().enumerate() {
-            let is_length = (457..610).contains(&place) && (place - 457) % 3 == 2;
+            let is_length = (457..712).contains(&place) && (place - 457) % 5 == 2;
             let is_kept = word < 65_536 || is_length || WIDE.contains(&place);
             self.rule(place, is_kept, "not below 65536")?;
         }
@@ -111,11 +111,11 @@ impl<'a> Image<'a> {
     }
 
     fn records(&self) -> Result<(), Fault> {
-        self.places(456, 51, &[0, 0, 0])?;
+        self.places(456, 51, &[0; 5])?;
         let content = self.0[0] / 4_096 * 4_092;
         let mut before = 5;
         let mut of_level = [0; 6];
-        for (place, record) in (457..).step_by(3).zip(self.used(456, 51, 3)) {
+        for (place, record) in (457..).step_by(5).zip(self.used(456, 51, 5)) {
             let level = record[1];
             self.rule(place + 1, level <= before, "a level above the one before")?;
             before = level;
@@ -124,6 +124,9 @@ impl<'a> Image<'a> {
             let fits = of_level[level as usize] <= most;
             self.rule(place + 1, fits, "one partition more than the level has")?;
             self.rule(place + 2, record[2] <= content, "more than the card holds")?;
+            let [lowest, highest] = [record[3], record[4]];
+            self.rule(place + 3, lowest > 0, "no window")?;
+            self.rule(place + 3, lowest <= highest, "above the highest window")?;
         }
         Ok(())
     }

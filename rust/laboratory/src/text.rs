@@ -1,5 +1,7 @@
 //! Bytes as text, one way for each.
 
+use gemsilver::Stretch;
+
 /// An identifier as text: bytes that print as themselves, a backslash as two, any other byte as `\x` and two digits. It has no space.
 pub fn identifier(bytes: &[u8]) -> String {
     bytes.iter().map(|&byte| shown(byte, false)).collect()
@@ -52,6 +54,11 @@ pub fn count(number: impl TryInto<u64>, thing: &str) -> String {
         Ok(number) => format!("{number} {thing}s"),
         Err(_) => format!("many {thing}s"),
     }
+}
+
+/// A stretch in words: `windows 200 to 340`.
+pub fn windows(stretch: Stretch) -> String {
+    format!("windows {} to {}", stretch.first, stretch.last)
 }
 
 /// A signed count: `+3`, `-3`, `0`.

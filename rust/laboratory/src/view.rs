@@ -3,7 +3,7 @@
 //! It is written from docs/FORMAT.md and proves nothing: it shows what lies where, and says what and where where the bytes are malformed.
 
 use crate::rules::{Fault, Image};
-use gemsilver::{BLOCK, ENTRY, IMAGE, Probe};
+use gemsilver::{BLOCK, ENTRY, IMAGE, Probe, Stretch};
 use std::cmp::Reverse;
 use std::collections::{BTreeMap, BTreeSet};
 use std::ops::Range;
@@ -16,6 +16,12 @@ static FREE: [u8; BLOCK] = [255; BLOCK];
 const NO_BLOCK: u32 = 65_534;
 /// Pairs that a merge step takes.
 const STEP: usize = 16;
+
+/// The image's words of the block last taken and of the merge in progress.
+const TAKEN: usize = 712;
+const MERGE: usize = 713;
+/// The image's word that counts the partitions, how many there may be, and the words of each record.
+const RECORDS: (usize, usize, usize) = (456, 51, 5);
 
 /// A signed count of one identifier in one window.
 #[derive(Clone, Copy, PartialEq, Eq, Debug)]
@@ -30,8 +36,18 @@ pub struct Posting {
 pub struct Partition {
     pub level: u32,
     pub bytes: u32,
+    /// The lowest and the highest window of its postings.
+    pub lowest: u32,
+    pub highest: u32,
     pub blocks: Vec<usize>,
     pub postings: Vec<Posting>,
+}
+
+impl Partition {
+    /// Whether a query over a stretch passes it over.
+    pub fn is_passed_over(&self, stretch: Stretch) -> bool {
+        self.highest < stretch.first.into() || self.lowest > stretch.last.into()
+    }
 }
 
 /// The merge in progress.
@@ -79,7 +95,7 @@ pub enum Owner {
 pub struct View {
     pub entries: usize,
     pub last: u32,
-    /// N: how many closed windows are live.
+    /// How many closed windows are live.
     pub live: u32,
     /// The open window, or 0, its events and its identifiers.
     pub open: u32,
@@ -105,7 +121,7 @@ impl View {
             return Err("image: words 0 and 1 are not the lengths of card and register".into());
         }
         let partitions = partitions(&image, card)?;
-        let merge = merge(&words[611..], &partitions, card)?;
+        let merge = merge(&words[MERGE..], &partitions, card)?;
         let listed = image.used(6, 64, 1).into_iter();
         Ok(View {
             entries: probe.register().len() / ENTRY,
@@ -116,7 +132,7 @@ impl View {
             listed: listed.map(|place| place[0] as usize).collect(),
             names: names(probe.register())?,
             buffer: buffered(&image),
-            taken: words[610],
+            taken: words[TAKEN],
             owners: owners(card, &partitions, merge.as_ref())?,
             partitions,
             merge,
@@ -131,7 +147,8 @@ impl View {
     /// Whether an image's records make a level due. The card is not read for it.
     pub fn is_due(image: &[u8]) -> bool {
         words(image).is_ok_and(|words| {
-            let records = Image(&words).used(456, 51, 3).into_iter();
+            let (count, most, each) = RECORDS;
+            let records = Image(&words).used(count, most, each).into_iter();
             due(&records.map(|record| record[1]).collect::<Vec<u32>>()).is_some()
         })
     }
@@ -229,7 +246,8 @@ fn blocks_for(bytes: u32) -> usize {
 }
 
 fn partitions(image: &Image, card: &[u8]) -> Result<Vec<Partition>, Fault> {
-    let records = image.used(456, 51, 3).into_iter();
+    let (count, most, each) = RECORDS;
+    let records = image.used(count, most, each).into_iter();
     let read = |(place, record): (usize, &[u32])| {
         partition(record, card).map_err(|why| format!("partition {}: {why}", place + 1))
     };
@@ -237,22 +255,41 @@ fn partitions(image: &Image, card: &[u8]) -> Result<Vec<Partition>, Fault> {
 }
 
 fn partition(record: &[u32], card: &[u8]) -> Result<Partition, Fault> {
-    let (first, level, bytes) = (record[0], record[1], record[2]);
+    let &[first, level, bytes, lowest, highest] = record else {
+        return Err("its record is cut off".into());
+    };
     if bytes == 0 {
         return Err("its length is 0".into());
     }
     let (blocks, content) = chain(card, first, blocks_for(bytes))?;
-    let (identifiers, postings) = header(&content, level, bytes)?;
+    let (identifiers, postings) = header(&content, record)?;
+    let postings = postings_of(&content, identifiers, postings)?;
+    let (least, most) = span(&postings);
+    if (least, most) != (lowest, highest) {
+        return Err(format!(
+            "its lists have windows {least} to {most}, its header tells {lowest} to {highest}"
+        ));
+    }
     Ok(Partition {
         level,
         bytes,
+        lowest,
+        highest,
         blocks,
-        postings: postings_of(&content, identifiers, postings)?,
+        postings,
     })
 }
 
-/// How many identifiers and postings a header tells, if all its fields agree.
-fn header(content: &[u32], level: u32, bytes: u32) -> Result<(usize, usize), Fault> {
+/// The lowest and the highest window of postings, of which there are some.
+pub fn span(postings: &[Posting]) -> (u32, u32) {
+    let windows = || postings.iter().map(|posting| posting.window);
+    let lowest = windows().min().unwrap_or(0);
+    (lowest, windows().max().unwrap_or(0))
+}
+
+/// How many identifiers and postings a header tells, if all its fields agree with each other and with the record.
+fn header(content: &[u32], record: &[u32]) -> Result<(usize, usize), Fault> {
+    let [level, bytes, lowest, highest] = [1, 2, 3, 4].map(|place| record[place]);
     let (identifiers, postings) = (u64::from(content[0]), u64::from(content[1]));
     let start = 32 + 12 * identifiers;
     let told = [
@@ -260,8 +297,8 @@ fn header(content: &[u32], level: u32, bytes: u32) -> Result<(usize, usize), Fau
         ("where the postings begin", start),
         ("the total length", start + 4 * postings),
         ("the level", u64::from(level)),
-        ("the first zero", 0),
-        ("the second zero", 0),
+        ("the lowest window", u64::from(lowest)),
+        ("the highest window", u64::from(highest)),
     ];
     for (field, (what, expected)) in (2..).zip(told) {
         let found = content[field];

@@ -3,6 +3,7 @@
 use crate::engine::{close, event, flush, open, query, remove, start, step};
 use crate::refusal::Refusal;
 use crate::state::{Hit, State};
+use crate::stretch::Stretch;
 use std::fmt::Display;
 
 /// The longest line, without its end.
@@ -72,7 +73,15 @@ impl Probe {
             return UNKNOWN.to_string();
         };
         let mut hits = vec![Hit::default(); places as usize];
-        match query(&self.state, &self.card, &self.register, ids, &mut hits) {
+        let found = query(
+            &self.state,
+            &self.card,
+            &self.register,
+            ids,
+            Stretch::ALL,
+            &mut hits,
+        );
+        match found {
             Ok(found) => {
                 let mut lines = format!("{} {}\n", found.hits, found.taken);
                 for hit in &hits[..usize::from(found.hits)] {

@@ -23,11 +23,21 @@ pub enum Fault {
     ReadOutput,
     /// A query does not read the buffer.
     ForgottenBuffer,
+    /// A partition is passed over if its lowest window is outside the stretch.
+    LowestAlone,
+    /// A partition's highest window is taken to be that of its last list.
+    LastListHighest,
+    /// Postings taken count those of partitions that are passed over.
+    TakenOutside,
+    /// N is the state's, of all windows.
+    LiveOutside,
+    /// F counts the windows outside the stretch as well.
+    FrequencyOutside,
 }
 
 impl Fault {
     /// All faults.
-    pub const ALL: [Fault; 8] = [
+    pub const ALL: [Fault; 13] = [
         Fault::CutIdentifiers,
         Fault::AddedFrequencies,
         Fault::MendedNeighbours,
@@ -36,7 +46,32 @@ impl Fault {
         Fault::RoundedQuotient,
         Fault::ReadOutput,
         Fault::ForgottenBuffer,
+        Fault::LowestAlone,
+        Fault::LastListHighest,
+        Fault::TakenOutside,
+        Fault::LiveOutside,
+        Fault::FrequencyOutside,
     ];
+
+    /// Whether the fault shows only where a query is asked over a part of the windows, on
+    /// cards that the engine wrote.
+    pub fn needs_stretch(self) -> bool {
+        match self {
+            Fault::LowestAlone
+            | Fault::LastListHighest
+            | Fault::TakenOutside
+            | Fault::LiveOutside
+            | Fault::FrequencyOutside => true,
+            Fault::CutIdentifiers
+            | Fault::AddedFrequencies
+            | Fault::MendedNeighbours
+            | Fault::DroppedNegatives
+            | Fault::FilledFirst
+            | Fault::RoundedQuotient
+            | Fault::ReadOutput
+            | Fault::ForgottenBuffer => false,
+        }
+    }
 
     /// The name by which the fault is chosen.
     pub fn name(self) -> &'static str {
@@ -49,6 +84,11 @@ impl Fault {
             Fault::RoundedQuotient => "rounded-quotient",
             Fault::ReadOutput => "read-output",
             Fault::ForgottenBuffer => "forgotten-buffer",
+            Fault::LowestAlone => "lowest-alone",
+            Fault::LastListHighest => "last-list-highest",
+            Fault::TakenOutside => "taken-outside",
+            Fault::LiveOutside => "live-outside",
+            Fault::FrequencyOutside => "frequency-outside",
         }
     }
 
@@ -69,6 +109,15 @@ impl Fault {
             Fault::RoundedQuotient => "N / F is rounded down before it is weighed",
             Fault::ReadOutput => "a query during a merge counts twice what is merged so far",
             Fault::ForgottenBuffer => "a query does not read the buffer",
+            Fault::LowestAlone => {
+                "a partition is passed over where its lowest window is outside the stretch, though others are inside"
+            }
+            Fault::LastListHighest => {
+                "a partition's highest window is taken from its last list, and the partition passed over by that"
+            }
+            Fault::TakenOutside => "postings taken count those of partitions passed over",
+            Fault::LiveOutside => "N counts the windows outside the stretch, too",
+            Fault::FrequencyOutside => "F counts the windows outside the stretch, too",
         }
     }
 

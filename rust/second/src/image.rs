@@ -1,15 +1,15 @@
-//! The image of a state, by which engines exchange it: 614 little-endian words, one for each number.
+//! The image of a state, by which engines exchange it: 716 little-endian words, one for each number.
 //!
 //! In this order: the lengths of card and register; the highest window number so far, N, which window is open and its events; how many
 //! identifiers that has, and their 64 places; how many postings are buffered, and their 128 places of identifier, window and count
-//! raised by 32,768; how many partitions are finished, and their 51 places of first block, level and length; the block last taken;
-//! the merge's first block, length and steps. All but lengths and steps are below 65,536.
+//! raised by 32,768; how many partitions are finished, and their 51 places of first block, level, length, lowest and
+//! highest window; the block last taken; the merge's first block, length and steps. All but lengths and steps are below 65,536.
 
 use crate::state::{Partition, Posting, State};
 use std::slice::ChunksExact;
 
 /// Bytes of an image.
-pub const LENGTH: usize = 614 * 4;
+pub const LENGTH: usize = 716 * 4;
 
 /// What is added to a signed count.
 const RAISED: i32 = 32_768;
@@ -30,6 +30,7 @@ pub fn write(state: &State) -> Vec<u8> {
     words.push(state.partitions.used.into());
     for record in &state.partitions.records {
         words.extend([record.first.into(), record.level.into(), record.length]);
+        words.extend([record.lowest, record.highest].map(u32::from));
     }
     words.extend([state.taken, state.merge.first].map(u32::from));
     words.extend([state.merge.length, state.merge.steps]);
@@ -64,6 +65,8 @@ impl Words<'_> {
             first: self.narrow()?,
             level: self.narrow()?,
             length: self.wide(),
+            lowest: self.narrow()?,
+            highest: self.narrow()?,
         })
     }
 }

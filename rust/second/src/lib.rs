@@ -7,6 +7,7 @@
 //! - [`engine`]: the calls.
 //! - [`state`]: what is remembered between calls; [`refusal`]: why a call is refused.
 //! - [`image`]: the state as bytes.
+//! - [`stretch`]: the windows that a query is asked over.
 //! - [`commands`]: the command program, a line at a time.
 //! - [`ledger`]: what the calls must answer, kept without any bytes and
 //!   without any code of the engine.
@@ -29,5 +30,6 @@ pub mod refusal;
 pub mod register;
 mod rules;
 pub mod state;
+pub mod stretch;
 pub mod weights;
 pub mod wrong;

@@ -24,6 +24,8 @@ struct Entry {
 pub struct Stored {
     /// Its blocks, in chain order.
     pub blocks: Vec<usize>,
+    /// Its record, which its header agrees with.
+    pub record: Partition,
     entries: Vec<Entry>,
     content: Vec<u8>,
 }
@@ -59,6 +61,7 @@ fn read(record: &Partition, card: &[u8]) -> Option<Stored> {
     let entries = read_entries(&content, identifiers, postings)?;
     Some(Stored {
         blocks,
+        record: *record,
         entries,
         content,
     })
@@ -76,8 +79,8 @@ fn read_header(content: &[u8], record: &Partition) -> Option<(usize, usize)> {
         && u64::from(word(content, 12)) == start
         && u64::from(word(content, 16)) == total
         && word(content, 20) == u32::from(record.level)
-        && word(content, 24) == 0
-        && word(content, 28) == 0
+        && word(content, 24) == u32::from(record.lowest)
+        && word(content, 28) == u32::from(record.highest)
         && u64::from(record.length) == total;
     right.then_some((identifiers as usize, postings as usize))
 }
@@ -111,22 +114,23 @@ fn read_entry(content: &[u8], offset: usize) -> Option<Entry> {
 }
 
 impl Stored {
-    /// An identifier's list, empty if it has none, or `None` if it is malformed.
-    pub fn list(&self, id: u16) -> Option<Vec<Posting>> {
-        match self.entries.iter().find(|entry| entry.id == id) {
-            Some(entry) => self.read_list(entry),
-            None => Some(Vec::new()),
-        }
-    }
-
-    /// All postings, or `None` if a list is malformed.
+    /// All postings, or `None` if a list is malformed or the lowest or highest window
+    /// is not the one that the record tells.
     pub fn all_lists(&self) -> Option<Vec<Posting>> {
         let lists: Vec<Vec<Posting>> = self
             .entries
             .iter()
             .map(|entry| self.read_list(entry))
             .collect::<Option<_>>()?;
-        Some(lists.concat())
+        let postings = lists.concat();
+        let told = (self.record.lowest, self.record.highest);
+        (span(&postings) == told).then_some(postings)
+    }
+
+    /// How many postings an identifier has.
+    pub fn list_length(&self, id: u16) -> usize {
+        let entry = self.entries.iter().find(|entry| entry.id == id);
+        entry.map_or(0, |entry| entry.postings)
     }
 
     fn read_list(&self, entry: &Entry) -> Option<Vec<Posting>> {
@@ -136,6 +140,25 @@ impl Stored {
             .collect::<Option<_>>()?;
         let falls = list.windows(2).all(|pair| pair[0].window > pair[1].window);
         falls.then_some(list)
+    }
+}
+
+/// The lowest and the highest window of postings; zeros for none.
+fn span(postings: &[Posting]) -> (u16, u16) {
+    let windows = || postings.iter().map(|posting| posting.window);
+    let lowest = windows().min().unwrap_or(0);
+    (lowest, windows().max().unwrap_or(0))
+}
+
+/// The record of a partition of these postings.
+pub fn record_of(first: u16, level: u16, postings: &[Posting]) -> Partition {
+    let (lowest, highest) = span(postings);
+    Partition {
+        first,
+        level,
+        length: length_of(postings),
+        lowest,
+        highest,
     }
 }
 
@@ -164,6 +187,7 @@ fn list_lengths(postings: &[Posting]) -> BTreeMap<u16, u32> {
 /// Header and entries of a partition of these postings, which stand in buffer order.
 pub fn head(level: u16, postings: &[Posting]) -> Vec<u8> {
     let lengths = list_lengths(postings);
+    let (lowest, highest) = span(postings);
     let header = [
         lengths.len() as u32,
         postings.len() as u32,
@@ -171,8 +195,8 @@ pub fn head(level: u16, postings: &[Posting]) -> Vec<u8> {
         posting_space(postings) as u32,
         length_of(postings),
         u32::from(level),
-        0,
-        0,
+        u32::from(lowest),
+        u32::from(highest),
     ];
     let mut fields = header.to_vec();
     let mut before = 0;

@@ -18,10 +18,14 @@ pub fn add(sums: &mut Sums, postings: &[Posting]) {
     }
 }
 
-/// Whether each sum is one that a posting can hold.
+/// Whether a sum is one that a posting can hold, or 0.
+pub fn is_count(sum: i32) -> bool {
+    sum.unsigned_abs() <= u32::from(COUNT)
+}
+
+/// Whether each sum is one that a posting can hold, or 0.
 pub fn are_counts(sums: &Sums) -> bool {
-    sums.values()
-        .all(|sum| sum.unsigned_abs() <= u32::from(COUNT))
+    sums.values().all(|&sum| is_count(sum))
 }
 
 /// Cuts each sum to one that a posting can hold.

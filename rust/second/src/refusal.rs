@@ -1,7 +1,7 @@
 //! Why a call is refused.
 
-/// The reasons for a refusal, in the order in which they are checked; but the last
-/// one comes after 3.
+/// The reasons for a refusal, in the order in which they are checked; but 16 comes
+/// after 3.
 #[derive(Clone, Copy, PartialEq, Eq, PartialOrd, Ord, Hash, Debug)]
 #[repr(u8)]
 pub enum Refusal {
@@ -37,6 +37,8 @@ pub enum Refusal {
     Uncounted = 15,
     /// A list of windows is empty, too long, or names one twice.
     BadList = 16,
+    /// A stretch of windows has its first above its last.
+    BadStretch = 17,
 }
 
 impl Refusal {

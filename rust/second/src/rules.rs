@@ -18,6 +18,7 @@ pub fn check_state(state: &State) -> Result<(), Refusal> {
         && buffer_is_in_order(&state.buffer.to_list())
         && buffer_agrees(&state.windows, &state.buffer.to_list())
         && partitions_fit(state.lengths.card as usize, &state.partitions.to_list())
+        && spans_are_windows(&state.partitions.to_list())
         && levels_never_rise(&state.partitions.to_list())
         && levels_are_not_overfull(&state.partitions.to_list())
         && usize::from(state.taken) < state.lengths.card as usize / BLOCK
@@ -106,6 +107,13 @@ fn partitions_fit(card: usize, partitions: &[Partition]) -> bool {
     partitions
         .iter()
         .all(|partition| partition.length as usize <= content)
+}
+
+/// Every partition has postings, so that it has a lowest window and a highest one.
+fn spans_are_windows(partitions: &[Partition]) -> bool {
+    partitions
+        .iter()
+        .all(|partition| 1 <= partition.lowest && partition.lowest <= partition.highest)
 }
 
 fn levels_never_rise(partitions: &[Partition]) -> bool {

@@ -65,6 +65,10 @@ pub struct Partition {
     pub level: u16,
     /// The length in bytes of content.
     pub length: u32,
+    /// The lowest window of its postings.
+    pub lowest: u16,
+    /// The highest window of its postings.
+    pub highest: u16,
 }
 
 /// The finished partitions, oldest first.

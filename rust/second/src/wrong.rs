@@ -8,6 +8,7 @@ use crate::faults::Fault;
 use crate::refusal::Refusal;
 use crate::register::is_identifier;
 use crate::state::{Hit, State};
+use crate::stretch::Stretch;
 
 /// How much of an identifier the engine that cuts them keeps.
 const KEPT: usize = 16;
@@ -28,17 +29,18 @@ pub fn step(fault: Fault, state: &mut State, card: &mut [u8]) -> Result<(), Refu
     step_with(Some(fault), state, card)
 }
 
-/// Fills the list with the closed windows that score highest on the identifiers.
+/// Fills the list with the closed windows of the stretch that score highest on the identifiers.
 pub fn query(
     fault: Fault,
     state: &State,
     card: &[u8],
     register: &[u8],
     ids: &[&[u8]],
+    stretch: Stretch,
     hits: &mut [Hit],
 ) -> Result<Found, Refusal> {
     let ids: Vec<&[u8]> = ids.iter().map(|id| kept(fault, id)).collect();
-    query_with(Some(fault), state, card, register, &ids, hits)
+    query_with(Some(fault), state, card, register, &ids, stretch, hits)
 }
 
 /// What the engine keeps of an identifier. One that is too long stays as it is,

@@ -10,7 +10,7 @@ unfolding marked
 returns c = λ b.
     let s = c .before in
     let e : length (s .args .m .bits) ≡ 64 = search needs in
-    rw (one-at (s .args .block % 64) (omega arith)) (bits-set (s .args .m .bits) (s .args .block) b (omega arith))
+    rw (one-at (s .args .block % 64) 64 (omega arith)) (bits-set 64 (s .args .m .bits) (s .args .block) b (omega arith))
 
 pub mark-spec : {M : Type 1} → statement M
 mark-spec = tie.close (tie.spec (λ c. search needs) (λ c. search needs) (λ c. search needs) (λ c. search needs) (λ c. search needs) returns)

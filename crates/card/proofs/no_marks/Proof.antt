@@ -6,7 +6,7 @@ use Rattle.card.proofs.no_marks.Tie as tie
 
 returns : tie.Need-returns
 unfolding marked
-returns c = λ b. bits-none 64 b
+returns c = λ b. bits-none 64 64 b
 
 pub no-marks-spec : {M : Type 1} → statement M
 no-marks-spec = tie.close (tie.spec returns)

@@ -8,10 +8,10 @@ use Rattle.images.proofs.image_ok.Statement.{statement}
 use Rattle.images.proofs.image_ok.Tie as tie
 
 abbrev Inv-loop : tie.InvT-loop
-Inv-loop image ok₀ at₀ ok at = (length image ≡ 2456) × (at ≤ 614) × (imageRule image ≡ (ok && every (fits (words image)) (rising at (614 - at))))
+Inv-loop image ok₀ at₀ ok at = (length image ≡ 2864) × (at ≤ 716) × (imageRule image ≡ (ok && every (fits (words image)) (rising at (716 - at))))
 
 abbrev μ-loop : tie.MeasureT-loop
-μ-loop image ok₀ at₀ ok at = 614 - at
+μ-loop image ok₀ at₀ ok at = 716 - at
 
 returns : tie.Need-returns Inv-loop μ-loop
 returns c = sym (image-short _ (c .if1 .taken))

@@ -12,7 +12,7 @@ use Rattle.images.proofs.put_buffer.Statement.{statement}
 use Rattle.images.proofs.put_buffer.Tie as tie
 
 abbrev Inv-loop : tie.InvT-loop
-Inv-loop image₀ b i₀ image i = (length (b .postings) ≡ 128) × (length image ≡ 2456) × Parts postingWords 72 (words image₀) (b .postings) (words image) i
+Inv-loop image₀ b i₀ image i = (length (b .postings) ≡ 128) × (length image ≡ 2864) × Parts postingWords 3 72 (words image₀) (b .postings) (words image) i
 
 abbrev μ-loop : tie.MeasureT-loop
 μ-loop image₀ b i₀ image i = 128 - i
@@ -33,7 +33,7 @@ loop-again c =
     let v = a .loop .inv in
     let put = c .before .before .put-three in
     let f : SFits w16 (getD (s .args .t2 .postings) (a .loop .i) noPosting .count) = search needs in
-    (v .0, put .kept .0 ∙ v .1, v .2 ∙ parts-turn postingWords 72 (words (a .loop .image)) (s .args .t2 .postings) (a .loop .i) noPosting (omega arith) refl ∙ rw (put .ensures, c .before .before .before .raise .ensures, toZ-ofZ f))
+    (v .0, put .kept .0 ∙ v .1, v .2 ∙ parts-turn postingWords 3 72 (words (a .loop .image)) (s .args .t2 .postings) (a .loop .i) noPosting (omega arith) refl ∙ rw (put .ensures, c .before .before .before .raise .ensures, toZ-ofZ f))
 
 same-length : tie.Need-same-length Inv-loop μ-loop
 same-length c = c .before .loop .inv .1 ∙ sym (c .before .before .before .before .before .before .before .pre)
@@ -42,7 +42,7 @@ returns : tie.Need-returns Inv-loop μ-loop
 returns c =
     let a = c .before in
     let s = a .before .before .before .before .before .before in
-    (sym (rw (sym (a .before .before .before .put-word .ensures .0)) (a .loop .inv .2 ∙ parts-end postingWords 72 (words (a .loop .image)) (s .args .t2 .postings) (a .loop .i) (omega arith))), a .loop .inv .0)
+    (sym (rw (sym (a .before .before .before .put-word .ensures .0)) (a .loop .inv .2 ∙ parts-end postingWords 3 72 (words (a .loop .image)) (s .args .t2 .postings) (a .loop .i) (omega arith))), a .loop .inv .0)
 
 pub put-buffer-spec : {M : Type 1} → statement M
 put-buffer-spec =

@@ -8,7 +8,7 @@ use Rattle.images.proofs.put_listed.Tie as tie
 
 abbrev Inv-loop : tie.InvT-loop
 Inv-loop image₀ l i₀ image i =
-    (length (l .ids) ≡ 64) × (length image ≡ 2456) × (i ≤ 64) × (sets (words image₀) 7 (l .ids) ≡ sets (words image) (7 + i) (drop i (l .ids)))
+    (length (l .ids) ≡ 64) × (length image ≡ 2864) × (i ≤ 64) × (sets (words image₀) 7 (l .ids) ≡ sets (words image) (7 + i) (drop i (l .ids)))
 
 abbrev μ-loop : tie.MeasureT-loop
 μ-loop image₀ l i₀ image i = 64 - i

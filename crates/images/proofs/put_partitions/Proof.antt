@@ -9,7 +9,7 @@ use Rattle.images.proofs.put_partitions.Statement.{statement}
 use Rattle.images.proofs.put_partitions.Tie as tie
 
 abbrev Inv-loop : tie.InvT-loop
-Inv-loop image₀ ps i₀ image i = (length (ps .records) ≡ 51) × (length image ≡ 2456) × Parts recordWords 457 (words image₀) (ps .records) (words image) i
+Inv-loop image₀ ps i₀ image i = (length (ps .records) ≡ 51) × (length image ≡ 2864) × Parts recordWords 5 457 (words image₀) (ps .records) (words image) i
 
 abbrev μ-loop : tie.MeasureT-loop
 μ-loop image₀ ps i₀ image i = 51 - i
@@ -20,16 +20,16 @@ put-word-requires c κs = omega (arith, length-words (c .before .before .args .i
 loop-holds : tie.Need-loop-holds Inv-loop μ-loop
 loop-holds c = (search (unmapped, needs), c .before .before .put-word .kept .0 ∙ c .before .before .before .before .before .pre, refl)
 
-put-three-requires : tie.Need-put-three-requires Inv-loop μ-loop
-put-three-requires c κs = let a = c .before .before .before .before .before in (a .loop .inv .1, omega arith)
+put-record-requires : tie.Need-put-record-requires Inv-loop μ-loop
+put-record-requires c κs = let a = c .before .before .before in (a .loop .inv .1, omega arith)
 
 loop-again : tie.Need-loop-again Inv-loop μ-loop
 loop-again c =
-    let a = c .before .before .before .before .before .before .before .before in
+    let a = c .before .before .before .before .before .before in
     let s = a .before .before .before .before .before .before in
     let v = a .loop .inv in
-    let put = c .before .before .put-three in
-    (v .0, put .kept .0 ∙ v .1, v .2 ∙ parts-turn recordWords 457 (words (a .loop .image)) (s .args .t2 .records) (a .loop .i) noPartition (omega arith) refl ∙ rw (put .ensures))
+    let put = c .before .before .put-record in
+    (v .0, put .kept .0 ∙ v .1, v .2 ∙ parts-turn recordWords 5 457 (words (a .loop .image)) (s .args .t2 .records) (a .loop .i) noPartition (omega arith) refl ∙ rw (put .ensures))
 
 same-length : tie.Need-same-length Inv-loop μ-loop
 same-length c = c .before .loop .inv .1 ∙ sym (c .before .before .before .before .before .before .before .pre)
@@ -38,7 +38,7 @@ returns : tie.Need-returns Inv-loop μ-loop
 returns c =
     let a = c .before in
     let s = a .before .before .before .before .before .before in
-    (sym (rw (sym (a .before .before .before .put-word .ensures .0)) (a .loop .inv .2 ∙ parts-end recordWords 457 (words (a .loop .image)) (s .args .t2 .records) (a .loop .i) (omega arith))), a .loop .inv .0)
+    (sym (rw (sym (a .before .before .before .put-word .ensures .0)) (a .loop .inv .2 ∙ parts-end recordWords 5 457 (words (a .loop .image)) (s .args .t2 .records) (a .loop .i) (omega arith))), a .loop .inv .0)
 
 pub put-partitions-spec : {M : Type 1} → statement M
 put-partitions-spec =
@@ -51,11 +51,7 @@ put-partitions-spec =
     loop-holds
     (λ c. omega arith)
     (λ c. omega arith)
-    (λ c. omega arith)
-    (λ c. omega arith)
-    (λ c. search needs)
-    (λ c. search needs)
-    put-three-requires
+    put-record-requires
     (λ c. omega arith)
     (λ c. omega arith)
     loop-again

@@ -12,9 +12,10 @@ returns c = let e : isZero (c .before .before .before .before .args .p .count) �
 returns-2 : tie.Need-returns-2
 unfolding totalsMore countsMore
 returns-2 c =
-    let s = c .before .before .before .before .before .before .before .before in
-    let e : isZero (s .args .p .count) ≡ false = sym (c .before .before .before .before .before .is-zero .ensures) ∙ c .before .before .before .before .if1 .left in
-    (rw (e, c .risen .ensures), rw e)
+    let k = c .before .before .before .before .before .before in
+    let s = k .before .before .before .before in
+    let e : isZero (s .args .p .count) ≡ false = sym (k .before .is-zero .ensures) ∙ k .if1 .left in
+    (rw (e, c .before .before .risen .ensures, c .before .smaller .ensures, c .larger .ensures), rw e)
 
 pub tally-spec : {M : Type 1} → statement M
 tally-spec =
@@ -27,6 +28,8 @@ tally-spec =
     (λ c. search needs)
     (λ c. search needs)
     (λ c. search needs)
+    (λ c κs. search needs)
+    (λ c κs. search needs)
     (λ c κs. search needs)
     (λ c. search needs)
     (λ c. search needs)

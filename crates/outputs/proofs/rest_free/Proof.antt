@@ -2,8 +2,8 @@
 use Rattle.lists.proofs.Prelude.{_≡_, refl, sym, _∙_, _-_, arith, eq-eqb, ne-eqb, eqb, every}
 use Rattle.words.specs.Words.{words, allOnes}
 use Rattle.card.specs.Cursors.{Good, ahead}
-use Rattle.card.proofs.Cursors.{ahead-more, good-moved}
-use Rattle.outputs.proofs.Places.{moved-less, every-none}
+use Rattle.card.proofs.Cursors.{ahead-more, good-moved, moved-less}
+use Rattle.outputs.proofs.Places.{every-none}
 use Rattle.outputs.proofs.rest_free.Statement.{statement}
 use Rattle.outputs.proofs.rest_free.Tie as tie
 

@@ -4,7 +4,7 @@ use denote.Enum.Declared.{tagOf}
 use denote.Ref.{now}
 use Rattle.admission.proofs.Admission.{the-type}
 use Rattle.admission.proofs.Laws.{register-most, admitted}
-use Rattle.queries.specs.Finds.{probeOf}
+use Rattle.queries.specs.Finds.{probeOf, answered}
 use Rattle.queries.proofs.Outcomes.{refused-as, finds-barred}
 use Rattle.queries.proofs.search.Statement.{statement}
 use Rattle.queries.proofs.search.Tie as tie
@@ -19,8 +19,8 @@ returns c =
     let a = j .before .before .before .before .args in
     let ns = map now (a .ids .now) in
     let why = m .a .given .0 .0 in
-    refused-as (probeOf (a .s) (a .card .now) (a .register .now)) ns (a .places) why _ (c .refuse .ensures)
-    (finds-barred (a .s) (a .card .now) (a .register .now) ns (a .places) why (rw (m .a .given .1, j .before .state-ok .ensures) at (j .judge-probe .ensures)))
+    refused-as (answered (probeOf (a .s) (a .card .now) (a .register .now)) (a .t) ns (a .places)) (a .places) why _ (c .refuse .ensures)
+    (finds-barred (a .s) (a .card .now) (a .register .now) (a .t) ns (a .places) why (rw (m .a .given .1, j .before .state-ok .ensures) at (j .judge-probe .ensures)))
 
 search-admitted-requires : tie.Need-search-admitted-requires
 search-admitted-requires c κs =

@@ -4,9 +4,10 @@ use denote.Ref.{now}
 use Rattle.answers.specs.declared.Refusal.the-variants.{Malformed}
 use Rattle.state.proofs.Kept.{state-kept}
 use Rattle.words.proofs.Views.{length-words}
-use Rattle.queries.specs.Finds.{probeOf}
-use Rattle.queries.specs.Gathered.{Sound}
-use Rattle.queries.proofs.Outcomes.{refused-as, finds-partitions}
+use Rattle.queries.specs.Finds.{probeOf, answered}
+use Rattle.words.specs.Words.{words}
+use Rattle.stretches.proofs.Read.{rule-read, formed-read}
+use Rattle.queries.proofs.Outcomes.{refused-as, finds-partitions, answered-read}
 use Rattle.queries.proofs.search_admitted.Statement.{statement}
 use Rattle.queries.proofs.search_admitted.Tie as tie
 
@@ -21,23 +22,34 @@ returns c =
     let s = c .before .before .before .before .before .before .before in
     let a = s .args in
     let ns = map now (a .ids .now) in
-    refused-as (probeOf (a .s) (a .card .now) (a .register .now)) ns (a .places) Malformed _ (c .refuse .ensures)
-    (finds-partitions (a .s) (a .card .now) (a .register .now) ns (a .places) (s .pre .0) (s .pre .1) (s .pre .2) (s .pre .3) (sym (c .before .before .partitions-ok .ensures) ∙ not-true _ (c .before .if1 .taken)))
+    refused-as (answered (probeOf (a .s) (a .card .now) (a .register .now)) (a .t) ns (a .places)) (a .places) Malformed _ (c .refuse .ensures)
+    (finds-partitions (a .s) (a .card .now) (a .register .now) (a .t) ns (a .places) (s .pre .0) (s .pre .1) (s .pre .2) (s .pre .3) (sym (c .before .before .partitions-ok .ensures) ∙ not-true _ (c .before .if1 .taken)))
 
--- past the partitions
-sound : (c : tie.Else1) → let a = c .before .before .before .before .before .before .args in Sound (a .s) (a .card .now) (a .register .now)
-sound c =
-    let p = c .before .before .before .before .before .before .pre in
-    record { rule = p .0; card = p .1; register = p .2; names = p .3; partitions = sym (c .before .partitions-ok .ensures) ∙ not-false _ (c .if1 .left) }
-
-search-sound-requires : tie.Need-search-sound-requires
-search-sound-requires c κs = sound (c .before)
+-- past the partitions the state as it is read is sound
+search-read-requires : tie.Need-search-read-requires
+search-read-requires c κs =
+    let k = c .before .before in
+    let s = k .before .before .before .before .before in
+    let a = s .args in
+    let formed = sym (k .partitions-ok .ensures) ∙ not-false _ (c .before .if1 .left) in
+    rw (c .read-by .ensures)
+    (record {
+      rule = rule-read (a .t) (a .s) (s .pre .0);
+      card = s .pre .1;
+      register = s .pre .2;
+      names = s .pre .3;
+      partitions = formed-read (a .t) (a .s) (s .pre .0) (words (a .card .now)) formed;
+    })
 
 returns-2 : tie.Need-returns-2
-returns-2 c = rw (c .before .if2 .taken) (c .search-sound .ensures)
-
-search-sound-requires-2 : tie.Need-search-sound-requires-2
-search-sound-requires-2 c κs = sound (c .before)
+returns-2 c =
+    let k = c .before .before .before in
+    let s = k .before .before .before .before .before in
+    let a = s .args in
+    let ns = map now (a .ids .now) in
+    let formed = sym (k .partitions-ok .ensures) ∙ not-false _ (c .before .before .if1 .left) in
+    rw (answered-read (a .s) (a .card .now) (a .register .now) (a .t) ns (a .places) (s .pre .0) (s .pre .1) (s .pre .2) (s .pre .3) formed)
+    (rw (c .before .read-by .ensures) at (c .search-read .ensures))
 
 pub search-admitted-spec : {M : Type 1} → statement M
 search-admitted-spec =
@@ -46,7 +58,6 @@ search-admitted-spec =
     partitions-ok-requires
     (λ c κs. search needs)
     returns
-    search-sound-requires
-    returns-2
-    search-sound-requires-2
-    (λ c. search needs))
+    (λ c κs. search needs)
+    search-read-requires
+    returns-2)

@@ -5,6 +5,7 @@ use crate::pair::Pair;
 use crate::tally::Tally;
 use crate::words::word;
 use gemsilver::bytes::HIT;
+use second::stretch::Stretch;
 
 const LUCKY: &[u8] = b"LUCKY";
 
@@ -23,7 +24,7 @@ fn count(pair: &mut Pair, identifiers: &[&[u8]]) {
 
 /// The hits of LUCKY and the postings taken.
 fn ask(pair: &mut Pair) -> (Vec<(u32, u32)>, u64) {
-    let call = Call::Query(vec![LUCKY.to_vec()], vec![0; 32 * HIT]);
+    let call = Call::Query(vec![LUCKY.to_vec()], Stretch::ALL, vec![0; 32 * HIT]);
     make(pair, call.clone());
     let mut hits = call.list();
     let answer = proved(&mut pair.probe().clone(), &call, &mut hits);

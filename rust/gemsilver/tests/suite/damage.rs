@@ -54,23 +54,24 @@ fn image_place(image: &[u8], rng: &mut Rng) -> usize {
         0 | 1 => rng.below(7),
         2 => at::LISTED + rng.below(1 + used(at::LISTED, 64)),
         3 => at::BUFFER + rng.below(1 + 3 * used(at::BUFFER, 128)),
-        4 | 5 => at::PARTITIONS + rng.below(1 + 3 * used(at::PARTITIONS, 51)),
+        4 | 5 => at::PARTITIONS + rng.below(1 + at::RECORD * used(at::PARTITIONS, 51)),
         6 => at::TAKEN + rng.below(4),
-        _ => rng.below(614),
+        _ => rng.below(716),
     }
 }
 
 /// Changes a word of the image, or swaps, doubles or drops partitions' records.
 fn damage_image(image: &mut [u8], rng: &mut Rng) {
     let used = word(image, at::PARTITIONS) as usize;
-    let record = |number: usize| 4 * (at::PARTITIONS + 1 + 3 * number);
+    let record = |number: usize| 4 * at::record(number);
+    let bytes = 4 * at::RECORD;
     if rng.one_in(8) && (1..=51).contains(&used) {
         let (from, to) = (record(rng.below(used)), record(rng.below(used)));
         match rng.below(3) {
-            0 => (0..12).for_each(|byte| image.swap(from + byte, to + byte)),
-            1 => image.copy_within(from..from + 12, to),
+            0 => (0..bytes).for_each(|byte| image.swap(from + byte, to + byte)),
+            1 => image.copy_within(from..from + bytes, to),
             _ => {
-                image[record(used - 1)..][..12].fill(0);
+                image[record(used - 1)..][..bytes].fill(0);
                 put(image, at::PARTITIONS, used as u32 - 1);
             }
         }
@@ -142,6 +143,37 @@ fn damage_card(probe: &mut Probe, rng: &mut Rng) {
     put(block, place, new);
 }
 
+/// Changes the lowest or highest window of a partition, in its record, in its header or in both alike.
+pub fn damage_span(probe: &mut Probe, rng: &mut Rng) {
+    let used = (word(&probe.image, at::PARTITIONS) as usize).min(51);
+    if used == 0 {
+        return;
+    }
+    let record = at::record(rng.below(used));
+    let field = rng.pick(&[at::LOWEST, at::HIGHEST]);
+    let old = word(&probe.image, record + field);
+    let new = match rng.below(4) {
+        0 => old.saturating_sub(1),
+        1 => old + 1,
+        2 => rng.pick(&[0, 1, 2, 300, 65_535]),
+        _ => word(&probe.image, record + at::LOWEST + at::HIGHEST - field),
+    };
+    let (in_record, in_header) =
+        rng.pick(&[(true, true), (true, true), (true, false), (false, true)]);
+    if in_record {
+        put(&mut probe.image, record + field, new);
+    }
+    let block = word(&probe.image, record) as usize;
+    if in_header && block < probe.card.len() / BLOCK {
+        // The header's last two words, as the record's.
+        put(
+            &mut probe.card[block * BLOCK..],
+            6 + field - at::LOWEST,
+            new,
+        );
+    }
+}
+
 /// Copies or clears an entry, or changes a byte.
 fn damage_register(register: &mut [u8], rng: &mut Rng) {
     let entries = register.len() / 65;
@@ -204,6 +236,7 @@ pub fn damage_merge(probe: &mut Probe, rng: &mut Rng) {
 pub fn damage(probe: &mut Probe, rng: &mut Rng) {
     match rng.below(40) {
         0..10 if probe.image.len() == image::LENGTH => damage_image(&mut probe.image, rng),
+        10..14 if probe.image.len() == image::LENGTH => damage_span(probe, rng),
         10..33 => damage_card(probe, rng),
         33..37 => damage_register(&mut probe.register, rng),
         37 => other_length(&mut probe.card, BLOCK, 255, rng),
@@ -225,6 +258,6 @@ pub fn any_call(rng: &mut Rng, names: usize, last: usize) -> Call {
             _ => (last + 1).saturating_sub(rng.below(12)) as u32,
         }),
         11..15 => Call::Step,
-        _ => any_query(rng, names),
+        _ => any_query(rng, names, last as u32),
     }
 }

@@ -12,7 +12,7 @@ use crate::words::{at, put, word};
 const PLAN: Plan = Plan {
     blocks: 40,
     entries: 12,
-    calls: 1_200,
+    calls: 1_500,
     names: 14,
     keep: 4,
     odds: Odds {
@@ -61,6 +61,7 @@ fn both_engines_bear_damage_alike() {
     }
     tally.print("damaged");
     expect_all(&tally, 10);
+    tally.expect_stretches(20);
     tally.expect_left_out(100);
 }
 
@@ -70,7 +71,7 @@ fn both_engines_take_foreign_probes_alike() {
     let mut tally = Tally::default();
     let mut rng = Rng(2_024);
     let (mut lists, mut plans) = (Rng(501), Rng(503));
-    for _ in 0..8_000 {
+    for _ in 0..9_500 {
         let mix = mix(&mut rng);
         let mut probe = build(&mix, &mut rng);
         if rng.one_in(4) {
@@ -99,11 +100,12 @@ fn both_engines_take_foreign_probes_alike() {
     }
     tally.print("foreign");
     expect_all(&tally, 20);
+    tally.expect_stretches(20);
     tally.expect("open", &[6], 20);
     tally.expect("event", &[6, 9, 10, 11, 12], 20);
     tally.expect("flush", &[10, 11, 12], 20);
     tally.expect("remove", &[10, 11, 12], 10);
-    tally.expect_left_out(100);
+    tally.expect_left_out(40);
     tally.expect("remove_all", &[10, 11, 12], 3);
 }
 
@@ -123,6 +125,7 @@ fn to_merge(rng: &mut Rng) -> Mix {
         entries: 4,
         ids: (0..1 + rng.below(6) as u16).collect(),
         windows,
+        apart: 0,
         spread,
         sizes: vec![1, 1, 2, 3_000],
         levels,
@@ -192,7 +195,7 @@ fn expect_all(tally: &Tally, times: usize) {
     tally.expect("flush", &[0, 1, 2, 11, 12], times);
     tally.expect("remove", &[0, 1, 2, 3, 5, 7], times);
     tally.expect("step", &[0, 1, 2, 3, 12, 13], times);
-    tally.expect("query", &[0, 1, 2, 3, 4, 14], times);
+    tally.expect("query", &[0, 1, 2, 3, 4, 14, 17], times);
     tally.expect("mean", &[0, 1, 2, 3, 4, 15], times);
     tally.expect("remove_all", &[0, 1, 2, 3, 5, 7, 16], times);
     tally.expect("forecast", &[0, 1, 2, 3], times);

@@ -1,11 +1,12 @@
 //! Both engines behind one form: a call made on an image, a card and a register.
 
 use crate::words::put;
-use gemsilver::{Identifier, Refusal as Refused, bytes};
+use gemsilver::{Identifier, Refusal as Refused, Stretch as Lent, bytes};
 use second::engine;
 use second::image;
 use second::refusal::Refusal;
 use second::state::{Hit, State};
+use second::stretch::Stretch;
 
 /// All that calls read and write.
 #[derive(Clone, PartialEq, Eq)]
@@ -25,8 +26,8 @@ pub enum Call {
     Remove(u32),
     RemoveAll(Vec<u32>),
     Step,
-    /// The identifiers, and what the list of hits holds before.
-    Query(Vec<Vec<u8>>, Vec<u8>),
+    /// The identifiers, the stretch, and what the list of hits holds before.
+    Query(Vec<Vec<u8>>, Stretch, Vec<u8>),
     Mean(Vec<u8>),
     /// The entries of a plan, and how many each window has.
     Forecast(Vec<u8>, Vec<u32>),
@@ -52,7 +53,7 @@ impl Call {
     /// What the list of hits holds before the call.
     pub fn list(&self) -> Vec<u8> {
         match self {
-            Call::Query(_, list) => list.clone(),
+            Call::Query(_, _, list) => list.clone(),
             _ => Vec::new(),
         }
     }
@@ -107,9 +108,13 @@ pub fn proved(probe: &mut Probe, call: &Call, hits: &mut [u8]) -> Answer {
         Call::Remove(window) => bytes::remove(image, card, *window).map(|()| NOTHING),
         Call::RemoveAll(windows) => bytes::remove_all(image, card, windows).map(|()| NOTHING),
         Call::Step => bytes::step(image, card).map(|()| NOTHING),
-        Call::Query(names, _) => {
+        Call::Query(names, Stretch { first, last }, _) => {
             let identifiers: Vec<Identifier> = names.iter().map(|name| name[..].into()).collect();
-            bytes::query(image, card, register, &identifiers, hits)
+            let stretch = Lent {
+                first: *first,
+                last: *last,
+            };
+            bytes::query(image, card, register, &identifiers, stretch, hits)
                 .map(|answer| found(answer.hits as u64, answer.taken))
         }
         Call::Mean(name) => bytes::mean(image, card, register, name)
@@ -164,9 +169,10 @@ fn on_state(
         Call::Remove(window) => engine::remove(state, card, *window).map(|()| NOTHING),
         Call::RemoveAll(windows) => engine::remove_all(state, card, windows).map(|()| NOTHING),
         Call::Step => engine::step(state, card).map(|()| NOTHING),
-        Call::Query(names, _) => {
+        Call::Query(names, stretch, _) => {
             let mut list = vec![Hit::default(); hits.len() / 8];
-            let answer = engine::query(state, card, register, &slices(names), &mut list)?;
+            let names = slices(names);
+            let answer = engine::query(state, card, register, &names, *stretch, &mut list)?;
             let listed = usize::from(answer.hits);
             for (place, hit) in hits.chunks_exact_mut(8).zip(&list[..listed]) {
                 put(place, 0, hit.window.into());

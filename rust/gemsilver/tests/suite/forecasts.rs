@@ -274,7 +274,7 @@ fn entries_are_laid_out_as_the_register_has_them() {
 fn both_engines_forecast_alike() {
     let mut tally = Tally::default();
     let mut rng = Rng(606);
-    for _ in 0..3_000 {
+    for _ in 0..3_600 {
         let mix = mix(&mut rng);
         let mut probe = build(&mix, &mut rng);
         if !rng.one_in(6) {

@@ -196,7 +196,8 @@ fn both_engines_go_through_histories_alike() {
     tally.expect("remove", &[0, 5, 7], 100);
     tally.expect("remove", &[10, 11], 20);
     tally.expect("step", &[0, 13], 1_000);
-    tally.expect("query", &[0, 4, 14], 100);
+    tally.expect("query", &[0, 4, 14, 17], 100);
+    tally.expect_stretches(50);
     tally.expect("mean", &[0, 15], 1_000);
     tally.expect("mean", &[4], 100);
     tally.expect("forecast", &[0], 500);

@@ -6,6 +6,7 @@ use crate::planned::{any_windows, damage_plan, laid_out, read_back};
 use crate::rng::Rng;
 use crate::tally::Tally;
 use crate::words::{at, word};
+use second::stretch::Stretch;
 
 /// How likely each kind of call is, against the others.
 #[derive(Clone, Copy)]
@@ -63,8 +64,8 @@ pub fn any_name(rng: &mut Rng, names: usize) -> Vec<u8> {
     }
 }
 
-/// A query of up to 7 identifiers, some twice, with up to 40 places.
-pub fn any_query(rng: &mut Rng, names: usize) -> Call {
+/// A query of up to 7 identifiers, some twice, with up to 40 places, over a stretch of windows up to a little more than `last`.
+pub fn any_query(rng: &mut Rng, names: usize, last: u32) -> Call {
     let mut ids: Vec<Vec<u8>> = (0..rng.pick(&[0, 1, 1, 2, 2, 3, 3, 4, 5, 5, 6, 7]))
         .map(|_| any_name(rng, names))
         .collect();
@@ -79,7 +80,27 @@ pub fn any_query(rng: &mut Rng, names: usize) -> Call {
     };
     let bytes = 8 * places + if rng.one_in(4) { rng.below(8) } else { 0 };
     let list = (0..bytes).map(|_| rng.next() as u8).collect();
-    Call::Query(ids, list)
+    // Drawn from a copy, so that the stretch moves nothing else.
+    Call::Query(ids, any_stretch(&mut Rng(rng.0), last), list)
+}
+
+/// A stretch of the windows up to a last one: all, one, those from or up to one, or some; now and then an empty one or one whose first
+/// exceeds its last.
+pub fn any_stretch(rng: &mut Rng, last: u32) -> Stretch {
+    let last = last.min(65_533) as usize;
+    let window = |rng: &mut Rng| rng.below(last + 2) as u16;
+    let (one, other) = (window(rng), window(rng));
+    let (first, last) = match rng.below(12) {
+        0..4 => (1, u16::MAX),
+        4 => (one, one),
+        5 => (one, u16::MAX),
+        6 => (rng.pick(&[0, 1]), one),
+        7 => rng.pick(&[(0, 0), (1, 0), (65_535, 65_535), (65_535, 1)]),
+        8 => (one.max(1), one.saturating_sub(1)),
+        9 => (rng.next() as u16, rng.next() as u16),
+        _ => (one.min(other), one.max(other)),
+    };
+    Stretch { first, last }
 }
 
 /// A list of some of these windows, now and then with another one or one twice.
@@ -154,7 +175,8 @@ impl History {
             (odds.flush, |_, _| Call::Flush),
             (odds.step, Self::step),
             (odds.query, |history, plan| {
-                any_query(&mut history.rng, plan.names + 2)
+                let last = history.word(at::LAST);
+                any_query(&mut history.rng, plan.names + 2, last)
             }),
             (odds.odd, Self::odd),
         ];

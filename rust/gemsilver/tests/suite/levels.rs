@@ -48,7 +48,7 @@ fn settle(pair: &mut Pair, rng: &mut Rng, tally: &mut Tally) -> usize {
         steps += 1;
         if rng.one_in(8) {
             let window = 1 + rng.below(40) as u32;
-            let between = [any_query(rng, 8), Call::Remove(window)];
+            let between = [any_query(rng, 8, 40), Call::Remove(window)];
             let _ = pair.make(&rng.pick(&between), tally);
         }
     }
@@ -66,6 +66,7 @@ fn both_engines_merge_alike_up_to_the_highest_level() {
             entries: 16,
             ids: (0..4 + round).collect(),
             windows: 40,
+            apart: 0,
             spread: 1 + rng.below(3),
             sizes: vec![1, 2, 3, 100],
             levels: brink(),
@@ -136,6 +137,7 @@ fn both_engines_agree_on_the_largest_card() {
         entries: 1_024,
         ids: (0..10).collect(),
         windows: 300,
+        apart: 0,
         spread: 2,
         sizes: vec![1, 2, 3],
         levels: vec![5, 5, 5, 1, 0, 0],

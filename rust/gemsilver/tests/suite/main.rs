@@ -19,6 +19,7 @@ mod rules;
 mod scores;
 mod snapshots;
 mod starts;
+mod stretches;
 mod tally;
 mod together;
 mod words;

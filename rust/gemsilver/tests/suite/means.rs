@@ -3,9 +3,9 @@
 use crate::engines::{Call, Probe};
 use crate::history::name;
 use crate::pair::{Pair, UNCOUNTED};
-use crate::parts::{BLOCK, CONTENT, encode, lay, register};
+use crate::parts::{BLOCK, CONTENT, Listed, encode, lay, register, span};
 use crate::tally::Tally;
-use crate::words::{put, word};
+use crate::words::{at, put, word};
 use second::image;
 use second::state::{Lengths, Partition, Posting, State, Windows};
 
@@ -70,7 +70,7 @@ fn counts_of_closed_windows_have_a_mean() {
 
 /// A foreign probe with partitions of lists by falling window, of five identifiers, all windows closed.
 pub fn probe(partitions: &[&[(u16, Vec<(u16, i16)>)]]) -> Probe {
-    let blocks = 80;
+    let blocks = 160;
     let mut card = vec![255; blocks * BLOCK];
     let mut state = State {
         lengths: Lengths {
@@ -94,13 +94,17 @@ pub fn probe(partitions: &[&[(u16, Vec<(u16, i16)>)]]) -> Probe {
             });
             (*id, postings.collect())
         };
-        let content = encode(0, &lists.iter().map(listed).collect::<Vec<_>>());
+        let lists: Vec<Listed> = lists.iter().map(listed).collect();
+        let content = encode(0, &lists);
+        let [lowest, highest] = span(&lists);
         let taken: Vec<usize> = (next..next + content.len().div_ceil(CONTENT)).collect();
         lay(&mut card, &taken, &content);
         state.partitions.records[place] = Partition {
             first: next as u16,
             level: 0,
             length: content.len() as u32,
+            lowest,
+            highest,
         };
         state.partitions.used += 1;
         next += taken.len();
@@ -139,24 +143,25 @@ fn the_largest_sum_has_a_mean() {
     }
 }
 
-/// A list counts where its identifier is asked for; the header and the register always do, before the identifier is judged.
+/// Every list, the header and the register count for whatever identifier is asked for, and before it is judged.
 #[test]
 fn what_is_read_is_judged_first() {
     let lists = || probe(&[&[(0, vec![(9, 5), (5, 4)]), (1, vec![(9, 1)])]]);
+    assert_eq!(mean(&mut Pair::of(lists()), &name(0)), Ok([4, 1, 2]));
     // The lists begin at 56.
     let mut bad_list = lists();
     put(&mut bad_list.card, 14, 0x0009_0000);
-    let mut pair = Pair::of(bad_list);
-    assert_eq!(mean(&mut pair, &name(0)), Err(3));
-    assert_eq!(mean(&mut pair, &name(1)), Ok([1, 0, 1]));
-    assert_eq!(mean(&mut pair, &name(2)), Err(UNCOUNTED));
-    assert_eq!(mean(&mut pair, b""), Err(4));
     let mut bad_header = lists();
     let identifiers = word(&bad_header.card, 0);
     put(&mut bad_header.card, 0, identifiers + 1);
     let mut bad_register = lists();
     bad_register.register[64] = 1;
-    for bad in [bad_header, bad_register] {
+    // The highest window, in the header alone and in record and header.
+    let mut at_odds = lists();
+    put(&mut at_odds.card, 7, 10);
+    let mut too_high = at_odds.clone();
+    put(&mut too_high.image, at::record(0) + at::HIGHEST, 10);
+    for bad in [bad_list, bad_header, bad_register, at_odds, too_high] {
         let mut pair = Pair::of(bad);
         for identifier in [&name(0)[..], &name(2), b"BELL", b""] {
             assert_eq!(mean(&mut pair, identifier), Err(3), "{identifier:?}");

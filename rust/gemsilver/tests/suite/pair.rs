@@ -6,7 +6,8 @@ use crate::tally::Tally;
 use crate::words::{at, word};
 use gemsilver::bytes::register_ok;
 use second::image;
-use second::state::State;
+use second::state::{Partition, State};
+use second::stretch::Stretch;
 use std::collections::BTreeSet;
 
 const BLOCK: usize = 4_096;
@@ -53,7 +54,7 @@ impl Pair {
     /// Makes a call of both engines and compares. After a query come the means of its identifiers.
     pub fn make(&mut self, call: &Call, tally: &mut Tally) -> Answer {
         let answer = self.make_one(call, tally);
-        if let Call::Query(identifiers, _) = call {
+        if let Call::Query(identifiers, ..) = call {
             for identifier in identifiers {
                 let _ = self.make_one(&Call::Mean(identifier.clone()), tally);
             }
@@ -79,6 +80,9 @@ impl Pair {
         }
         if is_answered(call, &answer) && leaves_out(&self.before, call) {
             tally.leave_out(call.name());
+        }
+        if let (Call::Query(_, stretch, _), Ok([hits, ..])) = (call, answer) {
+            see_stretch(&self.before, *stretch, hits > 0, tally);
         }
         // A start refused for a length leaves a state of zeros.
         if answer.is_ok() || matches!(call, Call::Start) {
@@ -139,6 +143,30 @@ impl Pair {
     }
 }
 
+/// Notes what a stretch passes over, and whether it has hits.
+fn see_stretch(before: &Probe, stretch: Stretch, has_hits: bool, tally: &mut Tally) {
+    let state = image::read(&before.image).expect("the call was answered");
+    let records = state.partitions.to_list();
+    let passed = records.iter().filter(|record| stretch.passes_over(record));
+    let passed = passed.count();
+    let is_cut = |record: &Partition| {
+        let edges = [record.lowest, record.highest];
+        !stretch.passes_over(record) && edges.iter().any(|&window| !stretch.has(window))
+    };
+    for (sight, is_seen) in [
+        ("past some partitions", passed > 0 && passed < records.len()),
+        ("past all partitions", passed > 0 && passed == records.len()),
+        ("inside a partition", records.iter().any(is_cut)),
+        ("with hits past a partition", passed > 0 && has_hits),
+        ("during a merge", passed > 0 && state.merge.steps > 0),
+        ("of no window", stretch.last == 0),
+    ] {
+        if is_seen {
+            tally.see_stretch(sight);
+        }
+    }
+}
+
 /// Notes how far a list came from so many partitions, and where it flushed.
 fn see_list(before: u32, grown: &[u32], told: Answer, tally: &mut Tally) {
     let (Some(&first), Some(&last)) = (grown.first(), grown.last()) else {
@@ -191,7 +219,7 @@ pub fn really(mut probe: Probe, windows: &Windows) -> Told {
     let stop = follow(&mut probe, windows).err().unwrap_or_default();
     // With no merge between, every flush makes a partition more.
     let used = word(&probe.image, at::PARTITIONS);
-    let length = |record: u32| word(&probe.image, at::PARTITIONS + 3 + 3 * record as usize);
+    let length = |record: u32| word(&probe.image, at::record(record as usize) + at::LENGTH);
     let blocks: u32 = (0..used).map(|record| length(record).div_ceil(4_092)).sum();
     let entries = probe.register.chunks(65).filter(|entry| entry[0] > 0);
     let [window, event, refusal] = stop;

@@ -4,7 +4,7 @@ use crate::engines::{Call, Probe, second};
 use crate::history::name;
 use crate::rng::Rng;
 use second::image;
-use second::state::{Lengths, Posting, State, Windows};
+use second::state::{Lengths, Partition, Posting, State, Windows};
 use std::collections::BTreeSet;
 
 pub const BLOCK: usize = 4_096;
@@ -16,7 +16,8 @@ pub fn encode(level: u16, lists: &[Listed]) -> Vec<u8> {
     let start = 32 + 12 * lists.len();
     let total = start + 4 * postings.len();
     let mut words = vec![lists.len(), postings.len(), 32, start, total];
-    words.extend([usize::from(level), 0, 0]);
+    words.push(level.into());
+    words.extend(span(lists).map(usize::from));
     let mut first = 0;
     for (id, list) in lists {
         words.extend([usize::from(*id), list.len(), first]);
@@ -30,6 +31,13 @@ pub fn encode(level: u16, lists: &[Listed]) -> Vec<u8> {
         .into_iter()
         .flat_map(|word| (word as u32).to_le_bytes())
         .collect()
+}
+
+/// The lowest and the highest window of lists; those of a malformed partition without postings are ones.
+pub fn span(lists: &[Listed]) -> [u16; 2] {
+    let windows = || lists.iter().flat_map(|(_, list)| list).map(|it| it.window);
+    let [lowest, highest] = [windows().min(), windows().max()];
+    [lowest, highest].map(|window| window.unwrap_or(1))
 }
 
 /// Writes content and links into these blocks.
@@ -50,8 +58,9 @@ pub struct Mix {
     pub entries: usize,
     /// Identifiers' numbers are among these.
     pub ids: Vec<u16>,
-    /// Windows run from 1 to this.
+    /// Windows of the first partition run from 1 to this, and those of each other one so many above the one before.
     pub windows: u16,
+    pub apart: u16,
     /// One pair in so many has a posting in a partition.
     pub spread: usize,
     /// Sizes of counts.
@@ -64,10 +73,10 @@ pub struct Mix {
     pub cancels: bool,
 }
 
-/// An identifier's list, by falling window.
-fn list(mix: &Mix, id: u16, rng: &mut Rng) -> Vec<Posting> {
+/// An identifier's list of windows above a number, by falling window.
+fn list(mix: &Mix, id: u16, above: u16, rng: &mut Rng) -> Vec<Posting> {
     let mut list = Vec::new();
-    for window in (1..=mix.windows).rev() {
+    for window in (above + 1..=above + mix.windows).rev() {
         if rng.one_in(mix.spread) {
             let size = rng.pick(&mix.sizes);
             let count = if rng.one_in(3) { -size } else { size };
@@ -88,9 +97,10 @@ fn negated(mut lists: Vec<Listed>) -> Vec<Listed> {
     lists
 }
 
-/// The lists of a partition.
-fn lists(mix: &Mix, rng: &mut Rng) -> Vec<Listed> {
-    let mut lists: Vec<Listed> = mix.ids.iter().map(|&id| (id, list(mix, id, rng))).collect();
+/// The lists of a partition, of windows above a number.
+fn lists(mix: &Mix, above: u16, rng: &mut Rng) -> Vec<Listed> {
+    let ids = mix.ids.iter();
+    let mut lists: Vec<Listed> = ids.map(|&id| (id, list(mix, id, above, rng))).collect();
     if rng.one_in(mix.hollow) {
         match rng.below(3) {
             0 => lists.clear(),
@@ -103,7 +113,7 @@ fn lists(mix: &Mix, rng: &mut Rng) -> Vec<Listed> {
     }
     lists.retain(|(_, list)| !list.is_empty());
     if lists.is_empty() {
-        let (id, window, count) = (mix.ids[0], 1, 1);
+        let (id, window, count) = (mix.ids[0], above + 1, 1);
         lists.push((id, vec![Posting { id, window, count }]));
     }
     lists
@@ -154,6 +164,7 @@ pub fn mix(rng: &mut Rng) -> Mix {
         entries: 1 + rng.below(12),
         ids,
         windows,
+        apart: rng.pick(&[0, 0, 2, 20]),
         spread: 1 + rng.below(3),
         sizes,
         levels: levels(rng, most),
@@ -202,7 +213,11 @@ fn fill(state: &mut State, mix: &Mix, rng: &mut Rng) {
         state.listed.used = ids.len() as u16;
         state.listed.ids[..ids.len()].copy_from_slice(&ids);
     }
-    let mut buffer: Vec<Posting> = mix.ids.iter().flat_map(|&id| list(mix, id, rng)).collect();
+    let mut buffer: Vec<Posting> = mix
+        .ids
+        .iter()
+        .flat_map(|&id| list(mix, id, 0, rng))
+        .collect();
     if rng.one_in(2) {
         buffer.extend((600..728).map(|id| Posting {
             id,
@@ -239,11 +254,11 @@ pub fn build(mix: &Mix, rng: &mut Rng) -> Probe {
     fill(&mut state, mix, rng);
     let mut records = state.partitions.records.iter_mut();
     let mut before = None;
-    for &level in &mix.levels {
+    for (place, &level) in (0..).zip(&mix.levels) {
         let lists = match before.take() {
             Some(before) => negated(before),
             None => {
-                let lists = lists(mix, rng);
+                let lists = lists(mix, mix.apart * place, rng);
                 before = mix.cancels.then(|| lists.clone());
                 lists
             }
@@ -255,10 +270,14 @@ pub fn build(mix: &Mix, rng: &mut Rng) -> Probe {
         }
         let blocks = free.split_off(free.len() - count);
         lay(&mut card, &blocks, &content);
-        let record = records.next().expect("at most 51 levels");
-        record.first = blocks[0] as u16;
-        record.level = level;
-        record.length = content.len() as u32;
+        let [lowest, highest] = span(&lists);
+        *records.next().expect("at most 51 levels") = Partition {
+            first: blocks[0] as u16,
+            level,
+            length: content.len() as u32,
+            lowest,
+            highest,
+        };
         state.partitions.used += 1;
     }
     let used = rng.below(mix.entries + 1);

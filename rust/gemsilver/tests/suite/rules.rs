@@ -70,7 +70,7 @@ fn both_engines_judge_every_number_alike() {
         let values = [
             0, 1, 2, 5, 6, 64, 1_023, 1_024, 32_767, 32_768, 65_535, 65_536,
         ];
-        for place in 0..614 {
+        for place in 0..716 {
             let old = word(&base, place);
             let around = [last.wrapping_sub(1), last, last + 1];
             let near = [old.wrapping_sub(1), old.wrapping_add(1)];
@@ -153,6 +153,16 @@ fn both_engines_judge_the_partitions_alike() {
                 first: rng.next() as u16,
                 level: if rng.one_in(300) { 6 } else { level },
                 length: 4 * 4_092 - rng.below(4) as u32 + u32::from(rng.one_in(100)),
+                lowest: if rng.one_in(300) {
+                    0
+                } else {
+                    rng.pick(&[1, 2, 7])
+                },
+                highest: if rng.one_in(300) {
+                    6
+                } else {
+                    rng.pick(&[7, 8, 65_535])
+                },
             };
         }
         state.taken = rng.pick(&[0, 3, 3, 3, 4]);

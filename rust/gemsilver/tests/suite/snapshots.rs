@@ -73,11 +73,20 @@ fn each_fault_is_told_apart() {
         SnapshotError::Magic { at: 8 }
     );
     assert_eq!(
-        fault(&with_word(&whole, 12, 2)),
-        SnapshotError::Version { version: 2 }
+        fault(&with_word(&whole, 12, 3)),
+        SnapshotError::Version { version: 3 }
+    );
+    // Told by its version, before the length of its image.
+    let of_version_1 = with_word(&with_word(&whole, 12, 1), 16, 2_456);
+    let error = fault(&of_version_1);
+    assert_eq!(error, SnapshotError::Version { version: 1 });
+    assert_eq!(
+        error.to_string(),
+        "a snapshot of version 1, and this program reads version 2: in version 1 partitions tell no lowest and highest window"
     );
     for (at, part, length) in [
-        (16, Part::Image, 2_455),
+        (16, Part::Image, 2_863),
+        (16, Part::Image, 2_456),
         (20, Part::Card, 3 * 4_096),
         (20, Part::Card, 4 * 4_096 + 1),
         (20, Part::Card, u32::MAX),

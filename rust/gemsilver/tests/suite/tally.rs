@@ -12,6 +12,8 @@ pub struct Tally {
     lists: BTreeMap<String, usize>,
     /// Where plans stopped, and what they did before.
     plans: BTreeMap<String, usize>,
+    /// What stretches of queries passed over.
+    stretches: BTreeMap<&'static str, usize>,
 }
 
 impl Tally {
@@ -32,6 +34,11 @@ impl Tally {
     /// Notes something of a plan.
     pub fn see_plan(&mut self, sight: String) {
         *self.plans.entry(sight).or_default() += 1;
+    }
+
+    /// Notes something of a query's stretch.
+    pub fn see_stretch(&mut self, sight: &'static str) {
+        *self.stretches.entry(sight).or_default() += 1;
     }
 
     /// Prints what was compared, a line a call and one for all.
@@ -59,6 +66,9 @@ impl Tally {
         for (sight, count) in &self.plans {
             println!("  plans {sight}: {count}");
         }
+        for (sight, count) in &self.stretches {
+            println!("  stretches {sight}: {count}");
+        }
     }
 
     /// Each of these refusals of a call, and the call done (0), must have been met so many times.
@@ -79,6 +89,20 @@ impl Tally {
     pub fn expect_plans(&self, sight: &str, times: usize) {
         let seen = self.plans.get(sight).copied().unwrap_or(0);
         assert!(seen >= times, "plans {sight}: seen {seen} times");
+    }
+
+    /// So many queries must have been seen over such stretches.
+    pub fn expect_stretches(&self, times: usize) {
+        for sight in [
+            "past some partitions",
+            "past all partitions",
+            "inside a partition",
+            "with hits past a partition",
+            "of no window",
+        ] {
+            let seen = self.stretches.get(sight).copied().unwrap_or(0);
+            assert!(seen >= times, "stretches {sight}: seen {seen} times");
+        }
     }
 
     /// So many queries and so many means must have left out counts of the open window in partitions.

@@ -311,6 +311,7 @@ fn mix(rng: &mut Rng) -> Mix {
         entries: 4,
         ids: (0..10 + rng.below(50) as u16).collect(),
         windows: 6,
+        apart: 0,
         spread: 1 + rng.below(3),
         sizes: vec![1, 1, 2, 3_000],
         levels: levels(rng, blocks),

@@ -11,9 +11,19 @@ pub mod at {
     pub const LISTED: usize = 6;
     pub const BUFFER: usize = 71;
     pub const PARTITIONS: usize = 456;
-    pub const TAKEN: usize = 610;
-    pub const MERGE: usize = 611;
-    pub const STEPS: usize = 613;
+    /// Words of a partition's record; of these the length, the lowest and the highest window.
+    pub const RECORD: usize = 5;
+    pub const LENGTH: usize = 2;
+    pub const LOWEST: usize = 3;
+    pub const HIGHEST: usize = 4;
+    pub const TAKEN: usize = 712;
+    pub const MERGE: usize = 713;
+    pub const STEPS: usize = 715;
+
+    /// Where a partition's record begins.
+    pub fn record(number: usize) -> usize {
+        PARTITIONS + 1 + RECORD * number
+    }
 }
 
 /// A word of an image or of another list of words.

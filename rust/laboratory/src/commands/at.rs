@@ -30,6 +30,7 @@ output of the merge in progress, `.` a free block, `?` a block that is neither.
 
 All of this is display and not proved.",
     example: "at lessons/4-between-merge-steps/lines.txt:700 look merge --blocks 64",
+    asks: false,
     obey,
 };
 
@@ -46,6 +47,7 @@ take a snapshot in place of FILE:LINE too.
 It is an error where the proved engine refuses state, card or register: it says
 with which number, and what is wrong and where as far as the display can tell.",
     example: "open field.snapshot look card",
+    asks: false,
     obey: open,
 };
 

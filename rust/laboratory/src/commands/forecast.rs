@@ -36,6 +36,7 @@ see it, put the plan's lines behind the session's, with M lines, and `run` them.
 Exit status 0 only where the plan goes to its end and the ledger's answer is the
 same; else 1. A snapshot that the proved engine refuses as a whole is an error.",
     example: "forecast lessons/4-between-merge-steps/lines.txt:708 lessons/4-between-merge-steps/plan.txt --blocks 64",
+    asks: false,
     obey,
 };
 

@@ -23,6 +23,7 @@ answer, `same` or what differs.
 Exit status 1 where the ledger's answer differs. A snapshot that the proved engine
 refuses as a whole is an error.",
     example: "mean lessons/1-full-length/lines.txt:14 DOOR-OPEN-LOGIC-BOX",
+    asks: false,
     obey,
 };
 

@@ -31,13 +31,14 @@ impl Outcome {
     }
 }
 
-/// A command: its name, what it is called with, what it does, an example, and the work.
+/// A command: its name, what it is called with, what it does, an example, whether it asks queries, which a stretch is for, and the work.
 pub struct Command {
     pub name: &'static str,
     pub usage: &'static str,
     pub summary: &'static str,
     pub help: &'static str,
     pub example: &'static str,
+    pub asks: bool,
     pub obey: fn(&mut Arguments, &mut dyn Write) -> Result<Outcome, Failure>,
 }
 

@@ -9,26 +9,29 @@ use crate::progress::Progress;
 use crate::session::Session;
 use crate::text;
 use crate::view::View;
+use gemsilver::Stretch;
 use std::io::Write;
 
 pub const COMMAND: Command = Command {
     name: "moments",
-    usage: "moments FILE QUERY [--against NAME]",
+    usage: "moments FILE QUERY [--against NAME] [--from N] [--to N]",
     summary: "one query asked after every line and between all merge steps",
     help: "
 Asks the query, a line as Q 5 LUCKY, on a fresh card, after every line, and, at
 each line where a merge is due or in progress, between all merge steps that can
-follow there (these are taken on a copy). Prints stretches of lines over which
+follow there (these are taken on a copy). Prints runs of lines over which
 the hits are the same, and whether any merge step changed them. The postings
 taken may change with the card while the hits do not. On a long file whose merges
 lag behind, that takes minutes.
 
 With --against the wrong engine of that name is asked too, and where its hits are
-not ours is printed.
+not ours is printed. With --from and --to the query is asked over the windows from
+one number to the other.
 
 Exit status 1 where an answer is not the ledger's, a merge step changed the hits,
 or, with --against, the wrong engine's hits are ours at every line.",
     example: "moments lessons/4-between-merge-steps/lines.txt Q 3 LUCKY --blocks 64",
+    asks: true,
     obey,
 };
 
@@ -45,6 +48,7 @@ fn obey(arguments: &mut Arguments, out: &mut dyn Write) -> Result<Outcome, Failu
             .iter()
             .map(|shown| identifier(shown))
             .collect::<Result<_, _>>()?,
+        stretch: arguments.stretch(),
         ..query
     };
     let lines = lines::read(&file)?;
@@ -56,7 +60,7 @@ fn obey(arguments: &mut Arguments, out: &mut dyn Write) -> Result<Outcome, Failu
     let mut progress = Progress::new("line", lines.len());
     asked.ask(0, &session, wrong.as_ref(), &query, false);
     for (number, line) in (1..).zip(&lines) {
-        session.obey_line(line);
+        session.obey_line(line, query.stretch);
         let Line::Command(command) = Line::of(line) else {
             asked.ask(number, &session, wrong.as_ref(), &query, false);
             continue;
@@ -79,7 +83,7 @@ fn obey(arguments: &mut Arguments, out: &mut dyn Write) -> Result<Outcome, Failu
 }
 
 /// The lines from one to another, with the same hits.
-struct Stretch {
+struct Run {
     first: usize,
     last: usize,
     hits: Answer,
@@ -90,7 +94,7 @@ struct Stretch {
 /// What was answered where.
 #[derive(Default)]
 struct Asked {
-    stretches: Vec<Stretch>,
+    runs: Vec<Run>,
     /// The lines at which the wrong engine's hits were others, and its answers.
     wrong: Vec<(usize, Answer)>,
     /// How often it was asked after a line, and how often between merge steps.
@@ -149,12 +153,12 @@ impl Asked {
             _ => 0,
         };
         let hits = answer.listing();
-        match self.stretches.last_mut() {
-            Some(stretch) if stretch.hits == hits => {
-                stretch.last = line;
-                stretch.taken = (stretch.taken.0.min(taken), stretch.taken.1.max(taken));
+        match self.runs.last_mut() {
+            Some(run) if run.hits == hits => {
+                run.last = line;
+                run.taken = (run.taken.0.min(taken), run.taken.1.max(taken));
             }
-            _ => self.stretches.push(Stretch {
+            _ => self.runs.push(Run {
                 first: line,
                 last: line,
                 hits,
@@ -171,18 +175,23 @@ impl Asked {
         let Query {
             places,
             identifiers,
+            stretch,
         } = query;
+        let over = match *stretch {
+            Stretch::ALL => String::new(),
+            part => format!(" over {}", text::windows(part)),
+        };
         let names = identifiers.iter().map(|name| text::identifier(name));
         let names: String = names.map(|name| format!(" {name}")).collect();
         writeln!(
             out,
-            "Q {places}{names}: asked {} times, on a fresh card and after every line, and {} times between merge steps{passed}",
+            "Q {places}{names}{over}: asked {} times, on a fresh card and after every line, and {} times between merge steps{passed}",
             self.lines, self.steps
         )?;
-        let lines: Vec<String> = self.stretches.iter().map(Stretch::lines).collect();
+        let lines: Vec<String> = self.runs.iter().map(Run::lines).collect();
         let width = lines.iter().map(String::len).max().unwrap_or(0);
-        for (lines, stretch) in lines.iter().zip(&self.stretches) {
-            writeln!(out, "{lines:width$}  {}", stretch.words())?;
+        for (lines, run) in lines.iter().zip(&self.runs) {
+            writeln!(out, "{lines:width$}  {}", run.words())?;
         }
         match &self.changed[..] {
             [] => writeln!(out, "no merge step changed the hits")?,
@@ -215,7 +224,7 @@ impl Asked {
     }
 }
 
-impl Stretch {
+impl Run {
     fn lines(&self) -> String {
         span(self.first, self.last)
     }

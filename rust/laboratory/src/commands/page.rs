@@ -10,22 +10,26 @@ use crate::progress::Progress;
 use crate::reckoning::{Product, Rarity, Reckoning};
 use crate::session::{Session, Told};
 use crate::text;
-use crate::view::{Merge, Owner, Partition, Posting, View};
+use crate::view::{Merge, Owner, Partition, Posting, View, span};
+use gemsilver::Stretch;
 use second::ledger::Ledger;
 use std::collections::BTreeMap;
 use std::io::Write;
 
 pub const COMMAND: Command = Command {
     name: "page",
-    usage: "page FILE > x.html",
+    usage: "page FILE [--from N] [--to N] > x.html",
     summary: "one page with a slider over the lines, for any browser",
     help: "
 Writes one file of HTML that needs no network: a slider over the lines (arrow
 keys too), the card's map, the list of partitions, buffer, ledger, the query's
 answer with its reckoning, and a window picked by a click, shown wherever its
 counts lie. The answers on it are the proved engine's; the rest is display and
-not proved. It can be printed.",
+not proved. It can be printed. With --from and --to every query is asked over the
+windows from one number to the other, and partitions that are passed over for
+that are marked.",
     example: "page lessons/4-between-merge-steps/lines.txt --blocks 64 > lesson.html",
+    asks: true,
     obey,
 };
 
@@ -39,11 +43,12 @@ fn obey(arguments: &mut Arguments, out: &mut dyn Write) -> Result<Outcome, Failu
     arguments.end()?;
     let lines = lines::read(&file)?;
     let mut session = Session::new(arguments.sizes)?;
-    let mut recorder = Recorder::new(&lines);
+    let stretch = arguments.stretch();
+    let mut recorder = Recorder::new(&lines, stretch);
     let mut progress = Progress::new("line", lines.len());
     let mut moments = vec![recorder.moment(&session, None, None)?];
     for (number, line) in (1..).zip(&lines) {
-        let told = session.obey_line(line);
+        let told = session.obey_line(line, stretch);
         moments.push(recorder.moment(&session, Some(line), told.as_ref())?);
         progress.tell(number);
     }
@@ -57,6 +62,12 @@ fn obey(arguments: &mut Arguments, out: &mut dyn Write) -> Result<Outcome, Failu
         ("file", string(&file.display().to_string())),
         ("blocks", arguments.sizes.blocks.to_string()),
         ("entries", arguments.sizes.entries.to_string()),
+        (
+            "stretch",
+            arguments.stretch.map_or("null".to_string(), |stretch| {
+                list([stretch.first, stretch.last])
+            }),
+        ),
         ("names", list(names.map(|name| string(&name)))),
         ("partitions", list(recorder.partitions)),
         (
@@ -97,14 +108,14 @@ struct Recorder {
 }
 
 impl Recorder {
-    fn new(lines: &[Vec<u8>]) -> Self {
+    fn new(lines: &[Vec<u8>], stretch: Stretch) -> Self {
         let mut queries: Vec<(String, Query)> = Vec::new();
         for line in lines {
             let shown = text::line(line);
             if let Line::Command(lines::Command::Query(query)) = Line::of(line)
                 && !queries.iter().any(|(other, _)| *other == shown)
             {
-                queries.push((shown, query));
+                queries.push((shown, Query { stretch, ..query }));
             }
         }
         Recorder {
@@ -175,11 +186,16 @@ impl Recorder {
     /// The places in the list of all of the finished partitions and, last, of what is being merged; new ones are added to it.
     fn places(&mut self, view: &View) -> Vec<usize> {
         let output = view.merge.as_ref().filter(|merge| !merge.blocks.is_empty());
-        let output = output.map(|merge| Partition {
-            level: merge.into,
-            bytes: merge.bytes,
-            blocks: merge.blocks.clone(),
-            postings: merge.result.clone(),
+        let output = output.map(|merge| {
+            let (lowest, highest) = span(&merge.result);
+            Partition {
+                level: merge.into,
+                bytes: merge.bytes,
+                lowest,
+                highest,
+                blocks: merge.blocks.clone(),
+                postings: merge.result.clone(),
+            }
         });
         let mut standing = Vec::new();
         for stored in view.partitions.iter().chain(&output) {
@@ -329,6 +345,7 @@ fn partition(stored: &Partition) -> String {
     object([
         ("level", stored.level.to_string()),
         ("bytes", stored.bytes.to_string()),
+        ("windows", list([stored.lowest, stored.highest])),
         ("blocks", list(&stored.blocks)),
         ("postings", list(stored.postings.iter().map(posting))),
     ])
@@ -361,7 +378,7 @@ fn reckoned(answer: &Answer, view: &View, query: &Query) -> Vec<(&'static str, S
         let none = || list::<String>([]);
         return vec![("ids", none()), ("hits", none())];
     };
-    let reckoning = Reckoning::of(view, &query.identifiers);
+    let reckoning = Reckoning::of(view, &query.identifiers, query.stretch);
     let hit = |&(window, score): &(u32, u32)| {
         let products = reckoning.products(window).into_iter().map(product);
         object([

@@ -17,6 +17,7 @@ Writes state, card and register of that moment to one file, with a check sum.
 `open`, and every command that takes FILE:LINE, reads it back. A file that is
 there already is written over only if it is a snapshot itself.",
     example: "save lessons/1-full-length/lines.txt:10 field.snapshot",
+    asks: false,
     obey,
 };
 

@@ -26,6 +26,7 @@ their counts are listed.
 
 Exit status 1 where a sum is not the ledger's count.",
     example: "where lessons/2-removed-is-not-gone/lines.txt:14 1",
+    asks: false,
     obey,
 };
 

@@ -8,13 +8,12 @@ use crate::failure::Failure;
 use crate::lines::Query;
 use crate::reckoning::{Product, Rarity, Reckoning};
 use crate::session::Moment;
-use crate::text::identifier;
-use crate::view::View;
+use crate::text::{identifier, windows};
 use std::io::Write;
 
 pub const COMMAND: Command = Command {
     name: "why",
-    usage: "why FILE:LINE WINDOW IDENTIFIER..",
+    usage: "why FILE:LINE WINDOW IDENTIFIER.. [--from N] [--to N]",
     summary: "how a window's score comes about, held against the query's",
     help: "
 Reckons the window's score for these identifiers: for each its count and what
@@ -22,8 +21,12 @@ that weighs, S(count + 1); N and F, and what these weigh, S(N) - S(F); the
 product; and the total. S(n) is the binary logarithm of n in sixteenths, rounded
 down. The proved engine is then asked, and its score must be equal.
 
+With --from and --to it is the score of a query over the windows from one number
+to the other: N and F count only these.
+
 Exit status 1 where it is not, or where the query is refused.",
     example: "why lessons/1-full-length/lines.txt:14 1 DOOR-OPEN-LOGIC-BOX COIN",
+    asks: true,
     obey,
 };
 
@@ -36,21 +39,35 @@ fn obey(arguments: &mut Arguments, out: &mut dyn Write) -> Result<Outcome, Failu
     let identifiers = arguments.identifiers()?;
     let view = view(&moment)?;
     moment.begin(out)?;
-    let reckoning = Reckoning::of(&view, &identifiers);
+    let stretch = arguments.stretch();
+    let reckoning = Reckoning::of(&view, &identifiers, stretch);
     writeln!(out, "# reckoned for display, not proved")?;
+    if arguments.stretch.is_some() {
+        writeln!(out, "{}", view.passed_over_line(stretch))?;
+    }
     writeln!(out, "N {}, S(N) {}", reckoning.live, reckoning.sixteenths)?;
     let products = reckoning.products(window);
     for (rarity, product) in reckoning.rarities.iter().zip(&products) {
         writeln!(out, "{}", line(&reckoning, rarity, product.as_ref()))?;
     }
-    let total = total(&view, window, &products);
+    let is_inside = (u32::from(stretch.first)..=u32::from(stretch.last)).contains(&window);
+    let total = total(&products).filter(|_| is_inside && window != view.open);
     match total {
         Some(total) => writeln!(out, "total {total}")?,
         None if window == view.open => writeln!(out, "window {window} is open: no result yet")?,
+        None if !is_inside => {
+            let windows = windows(stretch);
+            writeln!(out, "window {window} is none of {windows}: no hit")?;
+        }
         None => writeln!(out, "none of them counts in window {window}: no hit")?,
     }
     writeln!(out, "# asked of the proved engine")?;
-    compare(&moment, window, identifiers, total, out)
+    let query = Query {
+        places: PLACES,
+        identifiers,
+        stretch,
+    };
+    compare(&moment, window, &query, total, out)
 }
 
 fn line(reckoning: &Reckoning, rarity: &Rarity, product: Option<&Product>) -> String {
@@ -66,7 +83,7 @@ fn line(reckoning: &Reckoning, rarity: &Rarity, product: Option<&Product>) -> St
         reckoning.live, reckoning.sixteenths
     );
     let rare = match weight {
-        0 if *windows == 0 || *windows > reckoning.live => format!("F {windows}, weight 0"),
+        0 if *windows == 0 => format!("F {windows}, weight 0"),
         _ => rare,
     };
     match product {
@@ -82,10 +99,10 @@ fn line(reckoning: &Reckoning, rarity: &Rarity, product: Option<&Product>) -> St
     }
 }
 
-/// The score of a closed window with at least one count above 0.
-fn total(view: &View, window: u32, products: &[Option<Product>]) -> Option<u32> {
+/// The score of a window with at least one count above 0.
+fn total(products: &[Option<Product>]) -> Option<u32> {
     let counted: Vec<&Product> = products.iter().flatten().collect();
-    let is_hit = !counted.is_empty() && window != view.open;
+    let is_hit = !counted.is_empty();
     is_hit.then(|| counted.iter().map(|product| product.product).sum())
 }
 
@@ -93,15 +110,11 @@ fn total(view: &View, window: u32, products: &[Option<Product>]) -> Option<u32> 
 fn compare(
     moment: &Moment,
     window: u32,
-    identifiers: Vec<Vec<u8>>,
+    query: &Query,
     total: Option<u32>,
     out: &mut dyn Write,
 ) -> Result<Outcome, Failure> {
-    let query = Query {
-        places: PLACES,
-        identifiers,
-    };
-    let hits = match found_by(&moment.probe, &query) {
+    let hits = match found_by(&moment.probe, query) {
         Ok((hits, _)) => hits,
         Err(number) => {
             writeln!(out, "query {}", refused(number))?;

@@ -62,12 +62,32 @@ fn hits(text: &str) -> Vec<(usize, usize)> {
             score.parse().expect("a score"),
         )
     };
-    text.lines().skip(1).map(hit).collect()
+    let hits = text
+        .lines()
+        .skip(1)
+        .take_while(|line| !line.starts_with('#'));
+    hits.map(hit).collect()
+}
+
+/// A stretch as options: none, or from and to windows that may lie past the last.
+fn stretch(written: &Written, line: usize, rng: &mut Rng) -> Vec<String> {
+    let last = written.windows(line) + 1;
+    let (one, other) = (1 + rng.below(last), 1 + rng.below(last));
+    let (from, to) = (one.min(other).to_string(), one.max(other).to_string());
+    match rng.below(6) {
+        0..3 => vec![],
+        3 => vec!["--from".into(), from],
+        4 => vec!["--to".into(), to],
+        _ => vec!["--from".into(), from, "--to".into(), to],
+    }
 }
 
 #[derive(Default, Debug)]
 struct Reckoned {
     hits: usize,
+    /// Hits of a part of the windows, and windows outside it.
+    of_parts: usize,
+    outside: usize,
     unlisted: usize,
     left_out: usize,
     open: usize,
@@ -77,7 +97,9 @@ impl Reckoned {
     /// Every hit of a query, and some windows that are none.
     fn ask(&mut self, written: &Written, line: usize, rng: &mut Rng) {
         let names = written.identifiers(rng);
-        let names: Vec<&str> = names.iter().map(|name| &name[..]).collect();
+        let mut names: Vec<&str> = names.iter().map(|name| &name[..]).collect();
+        let options = stretch(written, line, rng);
+        names.extend(options.iter().map(|word| &word[..]));
         let query = [&["32"][..], &names].concat();
         let listed = hits(&written.at("query", line, &query));
         // A snapshot need not be played through for each window.
@@ -96,6 +118,9 @@ impl Reckoned {
             );
         }
         self.hits += listed.len();
+        if !options.is_empty() {
+            self.of_parts += listed.len();
+        }
         for _ in 0..10 {
             let window = 1 + rng.below(written.windows(line) + 1);
             if listed.iter().any(|hit| hit.0 == window) {
@@ -110,6 +135,7 @@ impl Reckoned {
             assert!(!is_left_out || listed.len() == 32, "{text}");
             self.left_out += usize::from(is_left_out);
             self.open += usize::from(text.contains(" is open: no result yet\n"));
+            self.outside += usize::from(text.contains(" is none of windows "));
             self.unlisted += 1;
         }
     }
@@ -135,8 +161,10 @@ fn every_score_is_reckoned() {
     }
     println!("{reckoned:?}");
     assert!(reckoned.hits >= 400, "{reckoned:?}");
+    assert!(reckoned.of_parts >= 100, "{reckoned:?}");
+    assert!(reckoned.outside >= 20, "{reckoned:?}");
     assert!(reckoned.unlisted >= 100, "{reckoned:?}");
-    assert!(reckoned.left_out >= 5, "{reckoned:?}");
+    assert!(reckoned.left_out >= 3, "{reckoned:?}");
     assert!(reckoned.open >= 3, "{reckoned:?}");
 }
 
@@ -167,7 +195,10 @@ fn the_ledger_agrees_at_every_moment() {
             }
             for places in ["0", "1", "32", "33"] {
                 let name = shown(&rng.pick(&written.history.names));
-                let text = written.at("query", line, &[places, &name, "unknown"]);
+                let options = stretch(&written, line, &mut rng);
+                let mut words = vec![places, &name, "unknown"];
+                words.extend(options.iter().map(|word| &word[..]));
+                let text = written.at("query", line, &words);
                 let first = text.lines().next().expect("an answer");
                 assert!(first.ends_with(" | ledger: same"), "{text}");
                 assert_eq!(
@@ -290,6 +321,8 @@ fn no_merge_step_changes_the_hits() {
             &query,
             "--blocks",
             &written.history.blocks,
+            "--from",
+            ["1", "10", "30"][seed],
         ]);
         assert!(text.contains("\nno merge step changed the hits\nledger: same after every line\n"));
         let first = text.lines().next().expect("how often");

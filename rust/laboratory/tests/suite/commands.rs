@@ -493,3 +493,118 @@ fn lines_passed_over_are_told_of() {
     let understood = format!("after line 1 of {file}");
     assert_eq!(first(good(&["at", &format!("{file}:1")])), understood);
 }
+
+/// Windows 1 and 2 lie in a partition each, window 3 in the buffer. TILT is in 1 and 3, LUCKY in 1 and 2.
+const FLUSHED: &str =
+    "O\nE LUCKY\nE LUCKY\nE LUCKY\nE TILT\nC\nF\nO\nE LUCKY\nC\nF\nO\nE TILT\nC\nQ 5 LUCKY TILT\n";
+
+/// Of windows 2 and 3 one has LUCKY and one TILT, so that each weighs S(2) - S(1) = 16.
+#[test]
+fn a_query_is_asked_over_a_stretch() {
+    let folder = Folder::new();
+    let file = written(&folder, FLUSHED);
+    let query = ["query", &file, "5", "LUCKY", "TILT"];
+    let ask = |options: &[&str]| good(&[&query[..], options].concat());
+    let hits =
+        "2 hits, 2 postings taken | ledger: same\n  window 3  score 256\n  window 2  score 256\n";
+    let display = "# display, not proved\nwindows 2 to 3: of 2 partitions passed over: 1\n";
+    let both = ["--from", "2", "--to", "3"];
+    assert_eq!(ask(&both), format!("{hits}{display}"));
+    // A stretch that is told of all windows changes nothing but that it is told.
+    let all = ask(&[]);
+    let told = "# display, not proved\nwindows 1 to 65535: of 2 partitions passed over: none\n";
+    assert_eq!(ask(&["--from", "1"]), format!("{all}{told}"));
+    let none = "0 hits, 1 posting taken | ledger: same\n# display, not proved\nwindows 0 to 0: of 2 partitions passed over: 1 2\n";
+    assert_eq!(ask(&["--from", "0", "--to", "0"]), none);
+    let refused = "refused 17: a stretch whose first window exceeds its last | ledger: same\n";
+    assert_eq!(ask(&["--from", "3", "--to", "2"]), refused);
+    let saved = folder.path("moment.snapshot");
+    good(&["save", &file, &saved]);
+    let of_snapshot = good(&[&["query", &saved, "5", "LUCKY", "TILT"][..], &both].concat());
+    assert_eq!(
+        of_snapshot,
+        format!("{hits}{display}").replace(" | ledger: same", "")
+    );
+}
+
+#[test]
+fn a_score_of_a_stretch_is_reckoned_aloud() {
+    let folder = Folder::new();
+    let file = written(&folder, FLUSHED);
+    let why = |window: &str| {
+        good(&[
+            "why", &file, window, "LUCKY", "TILT", "--from", "2", "--to", "3",
+        ])
+    };
+    let start = "# reckoned for display, not proved\nwindows 2 to 3: of 2 partitions passed over: 1\nN 2, S(N) 16\n";
+    let weight = "F 1, weight S(2) - S(1) = 16 - 0 = 16";
+    let hit = format!(
+        "{start}LUCKY: count 1, weight S(2) = 16; {weight}; product 16 x 16 = 256\n\
+         TILT: count 0; {weight}; no product\n\
+         total 256\n# asked of the proved engine\nscore 256: equal\n"
+    );
+    assert_eq!(why("2"), hit);
+    let outside = format!(
+        "{start}LUCKY: count 3, weight S(4) = 32; {weight}; product 32 x 16 = 512\n\
+         TILT: count 1, weight S(2) = 16; {weight}; product 16 x 16 = 256\n\
+         window 1 is none of windows 2 to 3: no hit\n# asked of the proved engine\nnot listed: equal\n"
+    );
+    assert_eq!(why("1"), outside);
+}
+
+/// Every query of the file, and the one that is asked at every moment.
+#[test]
+fn queries_of_a_file_are_asked_over_a_stretch() {
+    let folder = Folder::new();
+    let file = written(&folder, FLUSHED);
+    let text = good(&["run", &file, "--from", "2", "--to", "3"]);
+    let label = "# answers of the proved engine; the ledger beside them is not proved\n# queries are asked over windows 2 to 3\n";
+    assert!(text.starts_with(label), "{text}");
+    let last = "  15  Q 5 LUCKY TILT -> 2 hits, 2 postings taken | ledger: same
+        window 3  score 256
+        window 2  score 256
+15 lines understood, 0 not; 0 answers unlike the ledger's
+";
+    assert!(text.ends_with(last), "{text}");
+    let moments = good(&["moments", &file, "Q 2 TILT", "--from", "2", "--to", "3"]);
+    let expected = "Q 2 TILT over windows 2 to 3: asked 16 times, on a fresh card and after every line, and 0 times between merge steps
+lines 0 to 13   no hits; 0 to 1 postings taken
+lines 14 to 15  windows 3 (256); 1 posting taken
+no merge step changed the hits
+ledger: same after every line
+";
+    assert_eq!(moments, expected);
+    let against = good(&[
+        "against",
+        "taken-outside",
+        &file,
+        "--from",
+        "2",
+        "--to",
+        "3",
+    ]);
+    let expected = "# queries are asked over windows 2 to 3
+taken-outside: postings taken count those of partitions passed over
+told apart by line 15: Q 5 LUCKY TILT
+  ours  2 hits, 2 postings taken
+          window 3  score 256
+          window 2  score 256
+  wrong 2 hits, 4 postings taken
+          window 3  score 256
+          window 2  score 256
+";
+    assert_eq!(against, expected);
+}
+
+#[test]
+fn a_partition_is_shown_with_its_windows() {
+    let folder = Folder::new();
+    let file = written(&folder, FLUSHED);
+    let text = good(&["at", &format!("{file}:11"), "look", "partition", "1"]);
+    let expected = "# display, not proved
+partition 1 of 2: level 0, windows 1 to 1, 64 bytes, blocks 0; 2 identifiers, 2 postings
+LUCKY  window 1  +3
+TILT   window 1  +1
+";
+    assert_eq!(text, expected);
+}

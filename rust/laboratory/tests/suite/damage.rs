@@ -9,7 +9,7 @@ use std::fs;
 
 const DAMAGES: usize = 5_000;
 /// Bytes of a snapshot before its card, of a block and of a register's entry.
-const CARD: usize = 28 + 2_456;
+const CARD: usize = 28 + 2_864;
 const BLOCK: usize = 4_096;
 const ENTRY: usize = 65;
 
@@ -73,8 +73,8 @@ fn place(snapshot: &[u8], rng: &mut Rng) -> usize {
     match rng.below(8) {
         0 => rng.below(28),
         1 => 28 + 4 * rng.below(72),
-        2 => 28 + 4 * (456 + rng.below(158)),
-        3 => 28 + rng.below(2_456),
+        2 => 28 + 4 * (456 + rng.below(260)),
+        3 => 28 + rng.below(2_864),
         4 => block + 4 * rng.below(40),
         5 => block + BLOCK - 4 + rng.below(4),
         6 => register + rng.below(6) * ENTRY + rng.below(20),
@@ -124,8 +124,8 @@ fn any_call(file: &str, rng: &mut Rng) -> Called {
         1 => call(&["open", file, "look", rng.pick(&looks)]),
         2 => call(&["open", file, "look", "partition", &number]),
         3 => call(&["where", file, &window]),
-        4 => call(&["why", file, &window, "LUCKY", "A"]),
-        5 => call(&["query", file, "5", "LUCKY", "TILT"]),
+        4 => call(&["why", file, &window, "LUCKY", "A", "--from", &number]),
+        5 => call(&["query", file, "5", "LUCKY", "TILT", "--to", &window]),
         6 => call(&["forecast", file, &plan]),
         _ => call(&["mean", file, "LUCKY"]),
     }

@@ -8,9 +8,9 @@ use crate::history::{FULL, History, MANY, Plan, SMALL};
 use crate::json::Json;
 use std::collections::BTreeMap;
 
-/// The page's data.
-fn data(file: &str, blocks: &str) -> Json {
-    let page = good(&["page", file, "--blocks", blocks]);
+/// The page's data, with options more.
+fn data(file: &str, blocks: &str, options: &[&str]) -> Json {
+    let page = good(&[&["page", file, "--blocks", blocks][..], options].concat());
     let start = page.find("const DATA = ").expect("the data") + "const DATA = ".len();
     let end = start + page[start..].find(";\n").expect("their end");
     Json::of(&page[start..end])
@@ -267,7 +267,12 @@ fn compare(file: &str, blocks: &str, line: usize, data: &Json, replayed: &Replay
     assert_eq!(postings, replayed.buffered(data), "{moment}");
     for (place, part) in (1..).zip(replayed.parts(data)) {
         let stored = look(&["partition", &place.to_string()]);
-        let (_, postings) = stored.split_once('\n').expect("a line");
+        let (first, postings) = stored.split_once('\n').expect("a line");
+        let [lowest, highest] = part.field("windows").numbers()[..] else {
+            panic!("two windows");
+        };
+        let windows = format!(", windows {lowest} to {highest}, ");
+        assert!(first.contains(&windows), "{moment}: {first}");
         let expected = part.field("postings").list().iter().map(Json::numbers);
         assert_eq!(postings, postings_text(data, expected), "{moment}");
     }
@@ -282,11 +287,23 @@ fn compare(file: &str, blocks: &str, line: usize, data: &Json, replayed: &Replay
 }
 
 /// Compares the answers of the page at a moment with the command's.
-fn compare_answers(moment: &str, blocks: &str, data: &Json, replayed: &Replayed) -> usize {
+fn compare_answers(
+    moment: &str,
+    blocks: &str,
+    options: &[&str],
+    data: &Json,
+    replayed: &Replayed,
+) -> usize {
     let queries = data.field("queries").list();
     for (place, query) in queries.iter().enumerate() {
         let words: Vec<&str> = query.text().split(' ').skip(1).collect();
-        let asked = [&["query", moment][..], &words, &["--blocks", blocks]].concat();
+        let asked = [
+            &["query", moment][..],
+            &words,
+            &["--blocks", blocks],
+            options,
+        ]
+        .concat();
         let answer = &replayed.answers[&place];
         let mut expected = format!("{} | ledger: same\n", answer["text"].text());
         for hit in answer["hits"].list() {
@@ -297,17 +314,20 @@ fn compare_answers(moment: &str, blocks: &str, data: &Json, replayed: &Replayed)
             let total: i64 = products.map(|product| product.numbers()[2]).sum();
             assert_eq!(total, score, "{moment}: window {window}");
         }
-        assert_eq!(call(&asked).text, expected, "{asked:?}");
+        // Which partitions are passed over stands below the hits.
+        let answered = call(&asked).text;
+        let (hits, _) = answered.split_once("# display").unwrap_or((&answered, ""));
+        assert_eq!(hits, expected, "{asked:?}");
     }
     queries.len()
 }
 
 /// Replays the page of a history, and compares it with the command at some moments.
-fn replay(plan: &Plan, seed: u64, every: usize) -> (usize, usize) {
+fn replay(plan: &Plan, seed: u64, every: usize, options: &[&str]) -> (usize, usize) {
     let folder = Folder::new();
     let history = History::new(plan, seed);
     let file = folder.write("lines.txt", history.text());
-    let data = data(&file, &history.blocks);
+    let data = data(&file, &history.blocks, options);
     let moments = data.field("moments").list();
     assert_eq!(moments.len(), history.lines.len() + 1);
     let mut replayed = Replayed::default();
@@ -321,7 +341,7 @@ fn replay(plan: &Plan, seed: u64, every: usize) -> (usize, usize) {
             let is_merging = compare(&file, &history.blocks, line, &data, &replayed);
             merging += usize::from(is_merging);
             let moment = format!("{file}:{line}");
-            answers += compare_answers(&moment, &history.blocks, &data, &replayed);
+            answers += compare_answers(&moment, &history.blocks, options, &data, &replayed);
         }
     }
     (merging, answers)
@@ -331,10 +351,24 @@ fn replay(plan: &Plan, seed: u64, every: usize) -> (usize, usize) {
 fn replayed_data_are_what_the_command_prints() {
     let (mut merging, mut answers) = (0, 0);
     for (plan, seed, every) in [(&SMALL, 1, 20), (&MANY, 2, 60), (&FULL, 3, 120)] {
-        let met = replay(plan, seed, every);
+        let met = replay(plan, seed, every, &[]);
         merging += met.0;
         answers += met.1;
     }
     assert!(merging >= 5, "{merging} moments with a merge in progress");
     assert!(answers >= 100, "{answers} answers");
+}
+
+/// The queries of a page over a part of the windows are answered as the command answers them.
+#[test]
+fn a_page_is_asked_over_a_stretch() {
+    let options = ["--from", "10", "--to", "25"];
+    let (_, answers) = replay(&SMALL, 4, 25, &options);
+    assert!(answers >= 20, "{answers} answers");
+    let folder = Folder::new();
+    let file = folder.write("lines.txt", "O\nE A\nC\nQ 1 A\n");
+    let stretch = |options: &[&str]| data(&file, "4", options).field("stretch").clone();
+    assert_eq!(stretch(&options).numbers(), [10, 25]);
+    assert_eq!(stretch(&["--to", "7"]).numbers(), [1, 7]);
+    assert_eq!(stretch(&[]), Json::Null);
 }

@@ -13,7 +13,7 @@ const LINES: &str = "O\nE A\nC\nQ 1 A\n";
 const PLAN: &str = "# a window\nO\nE A\nC\n";
 
 /// Words of a call, parted by spaces, and what is said of it.
-const REFUSED: [(&str, &str); 71] = [
+const REFUSED: [(&str, &str); 78] = [
     (
         "dance",
         "no such command: dance; gemsilver --help tells more",
@@ -23,6 +23,28 @@ const REFUSED: [(&str, &str); 71] = [
     ("run", "FILE is missing; "),
     ("run lines.txt more", "more is too much; "),
     ("run lines.txt --loud", "no such option: --loud; "),
+    ("run lines.txt --from", "--from takes a number; "),
+    ("run lines.txt --to x", "--to: x is no number; "),
+    (
+        "query lines.txt 1 A --from 65536",
+        "--from is 0 to 65535, not 65536; ",
+    ),
+    (
+        "query lines.txt 1 A --to 99999",
+        "--to is 0 to 65535, not 99999; ",
+    ),
+    (
+        "mean lines.txt A --from 1",
+        "mean asks no query: it takes no --from and --to; ",
+    ),
+    (
+        "at lines.txt:1 --to 3",
+        "at asks no query: it takes no --from and --to; ",
+    ),
+    (
+        "open old.snapshot",
+        "old.snapshot: a snapshot of version 1, and this program reads version 2: ",
+    ),
     ("run missing.txt", "missing.txt: No such file or directory"),
     ("run sub", "sub: Is a directory"),
     ("run lines.txt --blocks", "--blocks takes a number; "),
@@ -189,13 +211,16 @@ const REFUSED: [(&str, &str); 71] = [
     ),
 ];
 
-/// A folder with a file of lines, a plan, a folder, a torn snapshot and a file that is neither.
+/// A folder with a file of lines, a plan, a folder, a torn snapshot, one of another version and a file that is neither.
 fn folder() -> Folder {
     let folder = Folder::new();
     folder.write("lines.txt", LINES);
     folder.write("plan.txt", PLAN);
     folder.write("torn.snapshot", b"GEMSILVER\r\n\x1a");
     folder.write("junk.txt", "not one command\n");
+    let mut old = b"GEMSILVER\r\n\x1a\x01\0\0\0".to_vec();
+    old.resize(28 + 2_456 + 4 * 4_096 + 65 + 4, 0);
+    folder.write("old.snapshot", old);
     fs::create_dir(folder.path("sub")).expect("a folder");
     folder
 }
@@ -231,6 +256,9 @@ fn the_exit_status_tells_what_was_found() {
         ("help", 0),
         ("run --help", 0),
         ("why lines.txt 1", 1),
+        ("query lines.txt 1 A --from 1 --to 1", 0),
+        ("query lines.txt 1 A --from 2 --to 1", 0),
+        ("why lines.txt 1 A --from 2 --to 1", 1),
         ("forecast lines.txt plan.txt", 0),
         ("forecast lines.txt:1 plan.txt", 1),
     ];

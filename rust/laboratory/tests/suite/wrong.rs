@@ -28,39 +28,105 @@ fn row<'a>(table: &'a str, name: &str) -> &'a str {
     verdict.trim_start()
 }
 
-/// The engines that a file tells apart, by the table and by a call for each.
-fn told_apart(file: &str, blocks: &str) -> BTreeSet<&'static str> {
-    let table = call(&["against", "all", file, "--blocks", blocks]);
+/// The engines that a file tells apart, by the table and by a call for each. Those that need a stretch are in the table where there is one.
+fn told_apart(file: &str, options: &[&str]) -> BTreeSet<&'static str> {
+    let has_stretch = options.contains(&"--from");
+    let faults = Fault::ALL.into_iter();
+    let faults: Vec<Fault> = faults
+        .filter(|fault| has_stretch || !fault.needs_stretch())
+        .collect();
+    let table = call(&[&["against", "all", file][..], options].concat());
     assert_eq!(row(&table.text, "unchanged"), UNTOLD, "{file}");
-    let told: BTreeSet<&str> = Fault::ALL
+    let told: BTreeSet<&str> = faults
         .iter()
         .map(|fault| fault.name())
-        .filter(|name| is_told(name, file, blocks, row(&table.text, name)))
+        .filter(|name| is_told(name, file, options, row(&table.text, name)))
         .collect();
-    let last = format!("{} of 8 wrong engines told apart", told.len());
+    let count = faults.len();
+    let last = format!("{} of {count} wrong engines told apart", told.len());
     assert_eq!(table.text.lines().last(), Some(&last[..]));
-    let is_all = told.len() == Fault::ALL.len();
+    let is_all = told.len() == count;
     assert_eq!(table.result.ok() == Some(Outcome::Good), is_all, "{file}");
     told
 }
 
-fn is_told(name: &str, file: &str, blocks: &str, verdict: &str) -> bool {
-    let words = ["against", name, file, "--blocks", blocks];
+fn is_told(name: &str, file: &str, options: &[&str], verdict: &str) -> bool {
+    let words = [&["against", name, file][..], options].concat();
     let is_told = verdict != UNTOLD;
     let text = if is_told { good(&words) } else { bad(&words) };
-    assert_eq!(text.lines().nth(1), Some(verdict), "{name} {file}");
+    assert!(text.lines().any(|line| line == verdict), "{name} {file}");
     is_told
 }
 
 #[test]
 fn every_wrong_engine_is_told_apart_by_a_lesson() {
     let files = FILES.map(of_repository);
-    let told: BTreeSet<&str> = files
+    let mut told: BTreeSet<&str> = files
         .iter()
-        .flat_map(|file| told_apart(file, "64"))
+        .flat_map(|file| told_apart(file, &["--blocks", "64"]))
         .collect();
-    let all: BTreeSet<&str> = Fault::ALL.iter().map(|fault| fault.name()).collect();
-    assert_eq!(told, all);
+    let all = |needs_stretch: bool| -> BTreeSet<&str> {
+        let faults = Fault::ALL
+            .iter()
+            .filter(|it| it.needs_stretch() <= needs_stretch);
+        faults.map(|fault| fault.name()).collect()
+    };
+    assert_eq!(told, all(false));
+    for (file, from, to) in [
+        (&files[1], "2", "9"),
+        (&files[3], "9", "14"),
+        (&files[3], "14", "16"),
+    ] {
+        let options = ["--blocks", "64", "--from", from, "--to", to];
+        told.extend(told_apart(file, &options));
+    }
+    assert_eq!(told, all(true));
+}
+
+/// Three partitions: LUCKY in windows 1 and 2, LUCKY in 3, TILT in 4 and 5 and LUCKY in 4; one more of LUCKY in 7 and of TILT in 6, whose list is the
+/// last.
+#[test]
+fn a_stretch_tells_engines_apart_that_nothing_else_does() {
+    let folder = Folder::new();
+    let window = |events: &str| {
+        let events = events.split(' ').map(|event| format!("E {event}\n"));
+        format!("O\n{}C\n", events.collect::<String>())
+    };
+    let windows = [
+        "LUCKY",
+        "LUCKY",
+        "LUCKY",
+        "LUCKY TILT",
+        "TILT",
+        "TILT",
+        "LUCKY",
+    ]
+    .map(window);
+    let lines = format!(
+        "{}F\n{}F\n{}F\n{}F\nQ 7 LUCKY\n",
+        windows[..2].concat(),
+        windows[2],
+        windows[3..5].concat(),
+        windows[5..].concat()
+    );
+    let file = folder.write("lines.txt", lines);
+    let five = Fault::ALL.into_iter().filter(|fault| fault.needs_stretch());
+    let five: BTreeSet<&str> = five.map(|fault| fault.name()).collect();
+    let told = |from: &str, to: &str| -> BTreeSet<&str> {
+        let told = told_apart(&file, &["--from", from, "--to", to]);
+        told.intersection(&five).copied().collect()
+    };
+    assert_eq!(told("1", "65535"), BTreeSet::new());
+    // Window 2 lies beside window 1; the last partition is outside.
+    let beside = [
+        "lowest-alone",
+        "taken-outside",
+        "live-outside",
+        "frequency-outside",
+    ];
+    assert_eq!(told("2", "5"), BTreeSet::from(beside));
+    let last = told("7", "7");
+    assert!(last.contains("last-list-highest"), "{last:?}");
 }
 
 #[test]
@@ -70,7 +136,7 @@ fn nothing_tells_the_unchanged_engine_apart() {
     for (seed, plan) in [SMALL, MANY, LARGE, SMALL, MANY].iter().enumerate() {
         let history = History::new(plan, 90 + seed as u64);
         let file = folder.write("lines.txt", history.text());
-        told.extend(told_apart(&file, &history.blocks));
+        told.extend(told_apart(&file, &["--blocks", &history.blocks]));
     }
     // Random lines are no worse a test than the lessons, or these histories would have nothing in them.
     assert!(told.len() >= 6, "{told:?}");

@@ -2,7 +2,7 @@
 
 use crate::card::{blocks_for, free_blocks, link, write};
 use crate::limits::{BLOCK, LEVEL_ZERO};
-use crate::partition::{head, length_of, packed};
+use crate::partition::{head, packed, record_of};
 use crate::refusal::Refusal;
 use crate::rules::{check_card, check_state};
 use crate::state::{Buffer, Partition, Partitions, State};
@@ -33,11 +33,7 @@ pub(super) fn write_buffer(state: &mut State, card: &mut [u8]) -> Result<(), Ref
     link(card, &blocks);
     write(card, &blocks, 0, &content);
     state.taken = blocks[0] as u16;
-    partitions.push(Partition {
-        first: state.taken,
-        level: 0,
-        length: length_of(&postings),
-    });
+    partitions.push(record_of(state.taken, 0, &postings));
     state.partitions = Partitions::from_list(&partitions);
     state.buffer = Buffer::default();
     Ok(())

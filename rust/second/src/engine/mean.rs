@@ -1,8 +1,9 @@
 //! Tell the mean count of an identifier.
 
-use super::query::{counted, of_closed};
+use super::query::read_places;
 use crate::refusal::Refusal;
 use crate::state::State;
+use crate::stretch::Stretch;
 
 /// The mean count of an identifier, as a whole number and what is left over:
 /// quotient times windows and the remainder are the sum of the counts.
@@ -24,8 +25,8 @@ pub fn mean(
     register: &[u8],
     identifier: &[u8],
 ) -> Result<Mean, Refusal> {
-    let counted = counted(state, card, register, &[identifier])?;
-    let counts = of_closed(&state.windows, counted.sums);
+    let reading = read_places(state, card, register, &[identifier], Stretch::ALL)?;
+    let counts = reading.counts(&state.windows, Stretch::ALL);
     if counts.is_empty() {
         return Err(Refusal::Uncounted);
     }

@@ -1,18 +1,20 @@
-//! Rank the closed windows for a few identifiers.
+//! Rank the closed windows of a stretch for a few identifiers.
 //!
 //! A wrong engine goes another way at one step; `wrong_ways` has these.
 
 use super::wrong_ways::{
-    added_frequency, filled_first, mended_frequency, quotient_weight, with_output, without_buffer,
+    added_frequency, by_last_lists, by_lowest_windows, filled_first, mended_frequency,
+    quotient_weight, taken_outside, with_output, without_buffer,
 };
 use crate::faults::Fault;
 use crate::limits::{HITS, QUERY_IDENTIFIERS};
 use crate::partition::{Stored, read_all};
-use crate::postings::{Sums, add, are_counts};
+use crate::postings::{Sums, add, is_count};
 use crate::refusal::Refusal;
 use crate::register::{all_differ, is_identifier, number_of, read};
 use crate::rules::{check_card, check_register, check_state};
 use crate::state::{Hit, Posting, State, Windows};
+use crate::stretch::Stretch;
 use crate::weights::{count_weight, rarity_weight};
 use std::cmp::Reverse;
 use std::collections::{BTreeMap, BTreeSet};
@@ -26,16 +28,18 @@ pub struct Found {
     pub taken: u32,
 }
 
-/// Fills the list with the closed windows that score highest on the identifiers.
-/// Postings taken are all that are stored, the open window's too.
+/// Fills the list with the closed windows of the stretch that score highest on the
+/// identifiers. Postings taken are all that are stored in the buffer and in the
+/// partitions not passed over, the open window's too.
 pub fn query(
     state: &State,
     card: &[u8],
     register: &[u8],
     ids: &[&[u8]],
+    stretch: Stretch,
     hits: &mut [Hit],
 ) -> Result<Found, Refusal> {
-    query_with(None, state, card, register, ids, hits)
+    query_with(None, state, card, register, ids, stretch, hits)
 }
 
 /// The query of the right engine, or of the one with a fault.
@@ -45,74 +49,116 @@ pub(crate) fn query_with(
     card: &[u8],
     register: &[u8],
     ids: &[&[u8]],
+    stretch: Stretch,
     hits: &mut [Hit],
 ) -> Result<Found, Refusal> {
-    let counted = counted(state, card, register, ids)?;
+    let reading = read_places(state, card, register, ids, stretch)?;
     if !is_query(ids, hits) {
         return Err(Refusal::BadQuery);
     }
-    let counted = match fault {
-        Some(Fault::ReadOutput) => with_output(state, card, counted),
-        Some(Fault::ForgottenBuffer) => without_buffer(counted),
-        _ => counted,
+    if stretch.first > stretch.last {
+        return Err(Refusal::BadStretch);
+    }
+    let reading = match fault {
+        Some(Fault::ReadOutput) => with_output(state, card, reading),
+        Some(Fault::ForgottenBuffer) => without_buffer(reading),
+        Some(Fault::LowestAlone) => by_lowest_windows(stretch, reading),
+        Some(Fault::LastListHighest) => by_last_lists(stretch, reading),
+        _ => reading,
     };
-    let counts = of_closed(&state.windows, counted.sums.clone());
-    let rarities = rarities(fault, state.windows.live, &counted, &counts);
+    let counts = reading.counts(&state.windows, stretch);
+    let rarities = rarities(fault, state, stretch, &reading);
     let scores = scores(&counts, &rarities);
     let ranked = match fault {
         Some(Fault::FilledFirst) => {
-            let room = hits.len();
-            filled_first(&state.windows, &counted.places, &rarities, scores, room)
+            filled_first(state, stretch, &reading, &rarities, scores, hits.len())
         }
         _ => ranked(&scores),
     };
     let listed = ranked.len().min(hits.len());
     hits[..listed].copy_from_slice(&ranked[..listed]);
+    let outside = match fault {
+        Some(Fault::TakenOutside) => taken_outside(state, card, stretch, &reading),
+        _ => 0,
+    };
     Ok(Found {
         hits: listed as u16,
-        taken: counted.taken(),
+        taken: reading.taken() + outside,
     })
 }
 
-/// What card and buffer hold of some identifiers.
-pub(super) struct Counted {
-    /// The identifiers' numbers.
+/// An identifier's number and a window.
+type Pair = (u16, Reverse<u16>);
+
+/// What a query reads.
+pub(super) struct Reading {
+    /// The numbers of its identifiers.
     pub numbers: BTreeSet<u16>,
-    /// Their postings by place: in the partitions, the oldest first, then in the buffer.
+    /// All postings by place, of every identifier: in the partitions that are not passed
+    /// over, the oldest first, then in the buffer.
     pub places: Vec<Vec<Posting>>,
-    /// The count of each pair, summed from these.
+    /// The sum of each pair over the places.
     pub sums: Sums,
 }
 
-impl Counted {
-    /// How many stored postings there are.
+impl Reading {
+    /// How many stored postings of the query's identifiers there are.
     fn taken(&self) -> u32 {
-        self.places.iter().map(|place| place.len() as u32).sum()
+        let postings = self.places.iter().flatten();
+        let taken = postings.filter(|posting| self.numbers.contains(&posting.id));
+        taken.count() as u32
+    }
+
+    /// The sums above 0 in closed windows of the stretch, of every identifier. Every
+    /// window but the open one is closed, even above the last number given.
+    fn shown(&self, windows: &Windows, stretch: Stretch) -> impl Iterator<Item = (Pair, i32)> {
+        let open = windows.open;
+        let sums = self.sums.iter().map(|(&pair, &sum)| (pair, sum));
+        sums.filter(move |&((_, Reverse(window)), sum)| {
+            window != open && stretch.has(window) && sum > 0
+        })
+    }
+
+    /// Of these, the counts of the query's identifiers.
+    pub fn counts(&self, windows: &Windows, stretch: Stretch) -> Sums {
+        let shown = self.shown(windows, stretch);
+        shown
+            .filter(|((id, _), _)| self.numbers.contains(id))
+            .collect()
+    }
+
+    /// N: how many closed windows of the stretch have a count of any identifier.
+    fn live(&self, windows: &Windows, stretch: Stretch) -> u16 {
+        let shown = self.shown(windows, stretch);
+        let different: BTreeSet<u16> = shown.map(|((_, window), _)| window.0).collect();
+        different.len() as u16
     }
 }
 
-/// Reads and judges what card, register and buffer hold of the identifiers, and
-/// then judges these: refusals 1 to 4 of every call that reads counts by identifier.
-pub(super) fn counted(
+/// Reads and judges what card, register and buffer hold for a query over a stretch, and
+/// then judges its identifiers: refusals 1 to 4 of every call that reads counts by
+/// identifier.
+pub(super) fn read_places(
     state: &State,
     card: &[u8],
     register: &[u8],
     ids: &[&[u8]],
-) -> Result<Counted, Refusal> {
+    stretch: Stretch,
+) -> Result<Reading, Refusal> {
     check_state(state)?;
     check_card(state, card)?;
     check_register(state, register)?;
     let names = read(register).ok_or(Refusal::Malformed)?;
     let stored = read_all(&state.partitions.to_list(), card).ok_or(Refusal::Malformed)?;
     let numbers: BTreeSet<u16> = ids.iter().filter_map(|id| number_of(&names, id)).collect();
-    let mut places = stored_postings(&stored, &numbers).ok_or(Refusal::Malformed)?;
-    let buffered = buffered_postings(state, &numbers);
-    let sums = sums_of(&places, &buffered).ok_or(Refusal::Malformed)?;
+    let mut places = lists_of(&stored, stretch).ok_or(Refusal::Malformed)?;
+    let buffered = state.buffer.to_list();
+    let sums = sums_of(&places, &buffered, &numbers).ok_or(Refusal::Malformed)?;
     if !ids.iter().all(|id| is_identifier(id)) {
         return Err(Refusal::BadIdentifier);
     }
     places.push(buffered);
-    Ok(Counted {
+    Ok(Reading {
         numbers,
         places,
         sums,
@@ -125,54 +171,59 @@ fn is_query(ids: &[&[u8]], hits: &[Hit]) -> bool {
         && all_differ(ids)
 }
 
-/// The postings of the identifiers in each partition, or `None` if a list is malformed.
-fn stored_postings(stored: &[Stored], numbers: &BTreeSet<u16>) -> Option<Vec<Vec<Posting>>> {
-    let of_partition = |partition: &Stored| {
-        let lists: Option<Vec<Vec<Posting>>> =
-            numbers.iter().map(|&id| partition.list(id)).collect();
-        lists.map(|lists| lists.concat())
+/// All postings of each partition that is not passed over, or `None` if a list is
+/// malformed.
+fn lists_of(stored: &[Stored], stretch: Stretch) -> Option<Vec<Vec<Posting>>> {
+    let is_read = |partition: &&Stored| !stretch.passes_over(&partition.record);
+    stored
+        .iter()
+        .filter(is_read)
+        .map(Stored::all_lists)
+        .collect()
+}
+
+/// The sum of each pair, or `None` if one of these identifiers has a sum that is no
+/// count, with or without the buffer. Of the others only the sign matters.
+fn sums_of(
+    on_card: &[Vec<Posting>],
+    buffered: &[Posting],
+    numbers: &BTreeSet<u16>,
+) -> Option<Sums> {
+    let fits = |sums: &Sums| {
+        let mut sums = sums.iter();
+        sums.all(|((id, _), &sum)| !numbers.contains(id) || is_count(sum))
     };
-    stored.iter().map(of_partition).collect()
-}
-
-fn buffered_postings(state: &State, numbers: &BTreeSet<u16>) -> Vec<Posting> {
-    let mut postings = state.buffer.to_list();
-    postings.retain(|posting| numbers.contains(&posting.id));
-    postings
-}
-
-/// The count of each pair, or `None` if a sum is no count, with or without the buffer.
-fn sums_of(on_card: &[Vec<Posting>], buffered: &[Posting]) -> Option<Sums> {
     let mut sums = Sums::new();
     for partition in on_card {
         add(&mut sums, partition);
     }
-    if !are_counts(&sums) {
+    if !fits(&sums) {
         return None;
     }
     add(&mut sums, buffered);
-    are_counts(&sums).then_some(sums)
-}
-
-/// The counts above 0 of closed windows. Every window but the open one is
-/// closed, even above the last number given.
-pub(super) fn of_closed(windows: &Windows, mut sums: Sums) -> Sums {
-    sums.retain(|&(_, Reverse(window)), &mut sum| window != windows.open && sum > 0);
-    sums
+    fits(&sums).then_some(sums)
 }
 
 /// The weight of each identifier.
 fn rarities(
     fault: Option<Fault>,
-    live: u16,
-    counted: &Counted,
-    counts: &Sums,
+    state: &State,
+    stretch: Stretch,
+    reading: &Reading,
 ) -> BTreeMap<u16, u32> {
+    let live = match fault {
+        Some(Fault::LiveOutside) => state.windows.live,
+        _ => reading.live(&state.windows, stretch),
+    };
+    let counts = match fault {
+        Some(Fault::FrequencyOutside) => reading.counts(&state.windows, Stretch::ALL),
+        _ => reading.counts(&state.windows, stretch),
+    };
     let rarity = |&id: &u16| {
         let with = match fault {
-            Some(Fault::AddedFrequencies) => added_frequency(&counted.places, counts, id),
-            Some(Fault::MendedNeighbours) => mended_frequency(&counted.places, counts, id),
-            _ => frequency(counts, id),
+            Some(Fault::AddedFrequencies) => added_frequency(&reading.places, &counts, id),
+            Some(Fault::MendedNeighbours) => mended_frequency(&reading.places, &counts, id),
+            _ => frequency(&counts, id),
         };
         let weight = match fault {
             Some(Fault::RoundedQuotient) => quotient_weight(live, with),
@@ -180,7 +231,7 @@ fn rarities(
         };
         (id, weight)
     };
-    counted.numbers.iter().map(rarity).collect()
+    reading.numbers.iter().map(rarity).collect()
 }
 
 /// F: how many windows have a count of the identifier. A window counts one time,

@@ -4,10 +4,12 @@ use crate::card::{blocks_for, chain, content, erase, free_blocks, link, write};
 use crate::faults::Fault;
 use crate::limits::NO_BLOCK;
 use crate::merge::{Merge, due_level};
-use crate::partition::{Stored, all_blocks, head, packed, packed_length, posting_space, read_all};
+use crate::partition::{
+    Stored, all_blocks, head, packed, packed_length, posting_space, read_all, record_of,
+};
 use crate::refusal::Refusal;
 use crate::rules::{check_card, check_state};
-use crate::state::{MergeJob, Partition, Partitions, State};
+use crate::state::{MergeJob, Partitions, State};
 
 /// Takes the next pairs of the merge in progress, or begins the one that is due.
 pub fn step(state: &mut State, card: &mut [u8]) -> Result<(), Refusal> {
@@ -92,12 +94,9 @@ fn take_pairs(state: &mut State, card: &mut [u8], merge: &Merge, blocks: &[usize
 /// Puts the result in its inputs' place and frees their blocks.
 fn finish(state: &mut State, card: &mut [u8], merge: &Merge, blocks: &[usize], stored: &[Stored]) {
     let mut partitions = state.partitions.to_list();
-    let result = (!merge.result.is_empty()).then_some(Partition {
-        first: state.merge.first,
-        level: merge.level,
-        length: state.merge.length,
-    });
-    if result.is_some() {
+    let has_result = !merge.result.is_empty();
+    let result = has_result.then(|| record_of(state.merge.first, merge.level, &merge.result));
+    if has_result {
         write(card, blocks, 0, &head(merge.level, &merge.result));
     }
     partitions.splice(merge.inputs.clone(), result);

@@ -3,7 +3,7 @@
 use super::Answer;
 use std::cmp::Reverse;
 use std::collections::BTreeMap;
-use std::ops::Range;
+use std::ops::{Range, RangeInclusive};
 
 /// An identifier's number, a window and a signed count.
 pub type Entry = (usize, u32, i64);
@@ -60,6 +60,13 @@ impl Part {
         }
         let lists = self.entries.chunk_by(|a, b| a.0 == b.0);
         32 + 12 * lists.count() + 4 * self.entries.len()
+    }
+
+    /// Whether a query over a stretch passes it over: all its windows are below or all are above.
+    pub fn is_outside(&self, stretch: &RangeInclusive<u32>) -> bool {
+        let windows = || self.entries.iter().map(|entry| entry.1);
+        windows().all(|window| window < *stretch.start())
+            || windows().all(|window| window > *stretch.end())
     }
 
     /// Blocks, of 4,092 bytes of content each.
@@ -125,9 +132,11 @@ impl Account {
         Ok(())
     }
 
-    /// How many postings lie under the identifiers, on the card and in the buffer.
-    pub fn stored(&self, ids: &[usize]) -> usize {
-        let on_card = self.parts.iter().flat_map(|part| &part.entries);
+    /// How many postings lie under the identifiers, in the buffer and in the partitions
+    /// that are not outside a stretch.
+    pub fn stored(&self, ids: &[usize], stretch: &RangeInclusive<u32>) -> usize {
+        let read = self.parts.iter().filter(|part| !part.is_outside(stretch));
+        let on_card = read.flat_map(|part| &part.entries);
         on_card.filter(|entry| ids.contains(&entry.0)).count()
             + self
                 .buffer

@@ -2,6 +2,7 @@
 //!
 //! The ledger has the counts of every live window, and answers queries and
 //! means from those of the closed ones alone: the open one shows from its close.
+//! A query is answered from the ledger cut down to the windows of its stretch.
 //! Beside it runs an account of the card: how many postings lie where, which
 //! decides when there is no room and what a query takes up. A forecast makes
 //! the planned calls on a copy of both. Neither uses any code or type of the
@@ -11,6 +12,7 @@ pub mod account;
 
 use account::Account;
 use std::collections::{BTreeMap, BTreeSet};
+use std::ops::RangeInclusive;
 
 /// An answer, or the number of the refusal.
 pub type Answer<T> = Result<T, u8>;
@@ -193,8 +195,13 @@ impl Ledger {
         self.account.step()
     }
 
-    /// The best closed windows for the identifiers, at most so many.
-    pub fn query(&self, ids: &[&[u8]], places: usize) -> Answer<Reply> {
+    /// The best closed windows of a stretch for the identifiers, at most so many.
+    pub fn query(
+        &self,
+        ids: &[&[u8]],
+        stretch: RangeInclusive<u32>,
+        places: usize,
+    ) -> Answer<Reply> {
         if !ids.iter().all(|id| is_identifier(id)) {
             return Err(4);
         }
@@ -205,13 +212,16 @@ impl Ledger {
         if places == 0 || places > 32 {
             return Err(14);
         }
+        if stretch.start() > stretch.end() {
+            return Err(17);
+        }
         let numbers: Vec<usize> = ids.iter().filter_map(|id| self.number(id)).collect();
-        let mut hits = self.scores(ids);
+        let mut hits = self.scores(ids, &stretch);
         hits.sort_by(|a, b| b.1.cmp(&a.1).then(b.0.cmp(&a.0)));
         hits.truncate(places);
         Ok(Reply {
             hits,
-            taken: self.account.stored(&numbers),
+            taken: self.account.stored(&numbers, &stretch),
         })
     }
 
@@ -281,15 +291,22 @@ impl Ledger {
         self.known.iter().position(|known| known == identifier)
     }
 
-    /// Every closed window with one of the identifiers, and its score.
-    fn scores(&self, ids: &[&[u8]]) -> Vec<(u32, u32)> {
-        let closed = self.closed().count() as u32;
+    /// Every closed window of a stretch with one of the identifiers, and its score.
+    fn scores(&self, ids: &[&[u8]], stretch: &RangeInclusive<u32>) -> Vec<(u32, u32)> {
+        let inside = self.closed().filter(|(window, _)| stretch.contains(window));
+        let inside: Vec<(&u32, &BTreeMap<Vec<u8>, u32>)> = inside.collect();
+        let with = |id: &[u8]| {
+            inside
+                .iter()
+                .filter(|entry| entry.1.contains_key(id))
+                .count()
+        };
         let rarities: Vec<u32> = ids
             .iter()
-            .map(|&id| rarity_weight(closed, self.windows_with(id)))
+            .map(|&id| rarity_weight(inside.len() as u32, with(id) as u32))
             .collect();
         let mut scores = Vec::new();
-        for (&window, counts) in self.closed() {
+        for &(&window, counts) in &inside {
             let found = ids.iter().zip(&rarities);
             let products: Vec<u32> = found
                 .filter_map(|(&id, rarity)| Some(count_weight(*counts.get(id)?) * rarity))
@@ -299,10 +316,6 @@ impl Ledger {
             }
         }
         scores
-    }
-
-    fn windows_with(&self, id: &[u8]) -> u32 {
-        self.counts_of(id).count() as u32
     }
 
     /// The identifier's count in each closed window that has it.

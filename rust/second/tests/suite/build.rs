@@ -1,6 +1,6 @@
 //! States that no short history reaches, built from what the ledger says.
 
-use crate::image::{BLOCK, encode, place};
+use crate::image::{BLOCK, encode, place, span};
 use second::commands::Probe;
 use second::ledger::Ledger;
 use second::ledger::account::Account;
@@ -55,6 +55,7 @@ fn records(state: &mut State, account: &Account) {
     for (place, part) in state.partitions.records.iter_mut().zip(&account.parts) {
         place.level = part.level as u16;
         place.length = part.length() as u32;
+        [place.lowest, place.highest] = span(part).map(|window| window as u16);
     }
 }
 

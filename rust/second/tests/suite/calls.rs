@@ -7,6 +7,7 @@ use second::commands::Probe;
 use second::engine::{self, Forecast, Mean};
 use second::refusal::Refusal;
 use second::state::Hit;
+use second::stretch::Stretch;
 use std::collections::BTreeSet;
 
 #[derive(Clone, Debug)]
@@ -18,7 +19,8 @@ pub enum Call {
     RemoveAll(Vec<u32>),
     Flush,
     Step,
-    Query(Vec<Vec<u8>>, usize),
+    /// Identifiers, a stretch, and the places in the list.
+    Query(Vec<Vec<u8>>, Stretch, usize),
     Mean(Vec<u8>),
     /// The entries of a plan, and how many each window has.
     Forecast(Vec<u8>, Vec<u32>),
@@ -50,14 +52,14 @@ fn call_engine(probe: &mut Probe, call: &Call) -> Result<(), Refusal> {
         Call::RemoveAll(windows) => remove_all(probe, windows),
         Call::Flush => engine::flush(state, card),
         Call::Step => engine::step(state, card),
-        Call::Query(names, places) => {
+        Call::Query(names, stretch, places) => {
             let ids: Vec<&[u8]> = names.iter().map(|name| &name[..]).collect();
             let untouched = Hit {
                 window: 0xabcd,
                 score: 0xdead_beef,
             };
             let mut hits = vec![untouched; *places];
-            let found = engine::query(state, card, register, &ids, &mut hits);
+            let found = engine::query(state, card, register, &ids, *stretch, &mut hits);
             let listed = found.map_or(0, |found| usize::from(found.hits));
             assert!(hits[listed..].iter().all(|hit| *hit == untouched));
             found.map(drop)
@@ -98,12 +100,12 @@ pub fn one_by_one(probe: &Probe, windows: &[u32]) -> (Probe, Result<(), u8>) {
     (after, Ok(()))
 }
 
-/// The mean of an identifier. A query of it alone is refused for the same
+/// The mean of an identifier. A query of it alone over all windows is refused for the same
 /// reason, or lists the windows of the mean as far as it has places.
 pub fn mean_of(probe: &Probe, name: &[u8]) -> Result<Mean, Refusal> {
     let (state, card, register) = (&probe.state, &probe.card, &probe.register);
     let mut hits = [Hit::default(); 32];
-    let found = engine::query(state, card, register, &[name], &mut hits);
+    let found = engine::query(state, card, register, &[name], Stretch::ALL, &mut hits);
     let answer = engine::mean(state, card, register, name);
     let windows = match answer {
         Err(Refusal::Uncounted) => Ok(0),
@@ -135,7 +137,12 @@ pub fn event(name: &[u8]) -> Call {
 }
 
 pub fn query(names: &[&[u8]]) -> Call {
-    Call::Query(names.iter().map(|name| name.to_vec()).collect(), 4)
+    query_in(names, Stretch::ALL)
+}
+
+pub fn query_in(names: &[&[u8]], stretch: Stretch) -> Call {
+    let names = names.iter().map(|name| name.to_vec()).collect();
+    Call::Query(names, stretch, 4)
 }
 
 pub fn mean(name: &[u8]) -> Call {

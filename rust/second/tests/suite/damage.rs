@@ -2,7 +2,7 @@
 //! panics, and a refusal changes nothing.
 
 use crate::calls::{Call, forecast, make, outcome};
-use crate::history::{Odds, Plan, act, any_list, name};
+use crate::history::{Odds, Plan, act, any_list, any_stretch, name};
 use crate::planned::{any_windows, damage_plan};
 use crate::rng::Rng;
 use crate::tally::Tally;
@@ -51,7 +51,9 @@ fn random_call(rng: &mut Rng, last: u16) -> Call {
         8 => Call::Mean(any_name(rng)),
         _ => {
             let names = (0..rng.pick(&[0, 1, 1, 2, 2, 3, 5, 6, 9])).map(|_| any_name(rng));
-            Call::Query(names.collect(), rng.pick(&[0, 1, 2, 5, 8, 16, 32, 33, 500]))
+            let names = names.collect();
+            let places = rng.pick(&[0, 1, 2, 5, 8, 16, 32, 33, 500]);
+            Call::Query(names, any_stretch(rng, last), places)
         }
     }
 }
@@ -86,7 +88,7 @@ fn damage_state(state: &mut State, rng: &mut Rng) {
     let posting = &mut state.buffer.postings[posting];
     let record = rng.below(usize::from(state.partitions.used).clamp(1, 50) + 1);
     let record = &mut state.partitions.records[record];
-    match rng.below(20) {
+    match rng.below(22) {
         0 => change_wide(&mut state.lengths.card, rng),
         1 => change_wide(&mut state.lengths.register, rng),
         2 => change(&mut state.windows.last, rng),
@@ -105,6 +107,8 @@ fn damage_state(state: &mut State, rng: &mut Rng) {
         16 => change_wide(&mut record.length, rng),
         17 => change(&mut state.taken, rng),
         18 => change(&mut state.merge.first, rng),
+        19 => change(&mut record.lowest, rng),
+        20 => change(&mut record.highest, rng),
         _ if rng.one_in(2) => change_wide(&mut state.merge.length, rng),
         _ => change_wide(&mut state.merge.steps, rng),
     }

@@ -525,6 +525,8 @@ fn foreign(rng: &mut Rng) -> Probe {
                 first: rng.next() as u16,
                 level,
                 length: rng.pick(&[0, 0, 0, 1, 4_092, 4_093, 9_000]),
+                lowest: 1,
+                highest: rng.pick(&[1, 65_535]),
             };
             state.partitions.used += 1;
         }

@@ -1,7 +1,7 @@
 //! What the calls do with states and cards that no history of theirs made.
 
 use crate::build::build;
-use crate::calls::{Call, event, make, mean, outcome, query};
+use crate::calls::{Call, event, make, mean, outcome, query, query_in};
 use crate::image::BLOCK;
 use crate::malformed::{card_of, part};
 use crate::twin::Twin;
@@ -9,6 +9,7 @@ use second::commands::Probe;
 use second::engine;
 use second::ledger::Ledger;
 use second::state::{Hit, Posting};
+use second::stretch::Stretch;
 use std::collections::BTreeMap;
 
 fn posting(id: u16, window: u16, count: i16) -> Posting {
@@ -64,31 +65,65 @@ fn a_coming_number_may_be_buffered_already() {
     assert_eq!(probe.state.buffer.postings[4], posting(4, 2000, 2));
 }
 
+/// N is counted from card and buffer, by whatever identifiers, and the state's N is not asked.
 #[test]
-fn more_windows_than_there_are_weigh_nothing() {
-    let mut probe = small_parts(3);
-    let mut hits = [Hit::default(); 4];
-    let mut ask = |live: u16, probe: &mut Probe| {
-        probe.state.windows.live = live;
-        let (card, register) = (&probe.card, &probe.register);
-        let found = engine::query(&probe.state, card, register, &[b"A"], &mut hits);
-        (
-            found.map(|found| (found.hits, found.taken)),
-            hits.map(|hit| hit.score),
-        )
+fn live_windows_are_counted_where_their_counts_lie() {
+    let mut lists = [1, 2, 3].map(|window| vec![(0, window, 1)]).to_vec();
+    let all_have_it = card_of(lists.iter().map(|list| part(0, list.clone())).collect());
+    // Windows of another identifier, of one that the register has not, and with no sum above 0.
+    lists.push(vec![(1, 5, 1), (1, 4, 1)]);
+    lists.push(vec![(1, 8, -1), (2, 9, 7), (1023, 6, 1)]);
+    lists.push(vec![(2, 9, -7)]);
+    let half_have_it = card_of(lists.into_iter().map(|list| part(0, list)).collect());
+    for live in [0, 2, 3, 6, 1999] {
+        let ask = |mut probe: Probe| {
+            probe.state.windows.live = live;
+            hits_of_a(&probe)
+        };
+        // The open window has A as well, which is taken up and no more.
+        let nothing = [3, 2, 1].map(|window| (window, 0)).to_vec();
+        assert_eq!(ask(all_have_it.clone()), (nothing, 4));
+        // Three windows of six weigh 41 - 25.
+        let weighed = [3, 2, 1].map(|window| (window, 256)).to_vec();
+        assert_eq!(ask(half_have_it.clone()), (weighed, 4));
+    }
+}
+
+/// Sums of other identifiers need be no counts: only their sign matters to N.
+#[test]
+fn sums_of_other_identifiers_may_be_of_any_size() {
+    let others = |counts: [i64; 3]| {
+        let mut parts: Vec<_> = counts
+            .iter()
+            .map(|&count| part(0, vec![(1, 9, count)]))
+            .collect();
+        parts.push(part(0, vec![(0, 5, 3)]));
+        card_of(parts)
     };
-    // The open window has A as well, which is taken up and no more.
-    assert_eq!(ask(2, &mut probe), (Ok((3, 4)), [0; 4]));
-    assert_eq!(ask(3, &mut probe), (Ok((3, 4)), [0; 4]));
-    // Three windows of six weigh 41 - 25.
-    assert_eq!(ask(6, &mut probe), (Ok((3, 4)), [256, 256, 256, 0]));
+    // One window of two weighs 16, one of one nothing.
+    for (counts, score) in [
+        ([32_767, 32_767, 32_767], 32 * 16),
+        ([-32_767, -32_767, -32_767], 0),
+        ([32_767, -32_766, -1], 0),
+        ([32_767, 1, -32_767], 32 * 16),
+    ] {
+        let probe = others(counts);
+        assert_eq!(hits_of_a(&probe), (vec![(5, score)], 2), "{counts:?}");
+    }
 }
 
 /// The windows and scores of A, and the postings taken.
 fn hits_of_a(probe: &Probe) -> (Vec<(u16, u32)>, u32) {
     let mut hits = [Hit::default(); 8];
     let (card, register) = (&probe.card, &probe.register);
-    let found = engine::query(&probe.state, card, register, &[b"A"], &mut hits);
+    let found = engine::query(
+        &probe.state,
+        card,
+        register,
+        &[b"A"],
+        Stretch::ALL,
+        &mut hits,
+    );
     let found = found.expect("a query");
     let listed = hits[..usize::from(found.hits)].iter();
     let listed = listed.map(|hit| (hit.window, hit.score));
@@ -101,8 +136,8 @@ fn windows_above_the_last_number_show_and_the_open_one_does_not() {
     let mut probe = card_of(vec![
         part(0, vec![(0, 2001, 1), (0, 2000, 5)]),
         part(0, vec![(0, 65_535, 3), (0, 2000, 5), (0, 1999, 7)]),
+        part(0, vec![(1, 9, 1), (1, 8, 1), (1, 7, 1)]),
     ]);
-    probe.state.windows.live = 6;
     // Three windows of six weigh 16. The open one has two postings on the card and one buffered.
     let closed = vec![(1999, 48 * 16), (65_535, 32 * 16), (2001, 16 * 16)];
     assert_eq!(hits_of_a(&probe), (closed, 6));
@@ -119,7 +154,8 @@ fn windows_above_the_last_number_show_and_the_open_one_does_not() {
 /// the card has of it then shows as any other window above the last number.
 #[test]
 fn an_open_window_without_events_may_have_counts_on_the_card() {
-    let mut probe = card_of(vec![part(0, vec![(0, 2000, 5), (0, 1999, 7)])]);
+    let entries = vec![(0, 2000, 5), (0, 1999, 7), (1, 5, 1)];
+    let mut probe = card_of(vec![part(0, entries)]);
     probe.state.buffer = Default::default();
     probe.state.windows.events = 0;
     probe.state.windows.live = 2;
@@ -127,7 +163,9 @@ fn an_open_window_without_events_may_have_counts_on_the_card() {
     make(&mut probe, &Call::Close).unwrap();
     let windows = probe.state.windows;
     assert_eq!((windows.last, windows.live), (1999, 2));
-    assert_eq!(hits_of_a(&probe), (vec![(2000, 0), (1999, 0)], 2));
+    // Two windows of three weigh 9.
+    let both = vec![(1999, 48 * 9), (2000, 41 * 9)];
+    assert_eq!(hits_of_a(&probe), (both, 2));
 }
 
 /// A sum of the open window that is no count is malformed all the same.
@@ -150,37 +188,43 @@ fn sums_of_the_open_window_are_counts_too() {
 #[test]
 fn sums_below_0_are_passed_over() {
     let parts = vec![part(0, vec![(1, 9, -3), (1, 5, 3), (2, 9, 1)])];
-    let mut probe = card_of(parts);
-    probe.state.windows.live = 2;
+    let probe = card_of(parts);
     let mut hits = [Hit::default(); 4];
     let (card, register) = (&probe.card, &probe.register);
-    let found = engine::query(&probe.state, card, register, &[b"B"], &mut hits);
+    let mut ask = |ids: &[&[u8]]| {
+        let found = engine::query(&probe.state, card, register, ids, Stretch::ALL, &mut hits);
+        (found, hits)
+    };
+    let (found, hits) = ask(&[b"B"]);
     assert_eq!(found.map(|found| (found.hits, found.taken)), Ok((1, 2)));
     assert_eq!((hits[0].window, hits[0].score), (5, 32 * 16));
-    let found = engine::query(&probe.state, card, register, &[b"B", b"C"], &mut hits);
+    let (found, hits) = ask(&[b"B", b"C"]);
     assert_eq!(found.map(|found| (found.hits, found.taken)), Ok((2, 3)));
     assert_eq!((hits[1].window, hits[1].score), (9, 16 * 16));
 }
 
 /// The largest count of five identifiers in one window of all there can be, and
-/// one less of one of them.
+/// one less of one of them. All others have a sixth identifier.
 #[test]
 fn the_largest_score_is_306000() {
-    let names = [b"A", b"B", b"C", b"D", b"E"].map(|id| id.to_vec());
-    let ids: Vec<&[u8]> = names.iter().map(|name| &name[..]).collect();
+    let names = [b"A", b"B", b"C", b"D", b"E", b"F"].map(|id| id.to_vec());
+    let ids: Vec<&[u8]> = names[..5].iter().map(|name| &name[..]).collect();
     for last in [32_767, 32_766] {
         let counts = [32_767, 32_767, 32_767, 32_767, last];
-        let mut ledger = Ledger::new(4, 5);
+        let mut ledger = Ledger::new(160, 6);
         ledger.known = names.to_vec();
         ledger.last = 65_535;
+        let of_others = BTreeMap::from([(names[5].clone(), 1)]);
         ledger.live = (1..=65_535)
-            .map(|window| (window, BTreeMap::new()))
+            .map(|window| (window, of_others.clone()))
             .collect();
         let of_nine = names.iter().cloned().zip(counts);
         ledger.live.insert(9, of_nine.collect());
         let entries = counts.iter().enumerate();
-        let entries = entries.map(|(id, &count)| (id, 9, count.into()));
-        ledger.account.parts = vec![part(0, entries.collect())];
+        let mut entries: Vec<_> = entries.map(|(id, &count)| (id, 9, count.into())).collect();
+        let others = (1..=65_535).rev().filter(|&window| window != 9);
+        entries.extend(others.map(|window| (5, window, 1)));
+        ledger.account.parts = vec![part(5, entries)];
         let probe = build(&ledger);
         let mut twin = Twin::of(probe.state, probe.card, probe.register, ledger);
         // 32,768^16 is 2^240, and one window of 65,535 weighs 255.
@@ -328,9 +372,16 @@ fn reasons_come_in_their_order() {
     assert_eq!(outcome(&probe, &event(b"F")), 5);
     assert_eq!(outcome(&probe, &event(b"")), 4);
     // 4 before 14.
-    assert_eq!(outcome(&probe, &Call::Query(vec![vec![0; 65]], 0)), 4);
+    let backward = Stretch { first: 2, last: 1 };
+    let no_places = |name: Vec<u8>| Call::Query(vec![name], backward, 0);
+    assert_eq!(outcome(&probe, &no_places(vec![0; 65])), 4);
     assert_eq!(outcome(&probe, &query(&[b"A", b"A", b""])), 4);
     assert_eq!(outcome(&probe, &query(&[b"A", b"A"])), 14);
+    // 14 before 17.
+    assert_eq!(outcome(&probe, &no_places(b"A".to_vec())), 14);
+    assert_eq!(outcome(&probe, &query_in(&[b"A", b"A"], backward)), 14);
+    assert_eq!(outcome(&probe, &query_in(&[b"A", b""], backward)), 4);
+    assert_eq!(outcome(&probe, &query_in(&[b"A", b"X"], backward)), 17);
     // 4 before 15.
     assert_eq!(outcome(&probe, &mean(b"")), 4);
     assert_eq!(outcome(&probe, &mean(&[0; 65])), 4);

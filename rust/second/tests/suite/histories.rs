@@ -202,7 +202,7 @@ fn sweep(seed: u64) -> Twin {
 }
 
 /// What must have been seen, or a test would be empty.
-const SIGHTS: [&str; 32] = [
+const SIGHTS: [&str; 42] = [
     "blocks taken round the end",
     "closes that bring the first mean",
     "closes that change an answer",
@@ -235,6 +235,16 @@ const SIGHTS: [&str; 32] = [
     "queries of an open window in a partition",
     "queries with equal scores above 0",
     "removals that take the last mean",
+    "stretches during a merge",
+    "stretches inside a partition",
+    "stretches of a part with hits",
+    "stretches of no window",
+    "stretches of one window",
+    "stretches past a partition",
+    "stretches past a partition with hits",
+    "stretches past all partitions",
+    "stretches past some partitions",
+    "stretches within a partition",
 ];
 
 #[test]
@@ -250,7 +260,7 @@ fn engine_and_ledger_agree_at_every_call() {
     for sight in SIGHTS {
         assert!(tally.sights.contains_key(sight), "never seen: {sight}");
     }
-    for number in [4, 5, 7, 8, 9, 10, 11, 13, 14, 15] {
+    for number in [4, 5, 7, 8, 9, 10, 11, 13, 14, 15, 17] {
         assert!(tally.refusals.contains_key(&number), "never met: {number}");
     }
     tally.expect_done("mean", 10_000);

@@ -3,6 +3,7 @@
 use crate::rng::Rng;
 use crate::twin::Twin;
 use second::ledger::Ledger;
+use second::stretch::Stretch;
 
 /// How likely each kind of call is, against the others.
 #[derive(Clone, Copy)]
@@ -159,7 +160,11 @@ fn step(twin: &mut Twin, rng: &mut Rng, _: &Plan) -> bool {
     (is_due || rng.one_in(20)) && twin.step().is_ok()
 }
 
-/// A query, and the mean of each of its identifiers.
+/// A stretch whose first window exceeds its last.
+const BACKWARD: Stretch = Stretch { first: 2, last: 1 };
+
+/// A query, and the mean of each of its identifiers. The stretch is drawn from a copy of the generator, so that it
+/// moves nothing else of a history.
 fn query(twin: &mut Twin, rng: &mut Rng, plan: &Plan) -> bool {
     let names: Vec<Vec<u8>> = (0..1 + rng.below(5))
         .map(|_| name(rng.below(plan.names + 2)))
@@ -169,7 +174,27 @@ fn query(twin: &mut Twin, rng: &mut Rng, plan: &Plan) -> bool {
         let _ = twin.mean(name);
     }
     let ids: Vec<&[u8]> = names.iter().map(|name| &name[..]).collect();
-    twin.query(&ids, 1 + rng.below(32)).is_ok()
+    let stretch = any_stretch(&mut Rng(rng.0), twin.state.windows.last);
+    twin.query_in(&ids, stretch, 1 + rng.below(32)).is_ok()
+}
+
+/// A stretch of the windows up to a last one: all, one, those from or up to one, or some; now and then an empty
+/// one or one whose first exceeds its last.
+pub fn any_stretch(rng: &mut Rng, last: u16) -> Stretch {
+    let window = |rng: &mut Rng| rng.below(usize::from(last) + 2) as u16;
+    let (one, other) = (window(rng), window(rng));
+    let (first, last) = match rng.below(10) {
+        0 | 1 => (1, u16::MAX),
+        2 => (one, one),
+        3 => (one, u16::MAX),
+        4 => (1, one),
+        5 => (0, one),
+        6 if rng.one_in(2) => (0, 0),
+        6 => (one.max(1), one.saturating_sub(1)),
+        7 => (rng.next() as u16, rng.next() as u16),
+        _ => (one.min(other), one.max(other)),
+    };
+    Stretch { first, last }
 }
 
 /// A call beyond a limit.
@@ -187,9 +212,11 @@ fn odd(twin: &mut Twin, rng: &mut Rng, plan: &Plan) -> bool {
             .is_ok(),
         6 => odd_query(twin, rng, plan),
         7 => twin
-            .query(&[&name(0)], rng.pick(&[0, 1, 32, 33, 100]))
+            .query_in(&[&name(0)], BACKWARD, rng.pick(&[0, 1, 32, 33, 100]))
             .is_ok(),
-        8 => twin.query(&[b"X", &[b'Y'; 65]], rng.below(34)).is_ok(),
+        8 => twin
+            .query_in(&[b"X", &[b'Y'; 65]], BACKWARD, rng.below(34))
+            .is_ok(),
         9 => twin.mean(&vec![b'X'; rng.pick(&[0, 64, 65, 300])]).is_ok(),
         _ => twin.query(&[&name(1), b""], rng.below(34)).is_ok(),
     }

@@ -37,14 +37,22 @@ fn lists(part: &Part) -> BTreeMap<usize, usize> {
     lists
 }
 
+/// The lowest and the highest window.
+pub fn span(part: &Part) -> [u32; 2] {
+    let mut windows: Vec<u32> = part.entries.iter().map(|entry| entry.1).collect();
+    windows.sort_unstable();
+    [windows[0], windows[windows.len() - 1]]
+}
+
 /// All bytes of a finished partition.
 pub fn encode(part: &Part) -> Vec<u8> {
     let lists = lists(part);
     let (t, p) = (lists.len(), part.entries.len());
     let mut bytes = Vec::new();
-    for field in [t, p, 32, 32 + 12 * t, 32 + 12 * t + 4 * p, part.level, 0, 0] {
+    for field in [t, p, 32, 32 + 12 * t, 32 + 12 * t + 4 * p, part.level] {
         bytes.extend((field as u32).to_le_bytes());
     }
+    bytes.extend(span(part).into_iter().flat_map(u32::to_le_bytes));
     let mut first = 0;
     for (id, length) in lists {
         bytes.extend((id as u16).to_le_bytes());

@@ -14,7 +14,7 @@ fn with(place: usize, word: u32) -> Vec<u8> {
 #[test]
 fn every_word_comes_back() {
     assert_eq!(write(&State::default()).len(), LENGTH);
-    for place in 0..614 {
+    for place in 0..716 {
         for word in [0, 1, 255, 256, 32_767, 32_768, 65_535] {
             let image = with(place, word);
             assert!(read(&image).is_some_and(|state| write(&state) == image));
@@ -24,9 +24,9 @@ fn every_word_comes_back() {
 
 #[test]
 fn lengths_and_steps_need_all_bits_and_no_other_number_has_them() {
-    let is_length = |place: usize| (457..610).contains(&place) && place % 3 == 0;
-    for place in 0..614 {
-        let wide = [0, 1, 612, 613].contains(&place) || is_length(place);
+    let is_length = |place: usize| (457..712).contains(&place) && (place - 457) % 5 == 2;
+    for place in 0..716 {
+        let wide = [0, 1, 714, 715].contains(&place) || is_length(place);
         for word in [65_536, u32::MAX] {
             let image = with(place, word);
             assert_eq!(read(&image).is_some(), wide, "{place}");
@@ -55,10 +55,17 @@ fn words_stand_where_they_are_said_to_stand() {
     assert_eq!(state(74, 32_767).buffer.postings[0].count, -1);
     assert_eq!(state(454, 7).buffer.postings[127].window, 7);
     assert_eq!(state(456, 7).partitions.used, 7);
-    assert_eq!(state(609, 70_000).partitions.records[50].length, 70_000);
-    assert_eq!(state(610, 7).taken, 7);
-    assert_eq!(state(611, 7).merge.first, 7);
-    assert_eq!(state(613, 70_000).merge.steps, 70_000);
+    assert_eq!(state(457, 7).partitions.records[0].first, 7);
+    assert_eq!(state(458, 7).partitions.records[0].level, 7);
+    assert_eq!(state(460, 7).partitions.records[0].lowest, 7);
+    assert_eq!(state(461, 7).partitions.records[0].highest, 7);
+    assert_eq!(state(709, 70_000).partitions.records[50].length, 70_000);
+    assert_eq!(state(710, 7).partitions.records[50].lowest, 7);
+    assert_eq!(state(711, 7).partitions.records[50].highest, 7);
+    assert_eq!(state(712, 7).taken, 7);
+    assert_eq!(state(713, 7).merge.first, 7);
+    assert_eq!(state(714, 70_000).merge.length, 70_000);
+    assert_eq!(state(715, 70_000).merge.steps, 70_000);
 }
 
 #[test]

@@ -35,9 +35,9 @@ fn a_small_partition() {
     twin.flush().unwrap();
     #[rustfmt::skip]
     let expected = [
-        // Header: identifiers, postings, two offsets, length, level, zeros.
+        // Header: identifiers, postings, two offsets, length, level, lowest and highest window.
         2, 0, 0, 0,  3, 0, 0, 0,  32, 0, 0, 0,  56, 0, 0, 0,
-        68, 0, 0, 0,  0, 0, 0, 0,  0, 0, 0, 0,  0, 0, 0, 0,
+        68, 0, 0, 0,  0, 0, 0, 0,  1, 0, 0, 0,  2, 0, 0, 0,
         // Entries: number, zero, postings, first.
         0, 0,  0, 0,  2, 0, 0, 0,  0, 0, 0, 0,
         1, 0,  0, 0,  1, 0, 0, 0,  2, 0, 0, 0,
@@ -52,6 +52,7 @@ fn a_small_partition() {
     assert_eq!(twin.register[65..70], [1, b'B', 0, 0, 0]);
     let record = twin.state.partitions.to_list()[0];
     assert_eq!((record.first, record.level, record.length), (0, 0, 68));
+    assert_eq!((record.lowest, record.highest), (1, 2));
     assert_eq!(twin.state.taken, 0);
 }
 
@@ -64,7 +65,7 @@ fn a_partition_of_negative_counts() {
     #[rustfmt::skip]
     let expected = [
         2, 0, 0, 0,  2, 0, 0, 0,  32, 0, 0, 0,  56, 0, 0, 0,
-        64, 0, 0, 0,  0, 0, 0, 0,  0, 0, 0, 0,  0, 0, 0, 0,
+        64, 0, 0, 0,  0, 0, 0, 0,  1, 0, 0, 0,  1, 0, 0, 0,
         0, 0,  0, 0,  1, 0, 0, 0,  0, 0, 0, 0,
         1, 0,  0, 0,  1, 0, 0, 0,  1, 0, 0, 0,
         2, 0x80,  1, 0,
@@ -114,9 +115,11 @@ fn the_posting_space_after_each_step() {
     assert_eq!(twin.state.merge, Default::default());
     let record = twin.state.partitions.to_list()[0];
     assert_eq!((record.first, record.level, record.length), (8, 1, length));
+    // Window 7 is gone from the result.
+    assert_eq!((record.lowest, record.highest), (1, 6));
     assert_eq!(twin.state.partitions.used, 1);
     let header: Vec<u32> = (0..8).map(|f| word(block(&twin, 8), 4 * f)).collect();
-    assert_eq!(header, [5, 30, 32, 92, length, 1, 0, 0]);
+    assert_eq!(header, [5, 30, 32, 92, length, 1, 1, 6]);
     assert!(twin.card[..8 * BLOCK].iter().all(|&byte| byte == 255));
     assert_eq!(twin.step(), Err(13));
 }

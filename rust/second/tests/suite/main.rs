@@ -22,6 +22,7 @@ mod program;
 mod reading;
 mod rng;
 mod state_rules;
+mod stretches;
 mod tally;
 mod together;
 mod twin;

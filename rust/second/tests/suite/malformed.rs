@@ -1,11 +1,12 @@
 //! Each way in which what a call must read can be malformed.
 
 use crate::build::build;
-use crate::calls::{Call, event, forecast, make, mean, mean_of, outcome, query};
+use crate::calls::{Call, event, forecast, make, mean, mean_of, outcome, query, query_in};
 use crate::image::{BLOCK, CONTENT, encode, place, word};
 use second::commands::Probe;
 use second::ledger::Ledger;
 use second::ledger::account::{Entry, Part};
+use second::stretch::Stretch;
 
 pub fn part(level: usize, entries: Vec<Entry>) -> Part {
     Part { level, entries }
@@ -100,14 +101,17 @@ fn every_field_of_a_header_counts() {
     }
 }
 
-/// A partition with other fields, each at its offset, and another length.
+/// A partition with other fields, each at its offset, and another length. Its record has
+/// the windows of the header.
 fn rewritten(entries: Vec<Entry>, fields: &[(usize, u32)], length: u32) -> Probe {
     let mut probe = card_of(vec![part(0, entries)]);
     for &(offset, value) in fields {
         put(&mut probe, 0, offset, value);
     }
     put(&mut probe, 0, 16, length);
-    probe.state.partitions.records[0].length = length;
+    let [lowest, highest] = [24, 28].map(|offset| word(&probe.card, offset) as u16);
+    let record = &mut probe.state.partitions.records[0];
+    (record.length, record.lowest, record.highest) = (length, lowest, highest);
     probe
 }
 
@@ -133,7 +137,7 @@ fn identifiers_and_postings_are_at_least_one() {
 fn entries_hold_all_postings() {
     let probe = rewritten(vec![(0, 9, 1), (0, 5, 1)], &[(36, 1)], 52);
     assert_eq!(outcomes(&probe), BAD);
-    let probe = rewritten(vec![(0, 9, 1), (0, 5, 1)], &[(4, 1), (36, 1)], 48);
+    let probe = rewritten(vec![(0, 9, 1), (0, 5, 1)], &[(4, 1), (36, 1), (24, 9)], 48);
     assert_eq!(outcomes(&probe), FINE);
 }
 
@@ -197,6 +201,53 @@ fn the_record_counts() {
         probe.state.partitions.records[0].level = level;
         assert_eq!(outcomes(&probe), BAD);
     }
+    for (lowest, highest) in [(2, 1500), (1, 1499), (1, 1501), (1, 65_535), (1500, 1500)] {
+        let mut probe = probe();
+        let record = &mut probe.state.partitions.records[0];
+        (record.lowest, record.highest) = (lowest, highest);
+        assert_eq!(outcomes(&probe), BAD);
+    }
+}
+
+/// Header and record agree, and the lists do not. A step without a level due reads no lists.
+#[test]
+fn lowest_and_highest_are_those_of_the_lists() {
+    let lists_are_bad = [3, 3, 3, 13, 0, 0];
+    for (lowest, highest) in [(2, 1500), (1, 1499), (1, 1501), (1, 65_535), (1500, 1500)] {
+        let mut probe = changed(0, 24, 0);
+        put(&mut probe, 0, 24, lowest);
+        put(&mut probe, 0, 28, highest);
+        let record = &mut probe.state.partitions.records[0];
+        (record.lowest, record.highest) = (lowest as u16, highest as u16);
+        assert_eq!(outcomes(&probe), lists_are_bad, "{lowest} to {highest}");
+    }
+}
+
+/// A step reads the lists of its inputs and of no other partition; a removal reads all.
+#[test]
+fn a_step_judges_the_windows_of_its_inputs() {
+    let parts = (1..=9).map(|window| part(0, vec![(0, window, 1)]));
+    let sound = card_of(parts.collect());
+    assert_eq!(outcome(&sound, &Call::Step), 0);
+    for place in 0..9 {
+        let mut probe = sound.clone();
+        put(&mut probe, place, 28, 30);
+        // At odds with the record first, and then with the lists alone.
+        assert_eq!(outcome(&probe, &Call::Step), 3, "partition {place}");
+        probe.state.partitions.records[place].highest = 30;
+        let expected = if place < 8 { 3 } else { 0 };
+        assert_eq!(outcome(&probe, &Call::Step), expected, "partition {place}");
+        assert_eq!(outcome(&probe, &Call::Remove(1)), 3, "partition {place}");
+    }
+}
+
+/// A partition of zeros in the last two fields, whose record cannot have them.
+#[test]
+fn a_header_of_zeros_is_no_header() {
+    for offset in [24, 28] {
+        assert_eq!(outcomes(&changed(0, offset, 0)), BAD);
+        assert_eq!(outcomes(&changed(3, offset, 0)), BAD);
+    }
 }
 
 #[test]
@@ -213,10 +264,10 @@ fn no_block_is_in_two_partitions() {
     assert_eq!(outcomes(&probe), BAD);
 }
 
-/// A fault in a list is met by the calls that use it.
+/// A fault in a list, whatever its identifier, is met by the calls that read all lists.
 #[test]
-fn lists_count_where_they_are_used() {
-    let a_is_bad = [3, 0, 3, 13, 0, 0];
+fn every_list_counts() {
+    let a_list_is_bad = [3, 3, 3, 13, 0, 0];
     let cases = [
         0x0000_0005, // window 0
         0x0005_0005, // the window of the next one
@@ -225,20 +276,67 @@ fn lists_count_where_they_are_used() {
         0x0009_8000, // size 0, negative
     ];
     for value in cases {
-        assert_eq!(outcomes(&changed(0, 68, value)), a_is_bad, "{value:x}");
+        assert_eq!(outcomes(&changed(0, 68, value)), a_list_is_bad, "{value:x}");
     }
     // The last of the list: only a window of 0 or a size of 0 can be wrong.
-    assert_eq!(outcomes(&changed(0, 76, 0x0000_0001)), a_is_bad);
-    assert_eq!(
-        outcomes(&changed(1, 1988, 0x0005_0000)),
-        [0, 3, 3, 13, 0, 0]
-    );
-    // A list that no call here uses but the removal, which uses all.
-    assert_eq!(outcomes(&changed(0, 80, 0x0001_0001)), [0, 0, 3, 13, 0, 0]);
+    assert_eq!(outcomes(&changed(0, 76, 0x0000_0001)), a_list_is_bad);
+    assert_eq!(outcomes(&changed(1, 1988, 0x0005_0000)), a_list_is_bad);
+    // A list that no query here is for.
+    assert_eq!(outcomes(&changed(0, 80, 0x0001_0001)), a_list_is_bad);
     // Lists of different identifiers do not hang together.
     assert_eq!(outcomes(&changed(0, 76, 0x0001_0001)), FINE);
-    // A window above the last one given.
-    assert_eq!(outcomes(&changed(0, 68, 0xffff_0001)), FINE);
+    // A window above the last one given, which is then the highest.
+    let mut probe = changed(0, 68, 0xffff_0001);
+    assert_eq!(outcomes(&probe), a_list_is_bad);
+    put(&mut probe, 0, 28, 65_535);
+    probe.state.partitions.records[0].highest = 65_535;
+    assert_eq!(outcomes(&probe), FINE);
+}
+
+/// Partitions of windows 1 to 1500, 9 and 9: what is wrong with the lists of one is met by a query over a
+/// stretch that does not pass it over.
+#[test]
+fn lists_of_partitions_passed_over_are_not_read() {
+    let ask =
+        |probe: &Probe, first, last| outcome(probe, &query_in(&[b"A"], Stretch { first, last }));
+    // A list of C in the first partition, and one of A in the second.
+    let (first, second) = (changed(1, 1988, 0x0005_0000), changed(2, 56, 0x0009_0000));
+    for (probe, lowest, highest) in [(first, 1, 1500), (second, 9, 9)] {
+        assert_eq!(ask(&probe, 1, 65_535), 3);
+        assert_eq!(ask(&probe, lowest, lowest), 3);
+        assert_eq!(ask(&probe, highest, highest), 3);
+        assert_eq!(ask(&probe, lowest - 1, lowest - 1), 0);
+        assert_eq!(ask(&probe, highest + 1, 65_535), 0);
+        assert_eq!(ask(&probe, 0, lowest - 1), 0);
+        assert_eq!(ask(&probe, 0, 0), 0);
+    }
+    // What is wrong with a header, an entry or a chain is met wherever it is.
+    for probe in [
+        changed(0, 28, 1499),
+        changed(0, 60, 0),
+        changed(1, CONTENT, 5),
+    ] {
+        assert_eq!(ask(&probe, 1501, 65_535), 3);
+        assert_eq!(ask(&probe, 0, 0), 3);
+    }
+}
+
+/// Which partitions are passed over goes by the same rule where the first window exceeds the last.
+#[test]
+fn what_is_read_comes_before_the_stretch() {
+    let ask =
+        |probe: &Probe, first, last| outcome(probe, &query_in(&[b"A"], Stretch { first, last }));
+    let bad = changed(1, 1988, 0x0005_0000);
+    for (first, last, expected) in [
+        (9, 8, 3),
+        (1500, 1, 3),
+        (1501, 1, 17),
+        (1, 0, 17),
+        (65_535, 65_534, 17),
+    ] {
+        assert_eq!(ask(&bad, first, last), expected, "{first} to {last}");
+        assert_eq!(ask(&probe(), first, last), 17, "{first} to {last}");
+    }
 }
 
 #[test]
@@ -345,14 +443,79 @@ fn the_register_is_read_whole() {
         // Before any other reason.
         assert_eq!(outcome(&probe, &event(b"")), 3);
         assert_eq!(outcome(&probe, &mean(b"")), 3);
-        assert_eq!(outcome(&probe, &Call::Query(Vec::new(), 0)), 3);
+        let nothing = Call::Query(Vec::new(), Stretch { first: 1, last: 0 }, 0);
+        assert_eq!(outcome(&probe, &nothing), 3);
         assert_eq!(outcome(&probe, &forecast(&[])), 3);
     }
 }
 
+/// Sums of A are no counts in windows 9 and 7, and A is in partitions of its own. With the buffer one is a count.
 #[test]
-fn a_query_uses_the_lists_of_all_that_it_names() {
-    let probe = changed(0, 68, 0x0009_0000);
+fn sums_are_of_the_partitions_that_are_read() {
+    let mut parts = [9, 7]
+        .map(|window| [32_767, 1].map(|count| part(0, vec![(0, window, count)])))
+        .concat();
+    parts.push(part(0, vec![(1, 20, 1), (1, 3, 1)]));
+    let mut probe = card_of(parts);
+    probe.state.buffer.used = 2;
+    probe.state.buffer.postings[1] = second::state::Posting {
+        id: 0,
+        window: 8,
+        count: 1,
+    };
+    let ask = |ids: &[&[u8]], first, last| {
+        let stretch = Stretch { first, last };
+        outcome(&probe, &query_in(ids, stretch))
+    };
+    for (first, last, expected) in [
+        (1, 65_535, 3),
+        (8, 9, 3),
+        (7, 8, 3),
+        (9, 9, 3),
+        (8, 8, 0),
+        (10, 65_535, 0),
+        (1, 6, 0),
+        (0, 0, 0),
+        // Backward, both are passed over.
+        (9, 7, 17),
+    ] {
+        assert_eq!(ask(&[b"A"], first, last), expected, "{first} to {last}");
+        let other = if first > last { 17 } else { 0 };
+        assert_eq!(ask(&[b"B"], first, last), other, "{first} to {last}");
+    }
+}
+
+/// A sum that is no count is met in every window of the partitions read, in the stretch or not.
+#[test]
+fn sums_outside_the_stretch_are_counts_too() {
+    let list = |count| part(0, vec![(0, 9, count), (0, 5, 1), (1, 20, 1)]);
+    let probe = card_of(vec![list(32_767), list(1)]);
+    for (first, last) in [(5, 5), (6, 8), (10, 20), (20, 20), (1, 65_535)] {
+        let stretch = Stretch { first, last };
+        assert_eq!(outcome(&probe, &query_in(&[b"A"], stretch)), 3);
+        assert_eq!(outcome(&probe, &query_in(&[b"B"], stretch)), 0);
+    }
+    for (first, last) in [(1, 4), (21, 65_535), (0, 0)] {
+        let stretch = Stretch { first, last };
+        assert_eq!(outcome(&probe, &query_in(&[b"A"], stretch)), 0);
+    }
+    // The buffer is always read.
+    let mut probe = card_of(vec![list(32_767)]);
+    probe.state.buffer.postings[1] = second::state::Posting {
+        id: 0,
+        window: 9,
+        count: 1,
+    };
+    probe.state.buffer.used = 2;
+    for (first, last, expected) in [(6, 8, 3), (21, 30, 0), (1, 4, 0)] {
+        let stretch = Stretch { first, last };
+        assert_eq!(outcome(&probe, &query_in(&[b"A"], stretch)), expected);
+    }
+}
+
+#[test]
+fn a_query_sums_all_that_it_names() {
+    let probe = sums(&[32_767, 1], 0);
     let sixth: [&[u8]; 6] = [b"B", b"C", b"D", b"X", b"Y", b"A"];
     assert_eq!(outcome(&probe, &query(&sixth)), 3);
     assert_eq!(outcome(&probe, &query(&sixth[..5])), 0);
@@ -360,7 +523,7 @@ fn a_query_uses_the_lists_of_all_that_it_names() {
     assert_eq!(outcome(&probe, &query(&[b"B", b"B"])), 14);
     assert_eq!(outcome(&probe, &query(&[b"", b"A"])), 3);
     assert_eq!(outcome(&probe, &query(&[b"", b"B"])), 4);
-    let no_places = Call::Query(vec![b"A".to_vec()], 0);
+    let no_places = Call::Query(vec![b"A".to_vec()], Stretch::ALL, 0);
     assert_eq!(outcome(&probe, &no_places), 3);
 }
 
@@ -445,7 +608,7 @@ fn pairs_must_be_left() {
 }
 
 /// The second block of the output serves a finished partition as well. Its
-/// lists are not used, so that nothing else can be wrong with it.
+/// lists are not read, so that nothing else can be wrong with it.
 #[test]
 fn the_output_lies_in_no_finished_partition() {
     let mut probe = in_progress_after(Some(part(
@@ -455,7 +618,11 @@ fn the_output_lies_in_no_finished_partition() {
     assert_eq!(probe.state.merge.first, 10);
     assert_eq!(outcome(&probe, &Call::Step), 0);
     put(&mut probe, 0, CONTENT, 11);
-    assert_eq!(outcome(&probe, &query(&[b"A"])), 0);
+    let passing_it_over = Stretch {
+        first: 1201,
+        last: 1600,
+    };
+    assert_eq!(outcome(&probe, &query_in(&[b"A"], passing_it_over)), 0);
     assert_eq!(outcome(&probe, &Call::Step), 3);
 }
 

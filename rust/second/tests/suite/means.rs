@@ -330,22 +330,24 @@ fn changed(offset: usize, value: u32) -> Probe {
     probe
 }
 
+/// A mean reads what a query over all windows reads: every list, of every identifier.
 #[test]
-fn only_lists_of_the_identifier_count() {
+fn lists_of_every_identifier_count() {
     assert_eq!(told(&lists(), b"A"), Ok((3, 0, 2)));
     assert_eq!(told(&lists(), b"B"), Ok((1, 0, 2)));
-    // The window of the next one; no count; window 0.
-    for value in [0x0005_0005, 0x0009_0000, 0x0000_0005] {
-        let probe = changed(56, value);
-        assert_eq!(told(&probe, b"A"), Err(3), "{value:x}");
-        assert_eq!(told(&probe, b"B"), Ok((1, 0, 2)), "{value:x}");
-        assert_eq!(told(&probe, b"C"), Err(15), "{value:x}");
-        assert_eq!(told(&probe, b"X"), Err(15), "{value:x}");
-        assert_eq!(told(&probe, b""), Err(4), "{value:x}");
+    let cases = [
+        changed(56, 0x0005_0005), // of A, the window of the next one
+        changed(56, 0x0009_0000), // no count
+        changed(56, 0x0000_0005), // window 0
+        changed(68, 0x0003_0000), // of B, no count
+        changed(68, 0x0002_0001), // a window below the lowest of the record
+        changed(56, 0x000a_0005), // one above the highest
+    ];
+    for (place, probe) in cases.iter().enumerate() {
+        for name in [&b"A"[..], b"B", b"C", b"X", b""] {
+            assert_eq!(told(probe, name), Err(3), "{place}: {name:?}");
+        }
     }
-    let probe = changed(68, 0x0003_0000);
-    assert_eq!(told(&probe, b"A"), Ok((3, 0, 2)));
-    assert_eq!(told(&probe, b"B"), Err(3));
 }
 
 /// Header, entries, chains and register count for every identifier, also for one
@@ -359,7 +361,8 @@ fn what_is_read_comes_before_the_identifier() {
     };
     let cases = [
         changed(0, 3),              // another number of identifiers
-        changed(24, 1),             // a field that is not zero
+        changed(24, 1),             // another lowest window
+        changed(28, 8),             // another highest window
         changed(44, 0),             // entries that do not ascend
         changed(36, 1),             // lists that do not follow each other
         changed(BLOCK - 4, 0),      // a chain that does not end

@@ -3,7 +3,7 @@
 
 use crate::calls::mean_of;
 use crate::damage::{PLAN, any_name, damage};
-use crate::history::{act, any_list};
+use crate::history::{act, any_list, any_stretch};
 use crate::image::{decode, walk};
 use crate::rng::Rng;
 use crate::together;
@@ -14,6 +14,7 @@ use second::ledger::account::Entry;
 use second::ledger::{count_weight, rarity_weight};
 use second::refusal::Refusal;
 use second::state::{Hit, State};
+use second::stretch::Stretch;
 use std::cmp::Reverse;
 use std::collections::{BTreeMap, BTreeSet};
 
@@ -28,8 +29,16 @@ fn buffered(state: &State) -> Vec<Entry> {
 
 /// All postings of a well-formed card.
 fn on_card(probe: &Probe) -> Vec<Entry> {
+    read_on_card(probe, Stretch::ALL)
+}
+
+/// The postings of the partitions that a query over a stretch reads.
+fn read_on_card(probe: &Probe, stretch: Stretch) -> Vec<Entry> {
     let mut entries = Vec::new();
     for record in probe.state.partitions.to_list() {
+        if stretch.first > record.highest || stretch.last < record.lowest {
+            continue;
+        }
         let count = record.length.div_ceil(4092) as usize;
         let blocks = walk(&probe.card, record.first.into(), count);
         entries.extend(decode(&probe.card, &blocks));
@@ -39,7 +48,12 @@ fn on_card(probe: &Probe) -> Vec<Entry> {
 
 /// All postings of a well-formed card and the buffer.
 fn all_entries(probe: &Probe) -> Vec<Entry> {
-    [buffered(&probe.state), on_card(probe)].concat()
+    read_entries(probe, Stretch::ALL)
+}
+
+/// The postings that a query over a stretch reads.
+fn read_entries(probe: &Probe, stretch: Stretch) -> Vec<Entry> {
+    [buffered(&probe.state), read_on_card(probe, stretch)].concat()
 }
 
 fn sums(entries: &[Entry]) -> Sums {
@@ -70,43 +84,45 @@ fn open_on_card(probe: &Probe, ids: &BTreeSet<Vec<u8>>) -> bool {
     entries.any(|entry| of_open(&entry) && numbers.contains(&entry.0))
 }
 
-/// All postings of the identifiers.
-fn entries_of(probe: &Probe, ids: &BTreeSet<Vec<u8>>) -> Vec<Entry> {
-    let numbers = numbers(probe, ids);
-    let mut entries = all_entries(probe);
-    entries.retain(|entry| numbers.contains(&entry.0));
-    entries
-}
-
-/// The sums above 0 of closed windows.
-fn closed_sums(probe: &Probe, entries: &[Entry]) -> Sums {
+/// The sums above 0 of closed windows of a stretch.
+fn shown_sums(probe: &Probe, entries: &[Entry], stretch: Stretch) -> Sums {
     let open = u32::from(probe.state.windows.open);
+    let inside = u32::from(stretch.first)..=u32::from(stretch.last);
     let mut sums = sums(entries);
-    sums.retain(|pair, sum| pair.1.0 != open && *sum > 0);
+    sums.retain(|pair, sum| pair.1.0 != open && inside.contains(&pair.1.0) && *sum > 0);
     sums
 }
 
 /// The sum of an identifier's counts above 0 in closed windows, and how many these are.
 fn plain_mean(probe: &Probe, id: &[u8]) -> (i64, usize) {
-    let entries = entries_of(probe, &BTreeSet::from([id.to_vec()]));
-    let sums = closed_sums(probe, &entries);
+    let numbers = numbers(probe, &BTreeSet::from([id.to_vec()]));
+    let mut sums = shown_sums(probe, &all_entries(probe), Stretch::ALL);
+    sums.retain(|pair, _| numbers.contains(&pair.0));
     (sums.values().sum(), sums.len())
 }
 
-/// The ranked closed windows and the postings taken up.
-fn plain_query(probe: &Probe, ids: &BTreeSet<Vec<u8>>) -> (Vec<(u32, u32)>, usize) {
-    let entries = entries_of(probe, ids);
-    let sums = closed_sums(probe, &entries);
-    let live = probe.state.windows.live.into();
+/// The ranked closed windows of a stretch and the postings taken up.
+fn plain_query(
+    probe: &Probe,
+    ids: &BTreeSet<Vec<u8>>,
+    stretch: Stretch,
+) -> (Vec<(u32, u32)>, usize) {
+    let numbers = numbers(probe, ids);
+    let entries = read_entries(probe, stretch);
+    let sums = shown_sums(probe, &entries, stretch);
+    let live: BTreeSet<u32> = sums.keys().map(|pair| pair.1.0).collect();
     let mut scores: BTreeMap<u32, u32> = BTreeMap::new();
     for (&(id, Reverse(window)), &count) in &sums {
-        let with = sums.keys().filter(|pair| pair.0 == id).count();
-        let weight = count_weight(count as u32) * rarity_weight(live, with as u32);
-        *scores.entry(window).or_insert(0) += weight;
+        if numbers.contains(&id) {
+            let with = sums.keys().filter(|pair| pair.0 == id).count();
+            let rarity = rarity_weight(live.len() as u32, with as u32);
+            *scores.entry(window).or_insert(0) += count_weight(count as u32) * rarity;
+        }
     }
     let mut ranked: Vec<(u32, u32)> = scores.into_iter().collect();
     ranked.sort_by_key(|&(window, score)| Reverse((score, window)));
-    (ranked, entries.len())
+    let taken = entries.iter().filter(|entry| numbers.contains(&entry.0));
+    (ranked, taken.count())
 }
 
 /// The buffer after windows are taken out in their order, and how many
@@ -135,6 +151,8 @@ fn plain_removals(probe: &Probe, windows: &[u32]) -> (Vec<Entry>, usize) {
 #[derive(Default)]
 struct Done {
     queries: usize,
+    /// Queries that passed a partition over.
+    passing: usize,
     /// Queries while partitions held postings of the open window.
     of_open: usize,
     means: usize,
@@ -165,14 +183,18 @@ fn compare(probe: &Probe, rng: &mut Rng, done: &mut Done) {
     let ids: Vec<&[u8]> = names.iter().map(|name| &name[..]).collect();
     let mut hits = vec![Hit::default(); 1 + rng.below(32)];
     let (card, register) = (&probe.card, &probe.register);
-    let found = engine::query(&probe.state, card, register, &ids, &mut hits);
+    let stretch = any_stretch(rng, probe.state.windows.last);
+    let found = engine::query(&probe.state, card, register, &ids, stretch, &mut hits);
     if let Ok(found) = found {
-        let (ranked, taken) = plain_query(probe, &names);
+        let (ranked, taken) = plain_query(probe, &names, stretch);
         let listed = ranked.len().min(hits.len());
         assert_eq!((found.hits as usize, found.taken as usize), (listed, taken));
         let list = hits.iter().map(|hit| (hit.window.into(), hit.score));
         assert!(list.take(listed).eq(ranked.into_iter().take(listed)));
         done.queries += 1;
+        let records = probe.state.partitions.to_list();
+        let is_passing = records.iter().any(|record| stretch.passes_over(record));
+        done.passing += usize::from(is_passing);
         done.of_open += usize::from(open_on_card(probe, &names));
     }
     for id in ids {
@@ -193,7 +215,7 @@ fn compare(probe: &Probe, rng: &mut Rng, done: &mut Done) {
 fn well_formed_damage_is_read_as_it_stands() {
     let mut rng = Rng(31);
     let mut done = Done::default();
-    for _ in 0..6 {
+    for _ in 0..8 {
         let mut twin = Twin::new(PLAN.blocks, PLAN.entries);
         for _ in 0..1000 {
             act(&mut twin, &mut rng, &PLAN);
@@ -206,15 +228,16 @@ fn well_formed_damage_is_read_as_it_stands() {
     }
     let Done {
         queries,
+        passing,
         of_open,
         means,
         uncounted,
         removals,
     } = done;
     println!(
-        "Well-formed damage: {queries} queries, {of_open} of an open window on the card, {means} means, {uncounted} of none, {removals} removals"
+        "Well-formed damage: {queries} queries, {passing} past a partition, {of_open} of an open window on the card, {means} means, {uncounted} of none, {removals} removals"
     );
-    assert!(queries > 1000 && of_open > 200 && removals > 200);
+    assert!(queries > 1000 && passing > 300 && of_open > 200 && removals > 200);
     assert!(means > 1000 && uncounted > 200);
 }
 

@@ -60,7 +60,12 @@ fn records(state: &mut State, counts: [usize; 6]) {
     for (below, count) in counts.into_iter().enumerate() {
         for _ in 0..count {
             let place = usize::from(state.partitions.used);
-            state.partitions.records[place].level = 5 - below as u16;
+            state.partitions.records[place] = Partition {
+                level: 5 - below as u16,
+                lowest: 1,
+                highest: 1,
+                ..Partition::default()
+            };
             state.partitions.used += 1;
         }
     }
@@ -81,7 +86,7 @@ fn shut(state: &mut State) {
     state.buffer = Default::default();
 }
 
-const BROKEN: [Change; 51] = [
+const BROKEN: [Change; 56] = [
     ("card of 3 blocks", |s| s.lengths.card = 3 * 4096),
     ("card of 4097 blocks", |s| s.lengths.card = 4097 * 4096),
     ("card of a part of a block", |s| s.lengths.card += 1),
@@ -178,6 +183,18 @@ const BROKEN: [Change; 51] = [
     ("longer than the card", |s| {
         s.partitions.records[0].length = 64 * 4092 + 1
     }),
+    ("lowest window 0", |s| s.partitions.records[7].lowest = 0),
+    ("lowest and highest window 0", |s| {
+        (
+            s.partitions.records[0].lowest,
+            s.partitions.records[0].highest,
+        ) = (0, 0)
+    }),
+    ("highest window 0", |s| s.partitions.records[0].highest = 0),
+    ("lowest above the highest", |s| {
+        s.partitions.records[3].lowest = s.partitions.records[3].highest + 1
+    }),
+    ("lowest 65535", |s| s.partitions.records[7].lowest = 65_535),
     ("taken beyond the card", |s| s.taken = 64),
     ("record of no merge", |s| s.merge.steps = 0),
     ("merge of nothing due", |s| {
@@ -186,7 +203,7 @@ const BROKEN: [Change; 51] = [
     }),
 ];
 
-const KEPT: [Change; 27] = [
+const KEPT: [Change; 30] = [
     ("as it is", |_| ()),
     ("card of 4096 blocks", |s| s.lengths.card = 4096 * 4096),
     ("register of 1 entry", |s| s.lengths.register = 65),
@@ -233,6 +250,16 @@ const KEPT: [Change; 27] = [
     ("any block", |s| s.partitions.records[3].first = 65_535),
     ("no length", |s| s.partitions.records[3].length = 0),
     ("whole card", |s| s.partitions.records[3].length = 64 * 4092),
+    ("lowest 1", |s| s.partitions.records[7].lowest = 1),
+    ("highest 65535", |s| {
+        s.partitions.records[3].highest = 65_535
+    }),
+    ("lowest and highest 65535", |s| {
+        (
+            s.partitions.records[3].lowest,
+            s.partitions.records[3].highest,
+        ) = (65_535, 65_535)
+    }),
     ("taken 63", |s| s.taken = 63),
     ("any output", |s| {
         (s.merge.first, s.merge.length) = (65_535, u32::MAX)
@@ -296,6 +323,8 @@ fn places_past_the_used_are_zeros() {
         dirty(&|state| state.partitions.records[place] = Partition { first: 1, ..zero });
         dirty(&|state| state.partitions.records[place] = Partition { level: 1, ..zero });
         dirty(&|state| state.partitions.records[place] = Partition { length: 1, ..zero });
+        dirty(&|state| state.partitions.records[place] = Partition { lowest: 1, ..zero });
+        dirty(&|state| state.partitions.records[place] = Partition { highest: 1, ..zero });
     }
 }
 

@@ -424,7 +424,8 @@ fn the_whole_card_is_read_for_every_list() {
     }
     let changes = [
         (0, 3),            // another number of identifiers
-        (24, 1),           // a field that is not zero
+        (24, 1),           // another lowest window
+        (28, 8),           // another highest window
         (44, 0),           // entries that do not ascend
         (36, 1),           // lists that do not follow each other
         (BLOCK - 4, 0),    // a chain that does not end

@@ -11,6 +11,7 @@ use second::ledger::Ledger;
 use second::ledger::account::{Due, Entry, Part};
 use second::refusal::Refusal;
 use second::state::{Hit, MergeJob, Partition, State};
+use second::stretch::Stretch;
 use std::collections::{BTreeMap, BTreeSet};
 use std::fmt::Debug;
 
@@ -32,6 +33,9 @@ struct Before {
     parts: usize,
     steps: usize,
 }
+
+/// What a query answers: window and score of each hit, and the postings taken.
+pub type Found = Result<(Vec<(u32, u32)>, usize), u8>;
 
 /// What a place in a list of hits holds before a query.
 fn marker(place: usize) -> Hit {
@@ -130,10 +134,22 @@ impl Twin {
         result
     }
 
-    /// Answers the hits and the postings taken.
-    pub fn query(&mut self, ids: &[&[u8]], places: usize) -> Result<(Vec<(u32, u32)>, usize), u8> {
+    /// Answers the hits over all windows and the postings taken.
+    pub fn query(&mut self, ids: &[&[u8]], places: usize) -> Found {
+        self.query_in(ids, Stretch::ALL, places)
+    }
+
+    /// Answers the hits of a stretch and the postings taken.
+    pub fn query_in(&mut self, ids: &[&[u8]], stretch: Stretch, places: usize) -> Found {
         let mut hits: Vec<Hit> = (0..places).map(marker).collect();
-        let engine = engine::query(&self.state, &self.card, &self.register, ids, &mut hits);
+        let engine = engine::query(
+            &self.state,
+            &self.card,
+            &self.register,
+            ids,
+            stretch,
+            &mut hits,
+        );
         let listed = engine.map_or(0, |found| usize::from(found.hits));
         let kept = (listed..places).all(|place| hits[place] == marker(place));
         assert!(kept, "places beyond the last hit");
@@ -142,10 +158,12 @@ impl Twin {
             .map(|hit| (hit.window.into(), hit.score))
             .collect();
         let engine = engine.map(|found| (list, found.taken as usize));
-        let ledger = self.ledger.query(ids, places);
+        let windows = u32::from(stretch.first)..=u32::from(stretch.last);
+        let ledger = self.ledger.query(ids, windows, places);
         let ledger = ledger.map(|reply| (reply.hits, reply.taken));
         if let Ok((hits, _)) = &ledger {
             self.see_reading("queries", ids);
+            self.see_stretch(stretch, !hits.is_empty());
             let mut pairs = hits.windows(2);
             if pairs.any(|pair| pair[0].1 > 0 && pair[0].1 == pair[1].1) {
                 self.tally.see("queries with equal scores above 0");
@@ -373,6 +391,43 @@ impl Twin {
         }
         let level = due.result.level;
         self.tally.see(&format!("merges to level {level}"));
+    }
+
+    /// Notes what a stretch leaves out and what it finds.
+    fn see_stretch(&mut self, stretch: Stretch, has_hits: bool) {
+        let records = self.state.partitions.to_list();
+        let passed = records.iter().filter(|record| stretch.passes_over(record));
+        let passed = passed.count();
+        let is_cut = |record: &&Partition| {
+            let edges = [record.lowest, record.highest];
+            !stretch.passes_over(record) && edges.iter().any(|&window| !stretch.has(window))
+        };
+        let spans = |record: &&Partition| {
+            !stretch.has(record.lowest) && !stretch.has(record.highest) && is_cut(record)
+        };
+        let sights = [
+            ("past a partition", passed > 0),
+            ("past all partitions", passed > 0 && passed == records.len()),
+            ("past some partitions", passed > 0 && passed < records.len()),
+            ("inside a partition", records.iter().any(|it| is_cut(&it))),
+            ("within a partition", records.iter().any(|it| spans(&it))),
+            ("of a part with hits", stretch != Stretch::ALL && has_hits),
+            ("past a partition with hits", passed > 0 && has_hits),
+            (
+                "of one window",
+                stretch.first == stretch.last && stretch.first > 0,
+            ),
+            ("of no window", stretch.last == 0),
+            (
+                "during a merge",
+                passed > 0 && self.ledger.account.steps > 0,
+            ),
+        ];
+        for (sight, is_seen) in sights {
+            if is_seen {
+                self.tally.see(&format!("stretches {sight}"));
+            }
+        }
     }
 
     fn see_mean(&mut self, identifier: &[u8], answer: Result<(u32, u32, u32), u8>) {

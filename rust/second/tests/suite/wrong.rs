@@ -5,6 +5,7 @@ use second::engine;
 use second::faults::Fault;
 use second::refusal::Refusal;
 use second::state::Hit;
+use second::stretch::Stretch;
 use second::wrong;
 use std::collections::BTreeSet;
 
@@ -28,8 +29,19 @@ pub fn probe((blocks, entries): (usize, usize)) -> Probe {
     }
 }
 
-/// A query of a wrong engine, or of the right one. Places beyond the last hit must stay.
+/// A query of a wrong engine over all windows, or of the right one.
 pub fn ask(fault: Option<Fault>, probe: &Probe, ids: &[&[u8]], places: usize) -> Answer {
+    ask_in(fault, probe, ids, Stretch::ALL, places)
+}
+
+/// The same over a stretch. Places beyond the last hit must stay.
+pub fn ask_in(
+    fault: Option<Fault>,
+    probe: &Probe,
+    ids: &[&[u8]],
+    stretch: Stretch,
+    places: usize,
+) -> Answer {
     let untouched = Hit {
         window: 0xabcd,
         score: 0xdead_beef,
@@ -37,8 +49,8 @@ pub fn ask(fault: Option<Fault>, probe: &Probe, ids: &[&[u8]], places: usize) ->
     let mut hits = vec![untouched; places];
     let (state, card, register) = (&probe.state, &probe.card, &probe.register);
     let found = match fault {
-        Some(fault) => wrong::query(fault, state, card, register, ids, &mut hits),
-        None => engine::query(state, card, register, ids, &mut hits),
+        Some(fault) => wrong::query(fault, state, card, register, ids, stretch, &mut hits),
+        None => engine::query(state, card, register, ids, stretch, &mut hits),
     };
     let listed = found.map_or(0, |found| usize::from(found.hits));
     assert!(hits[listed..].iter().all(|hit| *hit == untouched));
@@ -63,26 +75,40 @@ fn done(result: Result<(), u8>) -> String {
     result.map_or_else(|number| format!("!{number}"), |()| "0".to_string())
 }
 
-/// Obeys a line as the program does, but prints the lines of an answer in one.
+/// Obeys a line as the program does, but prints the lines of an answer in one. A line that the program has not
+/// asks over a stretch: S, its first and last window, and then as Q goes on.
 pub fn obey(fault: Option<Fault>, probe: &mut Probe, line: &str) -> String {
     let fields: Vec<&str> = line.split(' ').collect();
     match (fault, &fields[..]) {
         (Some(fault), ["E", id]) => done(count(fault, probe, id.as_bytes())),
         (Some(fault), ["M"]) => done(step(fault, probe)),
-        (Some(_), ["Q", places, ids @ ..]) => {
-            let ids: Vec<&[u8]> = ids.iter().map(|id| id.as_bytes()).collect();
-            match ask(fault, probe, &ids, places.parse().unwrap()) {
-                Ok((hits, taken)) => {
-                    let first = format!("{} {taken}", hits.len());
-                    let hits = hits
-                        .iter()
-                        .map(|(window, score)| format!(", {window} {score}"));
-                    first + &hits.collect::<String>()
-                }
-                Err(number) => format!("!{number}"),
-            }
+        (Some(_), ["Q", places, ids @ ..]) => answer(fault, probe, Stretch::ALL, places, ids),
+        (_, ["S", first, last, places, ids @ ..]) => {
+            let [first, last] = [first, last].map(|window| window.parse().unwrap());
+            answer(fault, probe, Stretch { first, last }, places, ids)
         }
         _ => probe.obey(line.as_bytes()).trim_end().replace('\n', ", "),
+    }
+}
+
+/// What a query answers, in one line.
+fn answer(
+    fault: Option<Fault>,
+    probe: &Probe,
+    stretch: Stretch,
+    places: &str,
+    ids: &[&str],
+) -> String {
+    let ids: Vec<&[u8]> = ids.iter().map(|id| id.as_bytes()).collect();
+    match ask_in(fault, probe, &ids, stretch, places.parse().unwrap()) {
+        Ok((hits, taken)) => {
+            let first = format!("{} {taken}", hits.len());
+            let hits = hits
+                .iter()
+                .map(|(window, score)| format!(", {window} {score}"));
+            first + &hits.collect::<String>()
+        }
+        Err(number) => format!("!{number}"),
     }
 }
 
@@ -121,11 +147,16 @@ fn names_and_sentences_differ() {
         "rounded-quotient",
         "read-output",
         "forgotten-buffer",
+        "lowest-alone",
+        "last-list-highest",
+        "taken-outside",
+        "live-outside",
+        "frequency-outside",
     ];
     assert_eq!(Fault::ALL.map(Fault::name), names);
     assert_eq!(names.map(Fault::named), Fault::ALL.map(Some));
     let sentences: BTreeSet<&str> = Fault::ALL.map(Fault::sentence).into();
-    assert_eq!(sentences.len(), 8);
+    assert_eq!(sentences.len(), 13);
     for name in ["", "cut", "cut-identifiers ", "CutIdentifiers"] {
         assert_eq!(Fault::named(name), None);
     }
@@ -235,10 +266,10 @@ fn dropped_negatives() {
     let before = format!("{}, R 1, F{seven}, Q 4 LUCKY", merged_once());
     assert_eq!(last(None, &large, &before), "0 2");
     assert_eq!(last(dropped, &large, &before), "0 2");
-    // The merge has 8 pairs. One window of 14 weighs 60.
+    // The merge has 8 pairs. Window 1 is back: one window of 15 weighs 62.
     let after = format!("{}, R 1, F{seven}, M, Q 4 LUCKY", merged_once());
     assert_eq!(last(None, &large, &after), "0 2");
-    assert_eq!(last(dropped, &large, &after), "1 1, 1 960");
+    assert_eq!(last(dropped, &large, &after), "1 1, 1 992");
     // The removal lies in the same merge as the window.
     let six = ", O, E TILT, C, F".repeat(6);
     let same = format!("O, E LUCKY, C, F, R 1, F{six}, M, Q 4 LUCKY");
@@ -254,7 +285,7 @@ fn dropped_negatives_of_a_whole_merge() {
     let removals: String = (1..=8).map(|window| format!(", R {window}, F")).collect();
     let history = format!("{windows}{removals}, M, Q 2 LUCKY");
     assert_eq!(last(None, &probe(LARGE), &history), "0 16");
-    // N is 0, so they weigh nothing.
+    // All windows have it, so they weigh nothing.
     assert_eq!(last(dropped, &probe(LARGE), &history), "2 8, 8 0, 7 0");
     let history = format!("{windows}{removals}, M, M");
     assert_eq!(last(None, &probe(LARGE), &history), "!13");
@@ -319,10 +350,10 @@ fn read_output() {
     hides(&[read], &format!("{windows}, Q 1 A"), "1 8, 8 256");
     hides(&[read], &format!("{windows}, M, M, Q 1 A"), "1 8, 8 256");
     // Window 8 is removed, but its output remains. Seven windows of fifteen weigh
-    // 62 - 44, eight weigh 62 - 48.
+    // 62 - 44, eight of sixteen 64 - 48.
     let removed = format!("{windows}, M, R 8, Q 8 A");
     let right = "7 9, 7 288, 6 288, 5 288, 4 288, 3 288, 2 288, 1 288";
-    let wrong = "8 17, 7 350, 6 350, 5 350, 4 350, 3 350, 2 350, 1 350, 8 224";
+    let wrong = "8 17, 7 400, 6 400, 5 400, 4 400, 3 400, 2 400, 1 400, 8 256";
     tells(read, &removed, right, wrong);
 }
 
@@ -331,13 +362,135 @@ fn forgotten_buffer() {
     let forgotten = Fault::ForgottenBuffer;
     tells(forgotten, "O, E LUCKY, C, Q 1 LUCKY", "1 1, 1 0", "0 0");
     hides(&[forgotten], "O, E LUCKY, C, F, Q 1 LUCKY", "1 1, 1 0");
-    // The removal is in the buffer. One window of one weighs nothing.
+    // The removal is in the buffer. One window of two weighs 16.
     let removed = "O, E LUCKY, C, O, E TILT, C, F, R 1";
     tells(
         forgotten,
         &format!("{removed}, Q 1 LUCKY"),
         "0 2",
-        "1 1, 1 0",
+        "1 1, 1 256",
     );
     hides(&[forgotten], &format!("{removed}, F, Q 1 LUCKY"), "0 2");
+}
+
+/// Three partitions: LUCKY in windows 1 and 2, LUCKY in 3, TILT in 4 and 5 and LUCKY in 4.
+const THREE: &str =
+    "O, E LUCKY, C, O, E LUCKY, C, F, O, E LUCKY, C, F, O, E LUCKY, E TILT, C, O, E TILT, C, F";
+
+#[test]
+fn lowest_alone() {
+    let lowest = Fault::LowestAlone;
+    // Windows 2 to 4 all have it. Window 2 lies in a partition that begins with window 1.
+    let inside = format!("{THREE}, S 2 4 5 LUCKY");
+    tells(lowest, &inside, "3 4, 4 0, 3 0, 2 0", "2 2, 4 0, 3 0");
+    // The stretch begins where partitions begin.
+    hides(
+        &[lowest],
+        &format!("{THREE}, S 3 4 5 LUCKY"),
+        "2 2, 4 0, 3 0",
+    );
+    hides(
+        &[lowest],
+        &format!("{THREE}, S 1 2 5 LUCKY"),
+        "2 2, 2 0, 1 0",
+    );
+    // The buffer has no lowest window to go by.
+    let buffered = THREE.replace(", F", "");
+    hides(
+        &[lowest],
+        &format!("{buffered}, S 2 4 5 LUCKY"),
+        "3 4, 4 0, 3 0, 2 0",
+    );
+}
+
+#[test]
+fn last_list_highest() {
+    let last = Fault::LastListHighest;
+    // One partition: LUCKY in windows 2 and 1, and TILT, whose list is the last, in window 1 alone.
+    let one = "O, E LUCKY, E TILT, C, O, E LUCKY, C, F";
+    tells(last, &format!("{one}, S 2 2 5 LUCKY"), "1 2, 2 0", "0 0");
+    hides(&[last], &format!("{one}, S 1 2 5 LUCKY"), "2 2, 2 0, 1 0");
+    // In the third partition the last list reaches as far as the others.
+    hides(&[last], &format!("{THREE}, S 5 5 5 LUCKY TILT"), "1 3, 5 0");
+}
+
+#[test]
+fn taken_outside() {
+    let taken = Fault::TakenOutside;
+    let beyond = format!("{THREE}, S 3 4 5 LUCKY");
+    tells(taken, &beyond, "2 2, 4 0, 3 0", "2 4, 4 0, 3 0");
+    tells(taken, &format!("{THREE}, S 1 3 5 TILT"), "0 0", "0 2");
+    // The partitions that are passed over have nothing of it.
+    hides(&[taken], &format!("{THREE}, S 4 5 5 TILT"), "2 2, 5 0, 4 0");
+    tells(
+        taken,
+        &format!("{THREE}, S 1 3 5 TILT LUCKY"),
+        "3 3, 3 0, 2 0, 1 0",
+        "3 6, 3 0, 2 0, 1 0",
+    );
+    // None is passed over.
+    hides(
+        &[taken],
+        &format!("{THREE}, S 2 4 5 LUCKY"),
+        "3 4, 4 0, 3 0, 2 0",
+    );
+}
+
+#[test]
+fn live_outside() {
+    let live = Fault::LiveOutside;
+    // Windows 4 and 5 both have it: two of two weigh nothing, two of five 37 - 16.
+    let tilt = format!("{THREE}, S 4 5 5 TILT");
+    tells(live, &tilt, "2 2, 5 0, 4 0", "2 2, 5 336, 4 336");
+    // All windows are inside.
+    hides(
+        &[live],
+        &format!("{THREE}, S 1 5 5 TILT"),
+        "2 2, 5 336, 4 336",
+    );
+    hides(
+        &[live],
+        &format!("{THREE}, S 0 6 5 TILT"),
+        "2 2, 5 336, 4 336",
+    );
+}
+
+#[test]
+fn frequency_outside() {
+    let outside = Fault::FrequencyOutside;
+    // Of windows 4 and 5 one has it: 16. Windows 1 to 3 are passed over, so that they do not count.
+    hides(&[outside], &format!("{THREE}, S 4 5 5 LUCKY"), "1 1, 4 256");
+    // Window 1 lies beside window 2. Three of four have it, which weighs 32 - 25; with it four of four, which weigh nothing.
+    let beside = format!("{THREE}, S 2 5 5 LUCKY");
+    tells(
+        outside,
+        &beside,
+        "3 4, 4 112, 3 112, 2 112",
+        "3 4, 4 0, 3 0, 2 0",
+    );
+    hides(
+        &[outside],
+        &format!("{THREE}, S 1 5 5 LUCKY"),
+        "4 4, 4 80, 3 80, 2 80, 1 80",
+    );
+}
+
+/// Over all windows none of them shows.
+#[test]
+fn faults_of_stretches_need_a_stretch() {
+    let five: Vec<Fault> = Fault::ALL
+        .into_iter()
+        .filter(|it| it.needs_stretch())
+        .collect();
+    assert_eq!(five.len(), 5);
+    hides(
+        &five,
+        &format!("{THREE}, Q 5 LUCKY"),
+        "4 4, 4 80, 3 80, 2 80, 1 80",
+    );
+    hides(
+        &five,
+        &format!("{THREE}, R 2, Q 5 LUCKY TILT"),
+        "4 7, 4 368, 5 256, 3 112, 1 112",
+    );
 }

@@ -2,29 +2,48 @@
 //! the card says of their faults.
 
 use crate::damage::PLAN;
-use crate::history::{act, name};
+use crate::history::{act, any_stretch, name};
 use crate::image::{decode, encode_unfinished, walk};
 use crate::rng::Rng;
 use crate::twin::{Twin, check_byte_rule};
-use crate::wrong::{Answer, ask, count, step};
+use crate::wrong::{Answer, ask, ask_in, count, step};
 use second::commands::Probe;
 use second::engine;
 use second::faults::Fault;
-use second::ledger::account::{Due, Entry};
+use second::ledger::account::{Due, Entry, Part};
 use second::ledger::{Ledger, count_weight, rarity_weight, sixteenths};
 use second::refusal::Refusal;
 use second::state::MergeJob;
+use second::stretch::Stretch;
 use std::cmp::Reverse;
 use std::collections::{BTreeMap, BTreeSet};
 
 /// Counts by identifier and window.
 type Counts = BTreeMap<(usize, u32), i64>;
 
-/// What the places hold of the identifiers, as the wrong engine reads them: the
-/// partitions, the oldest first, the buffer, and the output in progress.
-fn places_of(fault: Fault, ledger: &Ledger, numbers: &[usize]) -> Vec<Vec<Entry>> {
+/// Whether the wrong engine reads a partition for a query over a stretch.
+fn is_read(fault: Fault, part: &Part, stretch: Stretch) -> bool {
+    let [first, last] = [stretch.first, stretch.last].map(u32::from);
+    let windows: BTreeSet<u32> = part.entries.iter().map(|entry| entry.1).collect();
+    let (lowest, mut highest) = (*windows.first().unwrap(), *windows.last().unwrap());
+    if fault == Fault::LastListHighest {
+        let last_id = part.entries[part.entries.len() - 1].0;
+        let mut list = part.entries.iter().filter(|entry| entry.0 == last_id);
+        highest = list.next().unwrap().1;
+    }
+    match fault {
+        Fault::LowestAlone => (first..=last).contains(&lowest),
+        _ => highest >= first && lowest <= last,
+    }
+}
+
+/// What the places hold, as the wrong engine reads them: the partitions that it does not
+/// pass over, the oldest first, the buffer, and the output in progress.
+fn places_of(fault: Fault, ledger: &Ledger, stretch: Stretch) -> Vec<Vec<Entry>> {
     let account = &ledger.account;
-    let mut places: Vec<Vec<Entry>> = account.parts.iter().map(|p| p.entries.clone()).collect();
+    let parts = account.parts.iter();
+    let read = parts.filter(|part| is_read(fault, part, stretch));
+    let mut places: Vec<Vec<Entry>> = read.map(|part| part.entries.clone()).collect();
     if fault != Fault::ForgottenBuffer {
         let buffer = account.buffer.iter();
         places.push(buffer.map(|(pair, &sum)| (pair.0, pair.1.0, sum)).collect());
@@ -35,19 +54,17 @@ fn places_of(fault: Fault, ledger: &Ledger, numbers: &[usize]) -> Vec<Vec<Entry>
         output.retain(|entry| entry.2 != 0);
         places.push(output);
     }
-    for place in &mut places {
-        place.retain(|entry| numbers.contains(&entry.0));
-    }
     places
 }
 
-/// The sums above 0 of closed windows.
-fn counts_of(ledger: &Ledger, entries: impl Iterator<Item = Entry>) -> Counts {
+/// The sums above 0 of closed windows of a stretch.
+fn counts_of(ledger: &Ledger, entries: impl Iterator<Item = Entry>, stretch: Stretch) -> Counts {
     let mut counts = Counts::new();
     for (id, window, count) in entries {
         *counts.entry((id, window)).or_insert(0) += count;
     }
-    counts.retain(|pair, sum| ledger.open != Some(pair.1) && *sum > 0);
+    let inside = u32::from(stretch.first)..=u32::from(stretch.last);
+    counts.retain(|pair, sum| ledger.open != Some(pair.1) && inside.contains(&pair.1) && *sum > 0);
     counts
 }
 
@@ -82,15 +99,39 @@ fn plain_scores(counts: &Counts, weights: &BTreeMap<usize, u32>) -> Vec<(u16, u3
     ranked
 }
 
+/// N as the wrong engine counts it.
+fn plain_live(fault: Fault, ledger: &Ledger, shown: &Counts) -> u32 {
+    let windows: BTreeSet<u32> = shown.keys().map(|pair| pair.1).collect();
+    match fault {
+        Fault::LiveOutside => ledger.closed().count() as u32,
+        _ => windows.len() as u32,
+    }
+}
+
 /// What a wrong engine must answer to a query, by the ledger's account of the card.
-fn plain_query(fault: Fault, ledger: &Ledger, ids: &[&[u8]], room: usize) -> Answer {
+fn plain_query(
+    fault: Fault,
+    ledger: &Ledger,
+    ids: &[&[u8]],
+    stretch: Stretch,
+    room: usize,
+) -> Answer {
     let numbers: Vec<usize> = ids.iter().filter_map(|id| ledger.number(id)).collect();
-    let places = places_of(fault, ledger, &numbers);
+    let places = places_of(fault, ledger, stretch);
     let entries = || places.iter().flatten().copied();
-    let counts = counts_of(ledger, entries());
-    let live = ledger.closed().count() as u32;
+    let shown = counts_of(ledger, entries(), stretch);
+    let live = plain_live(fault, ledger, &shown);
+    let of_query = |mut counts: Counts| {
+        counts.retain(|pair, _| numbers.contains(&pair.0));
+        counts
+    };
+    let counts = of_query(shown);
+    let weighed = match fault {
+        Fault::FrequencyOutside => of_query(counts_of(ledger, entries(), Stretch::ALL)),
+        _ => counts.clone(),
+    };
     let weight = |&id: &usize| {
-        let with = plain_frequency(fault, &places, &counts, id);
+        let with = plain_frequency(fault, &places, &weighed, id);
         let weight = match fault {
             Fault::RoundedQuotient if (1..=live).contains(&with) => sixteenths(live / with),
             _ => rarity_weight(live, with),
@@ -100,13 +141,20 @@ fn plain_query(fault: Fault, ledger: &Ledger, ids: &[&[u8]], room: usize) -> Ans
     let weights: BTreeMap<usize, u32> = numbers.iter().map(weight).collect();
     let mut ranked = plain_scores(&counts, &weights);
     if fault == Fault::FilledFirst {
-        let above_0 = counts_of(ledger, entries().filter(|entry| entry.2 > 0));
+        let above_0 = entries().filter(|entry| entry.2 > 0);
+        let above_0 = of_query(counts_of(ledger, above_0, stretch));
         let mut filled = plain_scores(&above_0, &weights);
         filled.truncate(room);
         ranked.retain(|hit| filled.iter().any(|place| place.0 == hit.0));
     }
     ranked.truncate(room);
-    Ok((ranked, entries().count() as u32))
+    let taken_from = match fault {
+        Fault::TakenOutside => places_of(fault, ledger, Stretch::ALL),
+        _ => places.clone(),
+    };
+    let taken = taken_from.iter().flatten();
+    let taken = taken.filter(|entry| numbers.contains(&entry.0)).count();
+    Ok((ranked, taken as u32))
 }
 
 /// One to three different identifiers of a history.
@@ -117,16 +165,21 @@ fn some_names(rng: &mut Rng) -> BTreeSet<Vec<u8>> {
 
 #[test]
 fn wrong_queries_are_as_the_account_says() {
-    const QUERY_FAULTS: [Fault; 6] = [
+    const QUERY_FAULTS: [Fault; 11] = [
         Fault::AddedFrequencies,
         Fault::MendedNeighbours,
         Fault::FilledFirst,
         Fault::RoundedQuotient,
         Fault::ReadOutput,
         Fault::ForgottenBuffer,
+        Fault::LowestAlone,
+        Fault::LastListHighest,
+        Fault::TakenOutside,
+        Fault::LiveOutside,
+        Fault::FrequencyOutside,
     ];
     let mut rng = Rng(74);
-    let mut different = [0; 6];
+    let mut different = [0; 11];
     for _ in 0..6 {
         let mut twin = Twin::new(PLAN.blocks, PLAN.entries);
         for _ in 0..800 {
@@ -135,21 +188,20 @@ fn wrong_queries_are_as_the_account_says() {
             let names = some_names(&mut rng);
             let ids: Vec<&[u8]> = names.iter().map(|name| &name[..]).collect();
             let room = rng.pick(&[1, 2, 3, 5, 32]);
-            let right = ask(None, &probe, &ids, room);
+            let mut stretch = any_stretch(&mut rng, probe.state.windows.last);
+            if stretch.first > stretch.last {
+                stretch = Stretch::ALL;
+            }
+            let right = ask_in(None, &probe, &ids, stretch, room);
             for (fault, different) in QUERY_FAULTS.into_iter().zip(&mut different) {
-                let answer = ask(Some(fault), &probe, &ids, room);
-                assert_eq!(
-                    answer,
-                    plain_query(fault, &twin.ledger, &ids, room),
-                    "{fault:?}"
-                );
+                let answer = ask_in(Some(fault), &probe, &ids, stretch, room);
+                let expected = plain_query(fault, &twin.ledger, &ids, stretch, room);
+                assert_eq!(answer, expected, "{fault:?}, {stretch:?}");
                 *different += usize::from(answer != right);
             }
             // A merge that drops negative counts has no part in a query.
-            assert_eq!(
-                ask(Some(Fault::DroppedNegatives), &probe, &ids, room),
-                right
-            );
+            let dropped = ask_in(Some(Fault::DroppedNegatives), &probe, &ids, stretch, room);
+            assert_eq!(dropped, right);
         }
     }
     println!("Queries that differ: {different:?} of {}", 6 * 800);

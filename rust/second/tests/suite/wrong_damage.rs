@@ -3,11 +3,11 @@
 
 use crate::build::build;
 use crate::damage::{PLAN, any_name, damage};
-use crate::history::act;
+use crate::history::{act, any_stretch};
 use crate::malformed::{card_of, part};
 use crate::rng::Rng;
 use crate::twin::{Twin, check_byte_rule};
-use crate::wrong::{ask, count, step};
+use crate::wrong::{ask, ask_in, count, step};
 use second::commands::Probe;
 use second::engine;
 use second::faults::Fault;
@@ -15,6 +15,7 @@ use second::ledger::Ledger;
 use second::ledger::account::Entry;
 use second::refusal::Refusal;
 use second::state::Posting;
+use second::stretch::Stretch;
 
 /// Makes each call of each wrong engine; a refusal changes nothing. Gives how
 /// many calls were done.
@@ -23,10 +24,11 @@ fn bear(probe: &Probe, rng: &mut Rng) -> usize {
     let names: Vec<Vec<u8>> = (0..length).map(|_| any_name(rng)).collect();
     let ids: Vec<&[u8]> = names.iter().map(|name| &name[..]).collect();
     let room = rng.pick(&[0, 1, 2, 5, 32, 33]);
+    let stretch = any_stretch(rng, probe.state.windows.last);
     let identifier = any_name(rng);
     let mut done = 0;
     for fault in Fault::ALL {
-        done += usize::from(ask(Some(fault), probe, &ids, room).is_ok());
+        done += usize::from(ask_in(Some(fault), probe, &ids, stretch, room).is_ok());
         let mut stepped = probe.clone();
         let mut counted = probe.clone();
         let results = [
@@ -60,7 +62,7 @@ fn wrong_engines_refuse_or_bear_damage() {
             done += bear(&probe, &mut rng);
         }
     }
-    println!("Wrong calls done on damage: {done} of {}", 4 * 800 * 24);
+    println!("Wrong calls done on damage: {done} of {}", 4 * 800 * 39);
     assert!(done > 5000, "{done}");
 }
 
@@ -143,16 +145,20 @@ fn compare_steps(fault: Fault, probe: &Probe) {
 #[test]
 fn wrong_engines_refuse_no_more_than_the_right_one() {
     let mut rng = Rng(79);
-    let (mut queries, mut different) = (0, [0; 8]);
+    let (mut queries, mut different) = (0, [0; 13]);
     for _ in 0..6000 {
         let probe = any_foreign(&mut rng);
         let ids: [&[u8]; 5] = [b"A", b"B", b"C", b"D", b"X"];
         let ids = &ids[rng.below(4)..];
         let room = rng.pick(&[1, 2, 3, 8, 32]);
-        let right = ask(None, &probe, ids, room);
+        let stretch = Stretch {
+            first: rng.pick(&[0, 1, 1, 2, 4, 40, 2000, 65_535]),
+            last: rng.pick(&[0, 1, 39, 40, 1999, 65_535, 65_535]),
+        };
+        let right = ask_in(None, &probe, ids, stretch, room);
         queries += usize::from(right.is_ok());
         for (fault, different) in Fault::ALL.into_iter().zip(&mut different) {
-            let answer = ask(Some(fault), &probe, ids, room);
+            let answer = ask_in(Some(fault), &probe, ids, stretch, room);
             assert_eq!(answer.as_ref().err(), right.as_ref().err(), "{fault:?}");
             *different += usize::from(answer != right);
             let (hits, _) = answer.unwrap_or_default();
@@ -178,9 +184,11 @@ fn wrong_engines_refuse_no_more_than_the_right_one() {
 #[test]
 fn frequencies_of_postings_below_0() {
     let both = [Fault::AddedFrequencies, Fault::MendedNeighbours].map(Some);
+    // 1,499 other windows have B.
+    let others = || part(0, (2..=1500).rev().map(|window| (1, window, 1)).collect());
     let card = |counts: &[i64]| {
         let parts = counts.iter().map(|&count| part(0, vec![(0, 1, count)]));
-        card_of(parts.collect())
+        card_of([others()].into_iter().chain(parts).collect())
     };
     // A count of 2 weighs 25, and one window of 1500 weighs 168. The open window has A, too.
     for fault in [None].into_iter().chain(both) {
@@ -199,13 +207,17 @@ fn frequencies_of_postings_below_0() {
 /// A frequency that is added up may be above all window numbers.
 #[test]
 fn added_frequencies_beyond_16_bits() {
-    let mut ledger = Ledger::new(200, 5);
+    let mut ledger = Ledger::new(300, 5);
     ledger.known = vec![b"A".to_vec()];
     ledger.last = 65_535;
     let entries = || (1..=40_000).rev().map(|window| (0, window, 1)).collect();
-    ledger.account.parts = vec![part(0, entries()), part(0, entries())];
-    let mut probe = build(&ledger);
-    probe.state.windows.live = 65_535;
+    let others = (40_001..=65_535).rev().map(|window| (1, window, 1));
+    ledger.account.parts = vec![
+        part(0, entries()),
+        part(0, entries()),
+        part(0, others.collect()),
+    ];
+    let probe = build(&ledger);
     // A count of 2 weighs 25, and 40,000 windows of 65,535 weigh 255 - 244.
     let right = Ok((vec![(40_000, 275)], 80_000));
     assert_eq!(ask(None, &probe, &[b"A"], 1), right);
@@ -227,13 +239,19 @@ fn wrong_counts_are_cut_to_the_largest() {
     let first = part(0, vec![(0, 1, 32_767)]);
     let mut probe = card_of([first].into_iter().chain(others).collect());
     probe.state.merge.steps = 1;
-    // A count of 32,767 weighs 240 and one window of 1500 weighs 168. The open window has A, too.
-    let hits = vec![(1, 240 * 168)];
+    // A count of 32,767 weighs 240 and one window of 8 weighs 48. The open window has A, too.
+    let hits = vec![(1, 240 * 48)];
     assert_eq!(ask(None, &probe, &[b"A"], 2), Ok((hits.clone(), 2)));
     let wrong = ask(Some(Fault::ReadOutput), &probe, &[b"A"], 2);
     assert_eq!(wrong, Ok((hits.clone(), 3)));
-    let parts = [32_767, -32_767, 32_767].map(|count| part(0, vec![(0, 1, count)]));
-    let probe = card_of(parts.to_vec());
+    let mut parts = [32_767, -32_767, 32_767]
+        .map(|count| part(0, vec![(0, 1, count)]))
+        .to_vec();
+    parts.push(part(
+        0,
+        (2..=8).rev().map(|window| (1, window, 1)).collect(),
+    ));
+    let probe = card_of(parts);
     for fault in [None, Some(Fault::FilledFirst)] {
         assert_eq!(ask(fault, &probe, &[b"A"], 2), Ok((hits.clone(), 4)));
     }

@@ -1,11 +1,13 @@
 //! Random histories on a wrong engine and on the right one: they answer and write
 //! the same as long as the fault does not show.
 
+use crate::history::any_stretch;
 use crate::rng::Rng;
 use crate::twin::check_byte_rule;
 use crate::wrong::{LARGE, PROGRAM, obey, probe};
 use second::commands::Probe;
 use second::faults::Fault;
+use second::stretch::Stretch;
 
 /// What random histories do.
 #[derive(Clone, Copy)]
@@ -21,6 +23,8 @@ struct Habit {
     merges_whole: bool,
     /// Whether queries find the buffer empty.
     flushes_first: bool,
+    /// Whether queries are asked over a part of the windows.
+    stretches: bool,
 }
 
 /// Six short identifiers.
@@ -49,6 +53,7 @@ const ANY: Habit = Habit {
     splits: usize::MAX,
     merges_whole: false,
     flushes_first: false,
+    stretches: true,
 };
 
 /// The habit that is nearest to it and with which the fault does not show.
@@ -71,6 +76,14 @@ fn hiding(fault: Fault) -> Habit {
         },
         Fault::ForgottenBuffer => Habit {
             flushes_first: true,
+            ..ANY
+        },
+        Fault::LowestAlone
+        | Fault::LastListHighest
+        | Fault::TakenOutside
+        | Fault::LiveOutside
+        | Fault::FrequencyOutside => Habit {
+            stretches: false,
             ..ANY
         },
     }
@@ -104,7 +117,13 @@ fn next_line(rng: &mut Rng, probe: &Probe, habit: &Habit, split: usize) -> Strin
 }
 
 fn query_line(rng: &mut Rng, habit: &Habit, last: u16) -> String {
-    let mut line = format!("Q {}", rng.pick(&[0, 1, 1, 2, 3, 5, 8, 32, 33]));
+    // Drawn from a copy, so that a stretch moves nothing else of a history.
+    let mut copy = Rng(rng.0);
+    let start = match any_stretch(&mut copy, last) {
+        Stretch { first, last } if habit.stretches && copy.one_in(2) => format!("S {first} {last}"),
+        _ => "Q".to_string(),
+    };
+    let mut line = format!("{start} {}", rng.pick(&[0, 1, 1, 2, 3, 5, 8, 32, 33]));
     for _ in 0..rng.pick(&[0, 1, 1, 2, 2, 3, 5, 6]) {
         let window = 1 + rng.below(usize::from(last) + 1) as u16;
         line += &format!(" {}", (habit.names)(rng, window));
@@ -133,13 +152,14 @@ fn run(fault: Fault, habit: &Habit, rng: &mut Rng, seen: &mut Seen) {
         let before = (right.state.partitions.used, wrong.clone());
         let expected = obey(None, &mut right, &line);
         let answer = obey(Some(fault), &mut wrong, &line);
-        if answer.starts_with('!') || line.starts_with('Q') {
+        let is_query = line.starts_with(['Q', 'S']);
+        if answer.starts_with('!') || is_query {
             assert!(wrong == before.1, "{line} changed something");
         }
         check_byte_rule(&before.1.card, &wrong.card);
         seen.different += usize::from(answer != expected);
         seen.is_moved |= right != wrong;
-        seen.queries += usize::from(line.starts_with('Q') && !expected.starts_with('!'));
+        seen.queries += usize::from(is_query && !expected.starts_with('!'));
         seen.merges += usize::from(right.state.partitions.used < before.0);
         split += usize::from(right.state.partitions.used > before.0);
         if right.state.windows.open == 0 {
@@ -153,7 +173,7 @@ fn a_wrong_engine_is_right_where_its_fault_does_not_show() {
     for fault in Fault::ALL {
         let mut rng = Rng(71);
         let mut seen = Seen::default();
-        for _ in 0..12 {
+        for _ in 0..16 {
             run(fault, &hiding(fault), &mut rng, &mut seen);
         }
         assert_eq!(seen.different, 0, "{fault:?}");
@@ -168,10 +188,10 @@ fn a_wrong_engine_shows_on_random_histories() {
     for fault in Fault::ALL {
         let mut rng = Rng(72);
         let mut seen = Seen::default();
-        for _ in 0..12 {
+        for _ in 0..16 {
             run(fault, &ANY, &mut rng, &mut seen);
         }
-        println!("{}: {} lines of {}", fault.name(), seen.different, 12 * 700);
+        println!("{}: {} lines of {}", fault.name(), seen.different, 16 * 700);
         assert!(seen.different > 10, "{fault:?}: {}", seen.different);
         let moves = [Fault::CutIdentifiers, Fault::DroppedNegatives].contains(&fault);
         assert_eq!(seen.is_moved, moves, "{fault:?}");

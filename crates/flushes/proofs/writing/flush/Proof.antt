@@ -6,7 +6,7 @@ use Rattle.flushes.proofs.writing.flush.Tie as tie
 
 append-requires : tie.Need-append-requires
 append-requires c κs =
-    let s = c .before .before .before .before .before .before in
+    let s = c .before .before .before .before .before .before .before in
     let p = s .args .ps in
     let long : length (p .records) ≡ 51 = search (unmapped, needs) in
     (omega (arith, s .pre .8, length-take-le (p .used) (p .records) (omega (arith, s .pre .7))), s .pre .9 long)
@@ -14,13 +14,14 @@ append-requires c κs =
 returns : tie.Need-returns
 unfolding lengthOf
 returns c =
-    let s = c .before .before .before .before .before .before .before in
+    let s = c .before .before .before .before .before .before .before .before in
     let b = s .args .b in
     let w = c .before .before .before .before .write-counted in
+    let span = c .before .before .before .before .before .before .span-of .ensures in
     let long : length (b .postings) ≡ 128 = search (unmapped, needs) in
     let n : length (buffered b) ≡ b .used = length-take-le (b .used) (b .postings) (omega (arith, s .pre .3)) in
     let e : 32 + 12 * w .result + 4 * b .used ≡ lengthOf (buffered b) = omega (arith, w .ensures .0) in (
-      c .append .ensures ∙ ap (λ (l : ℕ). partitionsOf (finished (s .args .ps) ++ (record { first = s .args .block; level = 0; length = l } ∷ []))) e,
+      c .append .ensures ∙ rw (e, span .0, span .1),
       w .ensures .1,
     )
 
@@ -28,6 +29,7 @@ pub flush-spec : {M : Type 1} → statement M
 flush-spec =
     tie.close
     (tie.spec
+    (λ c κs. search needs)
     (λ c κs. search needs)
     (λ c. search needs)
     (λ c. search needs)

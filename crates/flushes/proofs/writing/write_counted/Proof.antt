@@ -71,7 +71,7 @@ returns c =
     let ws : take (u - 0) (t .tally .last .1 .1 .0) ≡ _ = ap (take (u - 0)) (counted .2) ∙ packed-words _ ps u n (s .pre .3) in
     let stored : words (w .last .0) ≡ store W (s .args .block ∷ []) (encode 0 ps) =
     alone-stored W (length card / 4096) (s .args .block) ps long (s .pre .1) (s .pre .2) (omega (arith, s .pre .3)) (s .pre .4) (s .pre .6)
-    _ _ _ _ _ _ _ _ (counted .0) (sym n) (counted .1) ws (link .ensures) (h .ensures) (e .ensures) (w .ensures) in
+    _ _ _ _ _ _ _ _ _ _ (counted .0) (sym n) (s .pre .7) (s .pre .8) (counted .1) ws (link .ensures) (h .ensures) (e .ensures) (w .ensures) in
     let m : length (w .last .0) % 4 ≡ 0 = omega (arith, w .kept .0, e .kept .0, h .kept .0, link .kept .0, s .pre .0) in
     (counted .0, sym (bytes-words (w .last .0) (λ i. omega (arith, c .slice-known5 .given i)) m) ∙ ap bytes stored)
 

@@ -3,9 +3,9 @@ use Rattle.lists.proofs.Prelude.{⊎-elim, _≡_, _≤_, _-_, arith, needs}
 use Rattle.words.specs.Words.{words}
 use Rattle.kway.specs.Parts.{part}
 use Rattle.kway.proofs.Parts.{all-at, views-more}
+use Rattle.kway.proofs.Leads.{Found, found-none, found-other, found-this, length-views}
 use Rattle.heads.specs.Heads.{view, Kept, views}
 use Rattle.heads.proofs.Heads.{reach-at}
-use Rattle.heads.proofs.Leads.{Found, found-none, found-other, found-this, length-views}
 use Rattle.heads.proofs.leading.leader.Statement.{statement}
 use Rattle.heads.proofs.leading.leader.Tie as tie
 

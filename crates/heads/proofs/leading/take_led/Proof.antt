@@ -5,8 +5,8 @@ use mir.Syntax.{w16, w32}
 use mir.Val.{SFits}
 use Rattle.words.specs.Words.{words}
 use Rattle.kway.proofs.Parts.{all-at, put-length}
+use Rattle.kway.proofs.Leads.{led-rests, led-kept, led-sum, led-fine, led-top, led-leads}
 use Rattle.heads.specs.Heads.{view, Kept}
-use Rattle.heads.proofs.Leads.{led-rests, led-kept, led-sum, led-fine, led-top, led-leads}
 use Rattle.heads.proofs.leading.take_led.Statement.{statement}
 use Rattle.heads.proofs.leading.take_led.Tie as tie
 
@@ -44,17 +44,17 @@ returns c =
     let sum = c .before .added .ensures ∙ +ℤ-idl _ ∙ toZ-ofZ f in (
       (
         put-length 4 H X p (omega (arith, s .pre .0)) (e .0 .four),
-        led-kept (view W R) (Kept W R) n H (s .pre .0) p (s .args .others) k (s .pre .3) (s .pre .4) h low X (e .0 .four) (e .0) (e .1),
-        led-rests (view W R) (Kept W R) n H (s .pre .0) p (s .args .others) k (s .pre .3) (s .pre .4) h low X (e .0 .four) (e .0) (e .1),
+        led-kept (view W R) (Kept W R) 4 n H (s .pre .0) p (s .args .others) k (s .pre .3) (s .pre .4) h low X (e .0 .four) (e .0) (e .1),
+        led-rests (view W R) (Kept W R) 4 n H (s .pre .0) p (s .args .others) k (s .pre .3) (s .pre .4) h low X (e .0 .four) (e .0) (e .1),
       ),
       (
         (
-          toZ-ofZ g ∙ sum ∙ e .2 ∙ sym (led-sum (view W R) (Kept W R) n H (s .pre .0) p (s .args .others) k (s .pre .3) (s .pre .4) h low X (e .0 .four) (e .0) (e .1)),
-          e .3 ∙ sym (led-fine (view W R) (Kept W R) n H (s .pre .0) p (s .args .others) k (s .pre .3) (s .pre .4) h low X (e .0 .four) (e .0) (e .1)),
-          c .larger .ensures ∙ rw (e .4) (led-top (view W R) (Kept W R) n H (s .pre .0) p (s .args .others) k (s .pre .3) (s .pre .4) h low X (e .0 .four) (e .0) (e .1)),
+          toZ-ofZ g ∙ sum ∙ e .2 ∙ sym (led-sum (view W R) (Kept W R) 4 n H (s .pre .0) p (s .args .others) k (s .pre .3) (s .pre .4) h low X (e .0 .four) (e .0) (e .1)),
+          e .3 ∙ sym (led-fine (view W R) (Kept W R) 4 n H (s .pre .0) p (s .args .others) k (s .pre .3) (s .pre .4) h low X (e .0 .four) (e .0) (e .1)),
+          c .larger .ensures ∙ rw (e .4) (led-top (view W R) (Kept W R) 4 n H (s .pre .0) p (s .args .others) k (s .pre .3) (s .pre .4) h low X (e .0 .four) (e .0) (e .1)),
           rw (toZ-ofZ g, sum) (omega (arith, f .sfits)),
         ),
-        led-leads (view W R) (Kept W R) n H (s .pre .0) p (s .args .others) k (s .pre .3) (s .pre .4) h low X (e .0 .four) (e .0) (e .1),
+        led-leads (view W R) (Kept W R) 4 n H (s .pre .0) p (s .args .others) k (s .pre .3) (s .pre .4) h low X (e .0 .four) (e .0) (e .1),
       ),
     )
 

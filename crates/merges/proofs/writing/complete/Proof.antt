@@ -13,7 +13,7 @@ write-entries-requires c κs =
     let W = words (s .args .card .now) in
     let o = s .args .o in
     let h = c .before .before .before .write-header in
-    let hs = header (s .args .level) (s .args .t .terms) (s .args .t .postings) in
+    let hs = header (s .args .level) (s .args .t .terms) (s .args .t .postings) (s .args .t .lowest) (s .args .t .highest) in
     (omega (arith, h .kept .0, s .pre .0), s .pre .1, s .pre .3, rw (h .ensures) (chained-written (chain W (o .first) (o .blocks)) W 0 hs (o .first) (o .blocks) (s .pre .4)), s .pre .5)
 
 returns : tie.Need-returns
@@ -22,7 +22,7 @@ returns c =
     let W = words (s .args .card .now) in
     let o = s .args .o in
     let h = c .before .before .before .before .before .before .write-header in
-    let hs = header (s .args .level) (s .args .t .terms) (s .args .t .postings) in
+    let hs = header (s .args .level) (s .args .t .terms) (s .args .t .postings) (s .args .t .lowest) (s .args .t .highest) in
     c .before .before .write-entries .ensures ∙ rw (h .ensures, chain-written (chain W (o .first) (o .blocks)) W 0 hs (o .first) (o .blocks))
 
 pub complete-spec : {M : Type 1} → statement M

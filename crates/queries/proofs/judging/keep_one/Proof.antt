@@ -11,7 +11,7 @@ returns c =
     let s = c .before .before .before .before .before .before .before .before .before .before in
     record {
       fine = c .before .before .judge-term .ensures;
-      keeps = λ f. keeps-full (words (s .args .card .now)) (s .args .run .now) (s .args .s) (s .args .k) _ (s .args .heads .now) (s .args .id) (c .before .before .before .before .if1 .taken) refl refl;
+      keeps = λ f. keeps-full (words (s .args .card .now)) (s .args .run .now) (s .args .s) (s .args .t) (s .args .live) (s .args .k) _ (s .args .heads .now) (s .args .id) (c .before .before .before .before .if1 .taken) refl refl;
       used = s .pre .1;
       few = s .pre .2;
     }
@@ -65,7 +65,7 @@ returns-2 c =
     let five : s .args .k .used + 1 ≤ 5 = omega (arith, c .before .before .before .before .before .before .before .before .before .before .before .before .if1 .left) in
     record {
       fine = o .ensures .fine;
-      keeps = λ f. keeps-room (words (s .args .card .now)) (s .args .run .now) (s .args .s) (s .args .k) _ (s .args .heads .now) (o .last .1 .1 .0) (s .args .id) (o .result) (omega arith) (omega (arith, e, s .pre .0 .room)) (o .ensures) f refl refl;
+      keeps = λ f. keeps-room (words (s .args .card .now)) (s .args .run .now) (s .args .s) (s .args .t) (s .args .live) (s .args .k) _ (s .args .heads .now) (o .last .1 .1 .0) (s .args .id) (o .result) (omega arith) (omega (arith, e, s .pre .0 .room)) (o .ensures) f refl refl;
       used = five;
       few = omega (arith, o .ensures .few, s .pre .2);
     }

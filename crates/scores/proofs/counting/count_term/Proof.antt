@@ -17,20 +17,20 @@ open-heads-requires c κs =
 
 judge-requires : tie.Need-judge-requires
 judge-requires c κs =
-    let s = c .before .before .before .before .before .before .before .before .before .before in
-    let o = c .before .before .before .before .open-heads .ensures in
+    let s = c .before .before .before .before .before .before .before .before .before .before .before .before in
+    let o = c .before .before .before .before .before .before .open-heads .ensures in
     let k = state-kept (s .args .s) (s .pre .0) in
     (o .long, k .partitions .used, o .ready)
 
 returns : tie.Need-returns
 returns c =
-    let s = c .before .before .before .before .before .before .before .before .before .before .before .before .before in
+    let s = c .before .before .before .before .before .before .before .before .before .before .before .before .before .before .before in
     let k = state-kept (s .args .s) (s .pre .0) in
-    let small = words-below (s .args .card .now) (λ j. omega (arith, c .before .before .before .before .before .before .before .before .before .before .before .before .shared-slice-known .given j)) in
-    let few : Below 4294967296 (s .args .run .now) = λ j. omega (arith, c .before .before .before .before .before .before .before .before .before .before .before .shared-slice-known2 .given j) in
+    let small = words-below (s .args .card .now) (λ j. omega (arith, c .before .before .before .before .before .before .before .before .before .before .before .before .before .before .shared-slice-known .given j)) in
+    let few : Below 4294967296 (s .args .run .now) = λ j. omega (arith, c .before .before .before .before .before .before .before .before .before .before .before .before .before .shared-slice-known2 .given j) in
     let rules = rule-each (s .args .s .windows) (buffered (s .args .s .buffer)) (k .buffer .rules) in
-    let o = c .before .before .before .before .before .before .before .open-heads in
-    judged-same (words (s .args .card .now)) (s .args .run .now) (s .args .s) (s .args .id) (o .last .1 .1 .0) (o .ensures) small few (k .buffer .order) rules _ (c .before .before .judge .ensures)
+    let o = c .before .before .before .before .before .before .before .before .before .open-heads in
+    judged-same (words (s .args .card .now)) (s .args .run .now) (s .args .s) (s .args .id) (o .last .1 .1 .0) (o .ensures) small few (k .buffer .order) rules (s .args .t) _ (c .before .before .judge .ensures)
 
 pub count-term-spec : {M : Type 1} → statement M
 count-term-spec =
@@ -38,6 +38,8 @@ count-term-spec =
     (tie.spec
     (λ c. search needs)
     open-heads-requires
+    (λ c. search needs)
+    (λ c. search needs)
     (λ c. search needs)
     judge-requires
     (λ c. search needs)

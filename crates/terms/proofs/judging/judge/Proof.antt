@@ -1,14 +1,14 @@
 -- `terms::judging::judge` meets its contract. The invariant: the answer is the answer where `windows` count `total` and the heads have windows below `bound`
 -- to come.
 use mir.Val.{boolByte}
-use Rattle.lists.proofs.Prelude.{true, cond, List, map, by-test, and-right, _≡_, sym, refl, ap, _∙_, ℕ, suc, _≤_, _+_, _*_, _-_, arith, ltb, not-true, not-false, length, needs}
+use Rattle.lists.proofs.Prelude.{Bool, true, cond, List, map, by-test, and-right, _≡_, sym, refl, ap, _∙_, ℕ, suc, _≤_, _+_, _*_, _-_, arith, ltb, not-true, not-false, length, needs}
 use Rattle.words.specs.Words.{words}
-use Rattle.state.specs.Shown.{shows}
+use Rattle.state.specs.Shown.{showsIn}
 use Rattle.keyed.specs.Keys.{headVals}
 use Rattle.keyed.specs.Groups.{Group, topAll, headsFineAll}
 use Rattle.kway.specs.Parts.{part}
+use Rattle.kway.specs.Leads.{Leads}
 use Rattle.heads.specs.Heads.{view, views}
-use Rattle.heads.specs.Leads.{Leads}
 use Rattle.terms.specs.Both.{Ready, both}
 use Rattle.terms.specs.Judged.{countAt, toldOf, fineAt}
 use Rattle.heads.proofs.Heads.{reach-at}
@@ -16,14 +16,18 @@ use Rattle.terms.proofs.Steps.{top-step, resume, start, ended, too-high
 use Rattle.terms.proofs.judging.judge.Statement.{statement}
 use Rattle.terms.proofs.judging.judge.Tie as tie
 
+-- the windows that show
+abbrev seen : ℕ → ℕ → ℕ → ℕ → Bool
+seen f l o w = showsIn (record { first = f; last = l }) o w
+
 abbrev Inv-loop : tie.InvT-loop
-Inv-loop card run heads₀ n current top₀ at₀ others₀ bound₀ windows₀ total₀ heads top at others bound windows total =
+Inv-loop card run heads₀ n current first last top₀ at₀ others₀ bound₀ windows₀ total₀ heads top at others bound windows total =
     (length heads ≡ length heads₀) × Ready (words card) run n heads × (top ≡ topAll 0 (both (words card) run n heads)) × Leads (views (words card) run n heads) at others
     × ((windows + bound ≤ 65536) × (total ≤ 32767 * windows))
-    × (toldOf (shows current) (both (words card) run n heads₀) ≡ resume (shows current) bound windows total (both (words card) run n heads))
+    × (toldOf (seen first last current) (both (words card) run n heads₀) ≡ resume (seen first last current) bound windows total (both (words card) run n heads))
 
 abbrev μ-loop : tie.MeasureT-loop
-μ-loop card run heads₀ n current top₀ at₀ others₀ bound₀ windows₀ total₀ heads top at others bound windows total = bound
+μ-loop card run heads₀ n current first last top₀ at₀ others₀ bound₀ windows₀ total₀ heads top at others bound windows total = bound
 
 leader-requires : tie.Need-leader-requires Inv-loop μ-loop
 leader-requires c κs = let s = c .before .before .before .before in (omega (arith, s .pre .0), omega (arith, s .pre .1), s .pre .2 .lists)
@@ -36,7 +40,7 @@ loop-holds c =
     let n = s .args .n in
     let H = s .args .heads .now in
     let l = c .before .before .leader in
-    (refl, s .pre .2, sym (top-step (views W R n H) (view W R (part 4 n H)) (l .result .top) _ _ (l .ensures .0) (reach-at W R H n (s .pre .2 .run)) (c .larger .ensures)), l .ensures .1, (omega arith, omega arith), start (shows (s .args .current)) _)
+    (refl, s .pre .2, sym (top-step (views W R n H) (view W R (part 4 n H)) (l .result .top) _ _ (l .ensures .0) (reach-at W R H n (s .pre .2 .run)) (c .larger .ensures)), l .ensures .1, (omega arith, omega arith), start (seen (s .args .first) (s .args .last) (s .args .current)) _)
 
 same-length : tie.Need-same-length Inv-loop μ-loop
 same-length c = c .before .before .loop .inv .0
@@ -47,7 +51,7 @@ returns c =
     let s = c .before .before .before .before .before .before .before .before .before .before in
     let gs = both (words (s .args .card .now)) (s .args .run .now) (s .args .n) (a .loop .heads) in
     let v = a .loop .inv in
-    sym (v .5 ∙ too-high (shows (s .args .current)) (a .loop .bound) (a .loop .windows) (a .loop .total) gs (omega (arith, v .2, c .if1 .taken)))
+    sym (v .5 ∙ too-high (seen (s .args .first) (s .args .last) (s .args .current)) (a .loop .bound) (a .loop .windows) (a .loop .total) gs (omega (arith, v .2, c .if1 .taken)))
 
 judge-window-requires : tie.Need-judge-window-requires Inv-loop μ-loop
 judge-window-requires c κs =
@@ -70,7 +74,7 @@ returns-2 c =
     let high : topAll 0 gs ≡ suc k = sym (v .2) ∙ omega (arith, test) in
     let low : suc k ≤ a .loop .bound = omega (arith, below, test) in
     let t = c .before .before .before .judge-window in
-    sym (v .5 ∙ faulty (shows (s .args .current)) (a .loop .bound) (a .loop .windows) (a .loop .total) gs k high low (sym (t .ensures .1 .0 .0) ∙ not-true _ (c .if2 .taken)))
+    sym (v .5 ∙ faulty (seen (s .args .first) (s .args .last) (s .args .current)) (a .loop .bound) (a .loop .windows) (a .loop .total) gs k high low (sym (t .ensures .1 .0 .0) ∙ not-true _ (c .if2 .taken)))
 
 -- ---- where a window is counted: the start, the turn of the loop, and what was left at it
 
@@ -96,13 +100,13 @@ high m = sym (within m .loop .inv .2) ∙ omega (arith, m .before .before .befor
 fine : (m : tie.After-shown Inv-loop μ-loop) → fineAt (window m) (left m) ≡ true
 fine m = sym (m .before .before .before .before .judge-window .ensures .1 .0 .0) ∙ not-false _ (m .before .if2 .left)
 
-counts : (m : tie.After-shown Inv-loop μ-loop) → m .shown .result ≡ countAt (shows (begun m .args .current)) (window m) (map (headVals (window m)) (left m))
-counts m = m .shown .ensures ∙ ap (λ (n : ℕ). cond (shows (begun m .args .current) (window m)) n 0) (m .before .before .before .before .judge-window .ensures .1 .0 .1)
+counts : (m : tie.After-shown Inv-loop μ-loop) → m .shown .result ≡ countAt (seen (begun m .args .first) (begun m .args .last) (begun m .args .current)) (window m) (map (headVals (window m)) (left m))
+counts m = m .shown .ensures ∙ ap (λ (n : ℕ). cond (seen (begun m .args .first) (begun m .args .last) (begun m .args .current) (window m)) n 0) (m .before .before .before .before .judge-window .ensures .1 .0 .1)
 
 counts-few : (m : tie.After-shown Inv-loop μ-loop) → m .shown .result ≤ 32767
 counts-few m =
     let a = total-most (map (headVals (window m)) (left m)) (and-right (headsFineAll (window m) (left m)) _ (fine m)) in
-    by-test (shows (begun m .args .current) (window m))
+    by-test (seen (begun m .args .first) (begun m .args .last) (begun m .args .current) (window m))
     (λ y. rw (counts m, y) a)
     (λ y. rw (counts m, y) (omega arith))
 
@@ -119,7 +123,7 @@ loop-again : tie.Need-loop-again Inv-loop μ-loop
 loop-again c =
     let t = c .before .before .before .before .judge-window .ensures in
     let l = within c .loop in
-    let o = shows (begun c .args .current) in
+    let o = seen (begun c .args .first) (begun c .args .last) (begun c .args .current) in
     (t .0 .0 ∙ l .inv .0, t .0 .1, t .1 .0 .2, t .1 .1, fits c, l .inv .5 ∙ counted o (l .bound) (l .windows) (l .total) (left c) (window c) (high c) (low c) (fine c) _ (counts c) ∙ ap (resume o (window c) (l .windows + boolByte (ltb 0 (c .shown .result))) (l .total + c .shown .result)) (sym (t .0 .2)))
 
 same-length-3 : tie.Need-same-length-3 Inv-loop μ-loop
@@ -131,7 +135,7 @@ returns-3 c =
     let s = c .before .before .before .before .before .before .before .before .before in
     let gs = both (words (s .args .card .now)) (s .args .run .now) (s .args .n) (a .loop .heads) in
     let v = a .loop .inv in
-    sym (v .5 ∙ ended (shows (s .args .current)) (a .loop .bound) (a .loop .windows) (a .loop .total) gs (sym (v .2) ∙ omega arith))
+    sym (v .5 ∙ ended (seen (s .args .first) (s .args .last) (s .args .current)) (a .loop .bound) (a .loop .windows) (a .loop .total) gs (sym (v .2) ∙ omega arith))
 
 pub judge-spec : {M : Type 1} → statement M
 judge-spec =

@@ -2,10 +2,10 @@
 use Rattle.lists.proofs.Prelude.{true, and-true, List, [], _∷_, _++_, map, ⊎-elim, _≡_, refl, sym, ap, ap₂, _∙_, ℕ, zero, suc, _+_, _*_, _<_, _≤_, eq-or-lt-of-le, arith, ltb, pos, _+ℤ_, +ℤ-idl, +ℤ-idr, length, getD, set, length-append, set-append-left, set-append-seam, getD-at, ltb-true, ltb-false, le-ltb, AllOf, by-test, map-append, set-set, List·getD-append}
 use Rattle.keyed.specs.Keys.{Item, reach, larger, topFrom, rest, headVal, headFine, headVals, headsFine}
 use Rattle.keyed.proofs.Walk.{Under, none, more, under-top, larger-left, larger-right}
 use Rattle.kway.specs.Parts.{part, parts}
-use Rattle.kway.proofs.Parts.{putIn, put-here, put-before, put-later}
+use Rattle.kway.specs.Leads.{Leads}
+use Rattle.kway.proofs.Parts.{putIn, ends, put-here, put-before, put-later}
 use Rattle.kway.proofs.Turns.{missed, top-more}
-use Rattle.heads.specs.Leads.{Leads}
 
 -- ---- lists that do not have the key
 
@@ -163,34 +163,34 @@ view-at view w (suc n) H c d q =
 
 -- ---- what is taken of the list that leads
 
-module _ (view : List ℕ → List Item) (K : List ℕ → Type 0) (n : ℕ) (H : List ℕ) (fits : 4 * n ≤ length H) (c o k : ℕ) (kept : AllOf K (parts 4 n H)) (leads : Leads (map view (parts 4 n H)) c o)
-    (inside : c < n) (low : o ≤ k) (h : List ℕ) (four : length h ≡ 4) (good : K h) (moved : view h ≡ rest k (view (part 4 c H))) where
+module _ (view : List ℕ → List Item) (K : List ℕ → Type 0) (w n : ℕ) (H : List ℕ) (fits : w * n ≤ length H) (c o k : ℕ) (kept : AllOf K (parts w n H)) (leads : Leads (map view (parts w n H)) c o)
+    (inside : c < n) (low : o ≤ k) (h : List ℕ) (whole : length h ≡ w) (good : K h) (moved : view h ≡ rest k (view (part w c H))) where
   abbrev ls : List (List Item)
-  ls = map view (parts 4 n H)
+  ls = map view (parts w n H)
 
-  room : 4 * c + 4 ≤ length H
-  room = omega arith
+  room : w * c + w ≤ length H
+  room = let e = ends w c n inside in omega arith
 
   alone : Alone k ls c
-  alone = alone-under k (topFrom 0 (set ls c [])) ls c (omega (arith, length-views view 4 n H)) (omega arith) (under-top 0 (set ls c []))
+  alone = alone-under k (topFrom 0 (set ls c [])) ls c (omega (arith, length-views view w n H)) (omega arith) (under-top 0 (set ls c []))
 
-  here : getD ls c [] ≡ view (part 4 c H)
-  here = view-at view 4 n H c [] inside
+  here : getD ls c [] ≡ view (part w c H)
+  here = view-at view w n H c [] inside
 
-  pub led-rests : map view (parts 4 n (putIn 4 H h c)) ≡ map (rest k) ls
-  led-rests = put-views 4 H h c room four view n inside ∙ rw (moved, ← here) (sym (alone .rests))
+  pub led-rests : map view (parts w n (putIn w H h c)) ≡ map (rest k) ls
+  led-rests = put-views w H h c room whole view n inside ∙ rw (moved, ← here) (sym (alone .rests))
 
-  pub led-kept : AllOf K (parts 4 n (putIn 4 H h c))
-  led-kept = put-all 4 H h c room four K n inside kept good
+  pub led-kept : AllOf K (parts w n (putIn w H h c))
+  led-kept = put-all w H h c room whole K n inside kept good
 
-  pub led-sum : headVals k ls ≡ headVal k (view (part 4 c H))
+  pub led-sum : headVals k ls ≡ headVal k (view (part w c H))
   led-sum = alone .sum ∙ ap (headVal k) here
 
-  pub led-fine : headsFine k ls ≡ headFine k (view (part 4 c H))
+  pub led-fine : headsFine k ls ≡ headFine k (view (part w c H))
   led-fine = alone .fine ∙ ap (headFine k) here
 
-  pub led-top : larger o (reach (view h)) ≡ topFrom 0 (map view (parts 4 n (putIn 4 H h c)))
-  led-top = rw (put-views 4 H h c room four view n inside, top-set 0 ls c (view h) (omega (arith, length-views view 4 n H)), ← leads)
+  pub led-top : larger o (reach (view h)) ≡ topFrom 0 (map view (parts w n (putIn w H h c)))
+  led-top = rw (put-views w H h c room whole view n inside, top-set 0 ls c (view h) (omega (arith, length-views view w n H)), ← leads)
 
-  pub led-leads : Leads (map view (parts 4 n (putIn 4 H h c))) c o
-  led-leads = rw (put-views 4 H h c room four view n inside, set-set ls c (view h) []) leads
+  pub led-leads : Leads (map view (parts w n (putIn w H h c))) c o
+  led-leads = rw (put-views w H h c room whole view n inside, set-set ls c (view h) []) leads

@@ -1,0 +1,5 @@
+pub mod Marks
+pub mod Counts
+pub mod Lives
+pub mod Walking
+pub mod Parts
