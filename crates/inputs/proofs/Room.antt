@@ -1,10 +1,10 @@
 -- Totals fit: under each identifier there are at most 65,535 windows.
+use Prim.Native.Nat.{min, max}
 use Rattle.lists.proofs.Prelude.{Bool, true, false, not, cond, List, [], _∷_, map, _⊎_, inl, inr, ⊎-elim, _≡_, refl, sym, _∙_, ℕ, zero, suc, _+_, _<_, _≤_, add-one, arith, eqb, leb, ltb, ℤ, length, getD, set, replicate, length-set, getD-set-same, getD-set-other, leb-true, le-ltb, eqb-true, eqb-false, eq-eqb, ne-eqb, AllOf, keep, every, by-test, and-left, and-right, length-keep, getD-same}
-use Rattle.keyed.specs.Keys.{topFrom, larger as largerKey, headFine, headsFine}
+use Rattle.keyed.specs.Keys.{topFrom, larger, headFine, headsFine}
 use Rattle.words.specs.Words.{Below}
 use Rattle.postings.specs.declared.Posting.{Posting}
 use Rattle.postings.specs.Merge.{isZero}
-use Rattle.postings.specs.Spans.{smaller, larger}
 use Rattle.scans.specs.Keys.{keyOf, keyId, keyWindow, itemOf, isKeyed, postingOf}
 use Rattle.kway.specs.Parts.{parts}
 use Rattle.scans.specs.Heads.{Kept, views}
@@ -58,12 +58,12 @@ count-set (x ∷ l) (suc i) h =
 top-window : (k t : ℕ) (ls : List (List Posting)) → every (every isKeyed) ls ≡ true → topFrom t (map (map itemOf) ls) ≡ suc k → headsFine k (map (map itemOf) ls) ≡ true
     → (t ≡ suc k) ⊎ (1 ≤ keyWindow k)
 top-window k t [] e top f = inl top
-top-window k t ([] ∷ ls) e top f = ⊎-elim (λ q. inl (rw (le-ltb t 0 (omega arith)) at q)) (λ h. inr h) (top-window k (largerKey t 0) ls e top f)
+top-window k t ([] ∷ ls) e top f = ⊎-elim (λ q. inl (rw (le-ltb t 0 (omega arith)) at q)) (λ h. inr h) (top-window k (larger t 0) ls e top f)
 top-window k t ((p ∷ l) ∷ ls) e top f =
     ⊎-elim here (λ h. inr h)
-    (top-window k (largerKey t (suc (keyOf (p .id) (p .window)))) ls (and-right (every isKeyed (p ∷ l)) _ e) top (and-right (headFine k (map itemOf (p ∷ l))) _ f))
+    (top-window k (larger t (suc (keyOf (p .id) (p .window)))) ls (and-right (every isKeyed (p ∷ l)) _ e) top (and-right (headFine k (map itemOf (p ∷ l))) _ f))
   where
-    here : largerKey t (suc (keyOf (p .id) (p .window))) ≡ suc k → (t ≡ suc k) ⊎ (1 ≤ keyWindow k)
+    here : larger t (suc (keyOf (p .id) (p .window))) ≡ suc k → (t ≡ suc k) ⊎ (1 ≤ keyWindow k)
     here q =
         by-test (ltb t (suc (keyOf (p .id) (p .window))))
         (λ b. let r : suc (keyOf (p .id) (p .window)) ≡ suc k = rw b at q in
@@ -120,7 +120,7 @@ module _ (t : Totals) (ns : List ℕ) (bound k : ℕ) (z : ℤ) (r : Room t ns b
           (λ f. rw (getD-set-other ns (keyId k) i (n + 1) 0 (eqb-false i (keyId k) f))
           (⊎-elim (λ q. inl q) (λ b. inr (omega arith)) (r .counts i h)))
 
-      other-sum : Room (record { fine = t .fine; pairs = t .pairs + 1; postings = t .postings + 1; terms = risen (t .terms) n; lowest = smaller (t .lowest) (p .window); highest = larger (t .highest) (p .window) }) (set ns (keyId k) (n + 1)) k
+      other-sum : Room (record { fine = t .fine; pairs = t .pairs + 1; postings = t .postings + 1; terms = risen (t .terms) n; lowest = min (t .lowest) (p .window); highest = max (t .highest) (p .window) }) (set ns (keyId k) (n + 1)) k
       other-sum = record {
         long = length-set ns (keyId k) (n + 1) ∙ long;
         pairs = omega (arith, r .pairs);

@@ -2,7 +2,7 @@
 use mathlib.Core.Bool.{Bool, true, false, cond, _&&_}
 use mathlib.Core.List.{List, [], _∷_, map}
 use mathlib.Core.Path.{_≡_}
-use Prim.Native.Nat.{ℕ, _+_, _≤_}
+use Prim.Native.Nat.{ℕ, _+_, _≤_, min, max}
 use lib.Dec.{eqb}
 use lib.ListN.{length, getD, set, replicate}
 use Rattle.lists.specs.Lists.{every, upTo}
@@ -10,7 +10,7 @@ use Rattle.keyed.specs.Keys.{Item, allFall, keyPairs as keyedPairs}
 use Rattle.postings.specs.declared.Posting.{Posting}
 use Rattle.postings.specs.Merge.{isZero, nonzero, pairs}
 use Rattle.postings.specs.Sums.{under}
-use Rattle.postings.specs.Spans.{smaller, larger, lowest, highest}
+use Rattle.postings.specs.Spans.{lowest, highest}
 use Rattle.state.specs.declared.Partition.{Partition}
 use Rattle.partitions.specs.Layout.{termCount}
 use Rattle.partitions.specs.Reading.{inPartitions}
@@ -76,8 +76,8 @@ totalsMore t n p =
       pairs = t .pairs + 1;
       postings = t .postings + 1;
       terms = risen (t .terms) n;
-      lowest = smaller (t .lowest) (p .window);
-      highest = larger (t .highest) (p .window);
+      lowest = min (t .lowest) (p .window);
+      highest = max (t .highest) (p .window);
     })
 
 -- and the numbers by identifier

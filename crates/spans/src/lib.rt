@@ -4,12 +4,12 @@ use state::Partition;
 use state::Partitions;
 ghost use mathlib.Core.List.{map};
 ghost use mathlib.Core.Path.{_≡_};
-ghost use Prim.Native.Nat.{_≤_};
+ghost use Prim.Native.Nat.{_≤_, min, max};
 ghost use Rattle.lists.specs.All.{AllOf};
 ghost use Rattle.lists.specs.Lists.{every};
 ghost use Rattle.words.specs.Words.{words as wordsOf};
 ghost use Rattle.postings.specs.Pack.{posted};
-ghost use Rattle.postings.specs.Spans.{smaller as smallerOf, larger as largerOf, lowest, highest};
+ghost use Rattle.postings.specs.Spans.{lowest, highest};
 ghost use Rattle.state.specs.Views.{finished};
 ghost use Rattle.card.specs.Cursors.{Good, ahead};
 ghost use Rattle.partitions.specs.Reading.{postingsOf};
@@ -24,21 +24,21 @@ pub struct Span {
 
 // The smaller of two.
 pub fn smaller(a: u16, b: u16) -> u16
-    ensures { λ r. ⌜ r ≡ smallerOf a b ⌝ }
+    ensures { λ r. ⌜ r ≡ min a b ⌝ }
 {
     if a < b { a } else { b }
 }
 
 // The larger of two.
 pub fn larger(a: u16, b: u16) -> u16
-    ensures { λ r. ⌜ r ≡ largerOf a b ⌝ }
+    ensures { λ r. ⌜ r ≡ max a b ⌝ }
 {
     if a < b { b } else { a }
 }
 
 // A window more.
 pub fn widened(s: Span, window: u16) -> Span
-    ensures { λ r. ⌜ (r .lowest ≡ smallerOf (s .lowest) window) × (r .highest ≡ largerOf (s .highest) window) ⌝ }
+    ensures { λ r. ⌜ (r .lowest ≡ min (s .lowest) window) × (r .highest ≡ max (s .highest) window) ⌝ }
 {
     let lowest = smaller(s.lowest, window);
     let highest = larger(s.highest, window);

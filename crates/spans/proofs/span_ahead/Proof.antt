@@ -2,7 +2,6 @@
 use Rattle.lists.proofs.Prelude.{_≤_, arith, needs}
 use Rattle.words.specs.Words.{words}
 use Rattle.postings.specs.Pack.{posted}
-use Rattle.postings.proofs.Spans.{smaller-least}
 use Rattle.card.specs.Cursors.{Good, headOf}
 use Rattle.card.proofs.Cursors.{good-moved, moved-less}
 use Rattle.spans.proofs.Ahead.{Met, met-first, met-more, met-all}
@@ -40,7 +39,7 @@ loop-again c =
     let u = c .before .before .unpack .ensures in
     let w = c .before .widened .ensures in
     rw (c .moved .ensures, w .0, w .1, u, c .before .before .before .head .ensures)
-    (good-moved W (a .loop .at) h (a .loop .inv .0), m, omega (arith, smaller-least (a .loop .span .lowest) (posted 0 (headOf W (a .loop .at)) .window) .0, a .loop .inv .2))
+    (good-moved W (a .loop .at) h (a .loop .inv .0), m, omega (arith, a .loop .inv .2))
 
 returns : tie.Need-returns Inv-loop μ-loop
 returns c =
