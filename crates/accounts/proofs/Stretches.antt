@@ -3,7 +3,7 @@
 use Rattle.lists.proofs.Prelude.{Bool, true, false, _&&_, not, List, [], _∷_, _++_, _≡_, refl, sym, ap, _∙_, ℕ, suc, _≤_, arith, leb, pos, _+ℤ_, +ℤ-idl, le-leb, leb-true, leb-false, not-true, keep, every, empty, down, by-test, and-left, and-right, and-both, every-keep, every-kept, every-from, every-down, keep-all, keep-both, empty-not}
 use Rattle.postings.specs.declared.Posting.{Posting}
 use Rattle.postings.specs.declared.Stretch.{Stretch}
-use Rattle.postings.specs.Sums.{sum, under, above}
+use Rattle.postings.specs.Sums.{sum, under}
 use Rattle.postings.specs.Spans.{lowest, highest}
 use Rattle.postings.proofs.Sums.{sum-append}
 use Rattle.postings.proofs.Spans.{lowest-some, span-some, highest-most, sum-below, sum-beyond}
@@ -12,7 +12,6 @@ use Rattle.state.specs.Shown.{shows, shown, within, showsIn, shownIn}
 use Rattle.partitions.specs.Formed.{sumsInRange}
 use Rattle.accounts.specs.Account.{Portion, Account, postingsIn, storedIn, reaches, readBy}
 use Rattle.accounts.specs.Ledger.{Ledger}
-use Rattle.accounts.specs.Lists.{countOf}
 use Rattle.accounts.proofs.Parts.{identifier-in-range}
 use Rattle.accounts.proofs.Rises.{chosen-by}
 use Rattle.accounts.proofs.Shaped.{portionRule}
@@ -47,11 +46,6 @@ module _ (t : Stretch) where
   sum-read a i w y =
       sum-append i w (postingsIn (keep (reaches t) (a .partitions))) (a .buffer)
       ∙ ap (λ z. z +ℤ sum (a .buffer) i w) (sum-reached (a .partitions) i w y) ∙ sym (sum-append i w (postingsIn (a .partitions)) (a .buffer))
-
-  -- so every count
-  pub count-read : (a : Account) (i w : ℕ) → within t w ≡ true → countOf (readBy t a) i w ≡ countOf a i w
-  unfolding countOf
-  count-read a i w y = ap above (sum-read a i w y)
 
   -- ---- the windows looked at
 
