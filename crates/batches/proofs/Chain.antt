@@ -1,5 +1,5 @@
 -- Removals one after another: what each leaves for those after it.
-use Rattle.lists.proofs.Prelude.{Bool, true, false, _||_, not, List, [], _∷_, _≡_, refl, sym, ap, _∙_, ℕ, zero, suc, _+_, _-_, _*_, _<_, _≤_, add-one, arith, eqb, leb, ltb, length, getD, drop, drop-cons, drop-of-length-le, leb-true, leb-false, le-leb, lt-leb, eq-eqb, ltb-true, ltb-false, every, empty, elem, different, by-test, and-left, and-right, and-both, never, not-true, empty-is, empty-not, every-elem}
+use Rattle.lists.proofs.Prelude.{Bool, true, false, _||_, not, List, [], _∷_, _≡_, refl, sym, ap, _∙_, ℕ, zero, suc, _+_, _-_, _*_, _<_, _≤_, add-one, arith, eqb, leb, ltb, length, getD, drop, drop-cons, drop-of-length-le, leb-true, leb-false, le-leb, lt-leb, eq-eqb, ltb-true, ltb-false, every, empty, elem, different, by-test, and-left, and-right, and-both, never, not-true, empty-is, empty-not, every-elem, every-take, elem-every, elem-right, getD-drop, length-drop, take, take-append-drop}
 use Rattle.words.specs.Words.{words, bytes}
 use Rattle.words.proofs.Views.{length-bytes, words-bytes}
 use Rattle.postings.specs.declared.Posting.{Posting}
@@ -19,12 +19,13 @@ use Rattle.partitions.specs.Formed.{partitionsFormed, sumsInRange}
 use Rattle.scans.specs.Keys.{isKeyed}
 use Rattle.flushes.specs.Flush.{finishedBlocks, nextFree, flushedTo, flushedCard, flushing, flushingIf}
 use Rattle.flushes.specs.Targets.{Chosen}
-use Rattle.sums.specs.Tally.{ofWindow, countsOf, listsRuled, windowFormed, listsFormed}
+use Rattle.sums.specs.Tally.{ofWindow, countsOf, listsRuled, windowFormed, listsFormed, ReadAll}
 use Rattle.removals.specs.Removal.{removalFormed, removalFlushes, removed, removing, removeOf}
 use Rattle.removals.proofs.Turns.{card-words}
 use Rattle.removals.proofs.Given.{namesOpen, notLive}
 use Rattle.batches.specs.Batch.{batchFormed}
 use Rattle.batches.specs.Steps.{roomOf, flushAfter, removalAfter}
+use Rattle.batches.proofs.Held.{at-elem}
 use Rattle.batches.proofs.Flushed.{rule-flushed, level-flushed, blocks-flushed, parts-flushed, lists-flushed, inside-flushed, stored-flushed, free-flushed}
 use Rattle.batches.proofs.Removed.{wide-removed, rule-removed, counts-removed, formed-removed}
 
@@ -150,6 +151,34 @@ standing-of s card ws rule size wide formed keyed =
       counts = λ w e. refl;
       keyed = λ w e. keyed w;
     }
+
+-- the counts of windows left are read well formed, and are those that c says
+module _ (t : State) (card ws : List ℕ) (c : ℕ → List Posting) (h : Standing t card ws c) where
+  pub standing-drop : (i : ℕ) → Standing t card (drop i ws) c
+  standing-drop i = record {
+    rule = h .rule;
+    size = h .size;
+    wide = h .wide;
+    parts = h .parts;
+    lists = h .lists;
+    formed = λ w e. h .formed w (later w e);
+    counts = λ w e. h .counts w (later w e);
+    keyed = λ w e. h .keyed w (later w e);
+  }
+    where
+      later : (w : ℕ) → elem w (drop i ws) ≡ true → elem w ws ≡ true
+      later w e = ap (elem w) (sym (take-append-drop i ws)) ∙ elem-right w (take i ws) (drop i ws) e
+
+  -- what is read of a portion of them is well formed
+  pub standing-fine : (n : ℕ) (r : Bool) (P : List ℕ) → ReadAll (words card) t (take n ws) r P → r ≡ true
+  standing-fine n r P a = a .fine ∙ and-both (listsRuled (words card) t) _ (h .lists) (every-take (windowFormed (words card) t) n ws (elem-every (windowFormed (words card) t) ws (h .formed)))
+
+-- the windows from i on have the counts that c says
+pub standing-counts : (t : State) (card ws : List ℕ) (c : ℕ → List Posting) (i : ℕ) → Standing t card (drop i ws) c → (j : ℕ) → i ≤ j → j < length ws → countsOf (getD ws j 0) (stored (words card) t) ≡ c (getD ws j 0)
+standing-counts t card ws c i h j l m =
+    let e : i + (j - i) ≡ j = omega arith in
+    let w : getD (drop i ws) (j - i) 0 ≡ getD ws j 0 = getD-drop i ws (j - i) 0 ∙ ap (λ (k : ℕ). getD ws k 0) e in
+    rw w at (h .counts (getD (drop i ws) (j - i) 0) (at-elem (drop i ws) (j - i) (omega (arith, length-drop i ws))))
 
 module _ (t : State) (card : List ℕ) (w : ℕ) (ws : List ℕ) (c : ℕ → List Posting) (h : Standing t card (w ∷ ws) c) where
   first : elem w (w ∷ ws) ≡ true

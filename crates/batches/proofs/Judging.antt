@@ -1,19 +1,20 @@
 -- The removals of a list judged one after another, and made one after another.
-use Rattle.lists.proofs.Prelude.{Bool, true, false, cond, not, List, [], _∷_, foldr, _≡_, refl, sym, ap, ap₂, _∙_, subst, ℕ, suc, _+_, _-_, _<_, _≤_, arith, ltb, length, getD, drop, different, eq-eqb}
-use Rattle.words.specs.Words.{words, bytes}
+use Rattle.lists.proofs.Prelude.{Bool, true, false, cond, not, List, [], _∷_, _++_, foldr, _≡_, refl, sym, ap, ap₂, _∙_, ℕ, suc, _+_, _-_, _<_, _≤_, arith, ltb, length, getD, drop, different, and-left, eq-eqb, true≢false}
+use Rattle.words.specs.Words.{words, bytes, Below}
 use Rattle.postings.specs.declared.Posting.{Posting}
 use Rattle.postings.specs.Merge.{put, nonzero, negated}
-use Rattle.answers.specs.Answers.{Answer, leave, done, refused, answerOf, stateOf, inTurn}
-use Rattle.answers.proofs.Kept.{unchanged-turn}
+use Rattle.answers.specs.Answers.{leave, done, refused, answerOf, inTurn}
 use Rattle.state.specs.declared.Windows.{Windows}
 use Rattle.state.specs.declared.Buffer.{Buffer}
 use Rattle.state.specs.declared.State.{State}
-use Rattle.state.specs.Views.{buffered, bufferOf}
+use Rattle.state.specs.Rules.{stateRule}
+use Rattle.state.specs.Views.{blocks, buffered, finished, bufferOf, partitionsOf}
 use Rattle.state.specs.Probe.{Store, storeOf}
-use Rattle.flushes.specs.Flush.{flushedTo, flushedCard}
+use Rattle.partitions.specs.Layout.{recordOf}
+use Rattle.partitions.specs.Formed.{partitionsFormed}
+use Rattle.flushes.specs.Flush.{nextFree, flushedTo, flushedCard}
 use Rattle.flushes.specs.Targets.{Chosen}
 use Rattle.flushes.proofs.Targets.{idle}
-use Rattle.windows.specs.Promises.{Gives}
 use Rattle.sums.specs.declared.Counts.{Counts}
 use Rattle.sums.specs.Views.{countsIn, Neat}
 use Rattle.removals.specs.Removal.{removalFlushes, removed, removing, removeOf}
@@ -21,7 +22,10 @@ use Rattle.removals.specs.Taking.{Takeable, Removable}
 use Rattle.removals.proofs.Turns.{card-words}
 use Rattle.removals.proofs.Given.{namesOpen, notLive, some-live}
 use Rattle.removals.proofs.Takeables.{takeable-plain, takeable-flushed}
-use Rattle.batches.specs.Steps.{Ready, roomOf, removalAfter}
+use Rattle.batches.specs.Batch.{batchFormed}
+use Rattle.batches.specs.declared.Listing.{Listing}
+use Rattle.batches.specs.Steps.{Admitted, roomOf, removalAfter, Listed}
+use Rattle.batches.proofs.Keys.{counts-keyed}
 use Rattle.batches.proofs.Chain.{Reckoned, Judged, barred, plain, written, judged-of, reckoned-none, reckoned-plain, reckoned-flushed, Standing, countsAt, standing-of, standing-formed, standing-few, Reached, standing-here, reached-barred, reached-plain, reached-written}
 
 -- the window numbers after a removal
@@ -32,9 +36,27 @@ oneLess v = record { last = v .last; live = v .live - 1; current = v .current; e
 abbrev pub takenFrom : Buffer → List Posting → Buffer
 takenFrom b counts = bufferOf (nonzero (foldr put (buffered b) (negated counts)))
 
+-- the state after a removal, with a flush to block d before it or without one
+unfoldable pub made : State → Bool → ℕ → List Posting → State
+made t flush d counts = cond flush (removed (flushedTo t d) counts) (removed t counts)
+
+-- as its parts are put together
+pub made-by : (t : State) (card : List ℕ) (flush : Bool) (counts : List Posting) (v : Windows) (b : Buffer) (l : Listing) (after : List ℕ) → v ≡ oneLess (t .windows) → b ≡ takenFrom (cond flush (bufferOf []) (t .buffer)) counts
+    → Listed card (blocks t) (t .taken) (t .buffer) (t .partitions) flush l after
+    → storeOf (record { lengths = t .lengths; windows = v; listed = t .listed; buffer = b; partitions = l .partitions; taken = l .taken; merge = t .merge }) after
+    ≡ storeOf (made t flush (nextFree t (words card)) counts) (cond flush (bytes (flushedCard t (words card) (nextFree t (words card)))) card)
+unfolding made removed flushedTo flushedCard
+made-by t card true counts v b l after e f h = rw (e, f, h .partitions, h .taken, h .written)
+made-by t card false counts v b l after e f h = rw (e, f, h .partitions, h .taken, h .written)
+
 -- at the beginning
-pub reached-none : (s : State) (card ws T : List ℕ) → Ready s card ws T → length (s .buffer .postings) ≡ 128 → Reached (storeOf s card) ws (countsAt s card) s card 0
-reached-none s card ws T r wide = record { standing = standing-of s card ws (r .rule) (r .size) wide (r .formed) (r .keyed); lengths = refl; on = refl }
+pub reached-none : (s : State) (card ws : List ℕ) → Admitted s card ws → length (s .buffer .postings) ≡ 128 → Below 256 card → s .windows .last ≤ 65535 → Reached (storeOf s card) ws (countsAt s card) s card 0
+unfolding batchFormed
+reached-none s card ws a wide small last = record {
+  standing = standing-of s card ws (a .rule) (a .size) wide (a .formed) (counts-keyed s card small last (a .rule) (and-left (partitionsFormed (words card) (blocks s) (finished (s .partitions))) _ (a .formed)));
+  lengths = refl;
+  on = refl;
+}
 
 -- ---- one removal
 
@@ -55,20 +77,45 @@ module _ (p : Store) (ws : List ℕ) (c : ℕ → List Posting) (once : differen
     counts = e ∙ sym (h .counts w (rw (eq-eqb w w refl)));
   }
 
-  -- made, where none of the list is refused
-  pub reached-next : answerOf (inTurn removeOf p ws) ≡ done → (a : Answer) (t′ : State) (after′ : List ℕ) → Gives (storeOf t after) (removing t after w (c w)) a (storeOf t′ after′)
-      → Reached p ws c t′ after′ (i + 1)
-  reached-next granted a t′ after′ g = go (judged-of t after t after 0 w (c w) (reckoned-none t after) (standing-few t after w (drop (suc i) ws) c h))
-    where
-      left : (u : State) (x : List ℕ) → removing t after w (c w) ≡ leave done (storeOf u x) → Reached p ws c u x (i + 1) → Reached p ws c t′ after′ (i + 1)
-      left u x e q =
-          let same : storeOf t′ after′ ≡ storeOf u x = g .left ∙ ap (stateOf (storeOf t after)) e in
-          subst (λ (y : Store). Reached p ws c (y .state) (y .card) (i + 1)) (sym same) q
+  -- made, where none of the list is refused: whether with a flush is told by the counts
+  abbrev free : ℕ
+  free = nextFree t (words after)
 
-      go : Judged t after t after 0 w (c w) → Reached p ws c t′ after′ (i + 1)
-      go (barred n l x e) = let z : refused n ≡ done = sym (ap answerOf (reached-barred p ws c once t after i r here n e)) ∙ granted in let o : _≡_ {A = ℕ} 0 1 = cc in absurd (omega arith)
-      go (plain x a b f e) = left _ _ e (reached-plain p ws c once t after i r here a b f e)
-      go (written x a b f k ch e) = left _ _ e (reached-written p ws c once t after i r here a b k ch e)
+  pub record Made (flush : Bool) (k : Counts) : Type 0 where
+    pub takes : Takeable (cond flush (bufferOf []) (t .buffer)) k
+    pub live : 1 ≤ t .windows .live
+    pub chosen : flush ≡ true → Chosen t (words after) free
+    pub next : Reached p ws c (made t flush free (countsIn k)) (cond flush (bytes (flushedCard t (words after) free)) after) (i + 1)
+
+  pub reached-made : answerOf (inTurn removeOf p ws) ≡ done → (k : Counts) → Neat k → countsIn k ≡ c w → (flush : Bool) → flush ≡ ltb 128 (length (buffered (t .buffer)) + length (countsIn k)) → Made flush k
+  reached-made granted k neat e flush f = go (judged-of t after t after 0 w (c w) (reckoned-none t after) (standing-few t after w (drop (suc i) ws) c h))
+    where
+      removable : Removable t after w k
+      removable = reached-removable k neat e
+
+      same-flush : removalFlushes t (c w) ≡ flush
+      same-flush = unfold removalFlushes in (rw (← e) (sym f))
+
+      after-plain : namesOpen t w ≡ false → notLive t w (c w) ≡ false → removalFlushes t (c w) ≡ false → removing t after w (c w) ≡ leave done (storeOf (removed t (c w)) after) → Made false k
+      after-plain a b q y = record {
+        takes = takeable-plain t after w k removable (idle t after (removalFlushes t (countsIn k)) (rw (e, q)));
+        live = some-live t after w (c w) a b;
+        chosen = λ z. absurd (true≢false (sym z));
+        next = unfold made in rw e (reached-plain p ws c once t after i r here a b q y);
+      }
+
+      after-flush : namesOpen t w ≡ false → notLive t w (c w) ≡ false → (d : ℕ) → Chosen t (words after) d → removing t after w (c w) ≡ leave done (storeOf (removed (flushedTo t d) (c w)) (bytes (flushedCard t (words after) d))) → Made true k
+      after-flush a b d ch y = record {
+        takes = unfold flushedTo in takeable-flushed t after w k removable d;
+        live = some-live t after w (c w) a b;
+        chosen = λ z. rw (← ch .block) ch;
+        next = unfold made in rw (e, ← ch .block) (reached-written p ws c once t after i r here a b d ch y);
+      }
+
+      go : Judged t after t after 0 w (c w) → Made flush k
+      go (barred n l x y) = let z : refused n ≡ done = sym (ap answerOf (reached-barred p ws c once t after i r here n y)) ∙ granted in let o : _≡_ {A = ℕ} 0 1 = cc in absurd (omega arith)
+      go (plain x a b q y) = rw (sym same-flush ∙ q) (after-plain a b q y)
+      go (written x a b q d ch y) = rw (sym same-flush ∙ q) (after-flush a b d ch y)
 
 -- ---- judged before
 
@@ -158,14 +205,3 @@ module _ (s : State) (card ws : List ℕ) (once : different ws ≡ true) (i k : 
         go (barred n l x y) z = let q : refused n ≡ done = sym (ap answerOf x) ∙ z in let o : _≡_ {A = ℕ} 0 1 = cc in absurd (omega arith)
         go (plain x a l h y) z = rw (sym same-flush ∙ h) (after-plain a l h y)
         go (written x a l h d ch y) z = rw (sym same-flush ∙ h) (after-flush a l d ch y)
-
--- ---- what the list gives
-
-module _ (s : State) (card ws : List ℕ) where
-  -- refused as judged: nothing has moved
-  pub gives-refused : (n : ℕ) → refused n ≡ answerOf (inTurn removeOf (storeOf s card) ws) → Gives (storeOf s card) (inTurn removeOf (storeOf s card) ws) (refused n) (storeOf s card)
-  gives-refused n e = record { answer = e; left = sym (unchanged-turn removeOf (storeOf s card) ws .same n (sym e)) }
-
-  -- or done as made
-  pub gives-done : (t : State) (after : List ℕ) → inTurn removeOf (storeOf s card) ws ≡ leave done (storeOf t after) → Gives (storeOf s card) (inTurn removeOf (storeOf s card) ws) done (storeOf t after)
-  gives-done t after e = rw e (record { answer = refl; left = refl })

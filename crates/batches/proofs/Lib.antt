@@ -1,4 +1,6 @@
 pub mod Refused
+pub mod Keys
+pub mod Held
 pub mod Flushed
 pub mod Removed
 pub mod Chain

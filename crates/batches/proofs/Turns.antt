@@ -1,9 +1,8 @@
 -- Refusals 1 to 3 and 16 of a removal of several windows, and what goes on after them.
-use Rattle.lists.proofs.Prelude.{Bool, true, false, not, List, [], _∷_, _≡_, refl, sym, ap, _∙_, ℕ, zero, suc, _-_, _*_, _<_, _≤_, arith, eqb, leb, length, getD, take, leb-true, eq-eqb, ne-eqb, empty, elem, different, and-left, and-right, never, not-true}
-use Rattle.lists.proofs.Places.{any-at}
+use Rattle.lists.proofs.Prelude.{Bool, true, false, _&&_, not, List, [], _∷_, _≡_, refl, sym, ap, _∙_, ℕ, arith, eqb, leb, length, leb-true, eq-eqb, eqb-true, every, empty, different, and-left, and-right, not-false}
 use Rattle.words.specs.Words.{words}
 use Rattle.answers.specs.declared.Refusal.{Refusal}
-use Rattle.answers.specs.Answers.{Answer, refuse, refused, inTurn}
+use Rattle.answers.specs.Answers.{Outcome, refuse, leave, done, refused, refuseIf, answerOf, inTurn}
 use Rattle.answers.specs.Numbers.{refusalNumber}
 use Rattle.state.specs.declared.State.{State}
 use Rattle.state.specs.Views.{blocks, finished}
@@ -13,84 +12,95 @@ use Rattle.partitions.specs.Formed.{partitionsFormed}
 use Rattle.admission.specs.Admission.{firstOf, cardTests}
 use Rattle.admission.proofs.Laws.{barred}
 use Rattle.windows.specs.Promises.{Gives, storeOf}
-use Rattle.windows.proofs.Outcomes.{stopped, passed}
-use Rattle.flushes.proofs.Flushes.{gives-by, refuses}
-use Rattle.sums.specs.Views.{firstPlace}
-use Rattle.sums.specs.Tally.{ReadAll}
+use Rattle.sums.specs.Tally.{listsRuled, windowFormed}
 use Rattle.removals.specs.Removal.{removeOf}
 use Rattle.batches.specs.Batch.{batchRule, batchFormed, removeAllOf}
-use Rattle.batches.specs.Steps.{Ready, ReadLists}
+use Rattle.batches.specs.Steps.{Admitted}
+use Rattle.batches.proofs.Refused.{batch-unchanged}
 
--- a window is named at its place
-at-elem : (l : List ℕ) (i : ℕ) → i < length l → elem (getD l i 0) l ≡ true
-at-elem l i h = any-at (λ m. eqb m (getD l i 0)) l 0 i h (eq-eqb (getD l i 0) (getD l i 0) refl)
-
--- of different windows each has its own place
-place-once : (ws : List ℕ) → different ws ≡ true → (j : ℕ) → j < length ws → firstPlace (getD ws j 0) ws ≡ j
-place-once [] d j h = absurd (omega arith)
-place-once (w ∷ ws) d zero h = rw (eq-eqb w w refl)
-place-once (w ∷ ws) d (suc j) h =
-    rw (ne-eqb w (getD ws j 0) (λ e. never (sym (not-true (elem w ws) (and-left (not (elem w ws)) _ d)) ∙ rw e (at-elem ws j (omega arith)))), place-once ws (and-right (not (elem w ws)) _ d) j (omega arith))
+-- a test that an answer other than a refusal has passed
+unrefused : {S : Type 0} (t : Bool) (n : ℕ) (o : Outcome S) → answerOf (refuseIf t n o) ≡ done → (t ≡ false) × (refuseIf t n o ≡ o)
+unfolding refuseIf
+unrefused true n o e = let z : _≡_ {A = ℕ} 0 1 = cc in absurd (omega arith)
+unrefused false n o e = (refl, refl)
 
 module _ (s : State) (card ws : List ℕ) where
+  abbrev outcome : Outcome Store
+  outcome = removeAllOf (storeOf s card) ws
+
   -- refused by what is judged first
-  pub batch-barred : (why : Refusal) → refusalNumber why ≡ firstOf (1 ∷ 2 ∷ []) (cardTests (stateRule s) (s .lengths) card)
-      → Gives (storeOf s card) (removeAllOf (storeOf s card) ws) (refused (refusalNumber why)) (storeOf s card)
+  pub batch-barred : (why : Refusal) → refusalNumber why ≡ firstOf (1 ∷ 2 ∷ []) (cardTests (stateRule s) (s .lengths) card) → refused (refusalNumber why) ≡ answerOf outcome
   unfolding removeAllOf
   batch-barred why e =
-      gives-by (removeAllOf (storeOf s card) ws) (refuse (refusalNumber why))
-      (barred (3 ∷ 16 ∷ []) (not (batchFormed (words card) s ws) ∷ not (batchRule ws) ∷ []) (inTurn removeOf (storeOf s card) ws) (1 ∷ 2 ∷ []) (cardTests (stateRule s) (s .lengths) card) why e)
-      (refuses (refusalNumber why))
+      sym (ap answerOf (barred (3 ∷ 16 ∷ []) (not (batchFormed (words card) s ws) ∷ not (batchRule ws) ∷ []) (inTurn removeOf (storeOf s card) ws) (1 ∷ 2 ∷ []) (cardTests (stateRule s) (s .lengths) card) why e))
 
   module _ (rule : stateRule s ≡ true) (size : length card ≡ s .lengths .card) where
-    ill-formed : batchFormed (words card) s ws ≡ false → Gives (storeOf s card) (removeAllOf (storeOf s card) ws) (refused 3) (storeOf s card)
-    unfolding removeAllOf
-    ill-formed e = passed _ 1 _ (ap not rule) (passed _ 2 _ (ap not (eq-eqb _ _ size)) (stopped _ 3 _ (ap not e)))
+    ill-formed : batchFormed (words card) s ws ≡ false → refused 3 ≡ answerOf outcome
+    unfolding removeAllOf refuseIf
+    ill-formed e = rw (rule, eq-eqb _ _ size, e)
 
     -- chains, headers or entries are malformed
-    pub bad-partitions : partitionsFormed (words card) (blocks s) (finished (s .partitions)) ≡ false → Gives (storeOf s card) (removeAllOf (storeOf s card) ws) (refused 3) (storeOf s card)
+    pub bad-partitions : partitionsFormed (words card) (blocks s) (finished (s .partitions)) ≡ false → refused 3 ≡ answerOf outcome
     bad-partitions e = ill-formed (unfold batchFormed in rw e)
 
-    module _ (parts : partitionsFormed (words card) (blocks s) (finished (s .partitions)) ≡ true) (r : Bool) (T : List ℕ) (read : ReadLists (words card) s ws r T) where
+    module _ (parts : partitionsFormed (words card) (blocks s) (finished (s .partitions)) ≡ true) (r : Bool) (read : r ≡ (listsRuled (words card) s && every (windowFormed (words card) s) ws)) where
       formed-is : batchFormed (words card) s ws ≡ r
       unfolding batchFormed
-      formed-is = rw parts (sym (read .fine))
+      formed-is = rw parts (sym read)
 
       -- lists or sums are
-      pub bad-lists : r ≡ false → Gives (storeOf s card) (removeAllOf (storeOf s card) ws) (refused 3) (storeOf s card)
+      pub bad-lists : r ≡ false → refused 3 ≡ answerOf outcome
       bad-lists f = ill-formed (formed-is ∙ f)
 
       module _ (fine : r ≡ true) where
         -- the list is no list of windows
-        pub bad-batch : batchRule ws ≡ false → Gives (storeOf s card) (removeAllOf (storeOf s card) ws) (refused 16) (storeOf s card)
-        unfolding removeAllOf
-        bad-batch e = passed _ 1 _ (ap not rule) (passed _ 2 _ (ap not (eq-eqb _ _ size)) (passed _ 3 _ (ap not (formed-is ∙ fine)) (stopped _ 16 _ (ap not e))))
+        pub bad-batch : batchRule ws ≡ false → refused 16 ≡ answerOf outcome
+        unfolding removeAllOf refuseIf
+        bad-batch e = rw (rule, eq-eqb _ _ size, formed-is ∙ fine, e)
 
         module _ (ok : batchRule ws ≡ true) where
-          pub few : length ws ≤ 32
-          few = leb-true _ _ (and-left (leb (length ws) 32) _ (and-right (not (empty ws)) _ ok))
-
-          once : different ws ≡ true
-          once = and-right (leb (length ws) 32) _ (and-right (not (empty ws)) _ ok)
-
-          -- else the windows' counts are read; what is handed on of the slots ends where theirs do
-          pub ready : Ready s card ws (take (65 * length ws - 0) T)
-          ready = record {
+          pub admitted : Admitted s card ws
+          admitted = record {
             rule = rule;
             size = size;
             formed = formed-is ∙ fine;
-            few = few;
-            once = once;
-            slots = all .long;
-            tidy = all .tidy;
-            counts = λ j h. rw (place-once ws once j h) at (all .counts fine (getD ws j 0) (at-elem ws j h));
-            keyed = all .keyed fine;
+            few = leb-true _ _ (and-left (leb (length ws) 32) _ (and-right (not (empty ws)) _ ok));
+            once = and-right (leb (length ws) 32) _ (and-right (not (empty ws)) _ ok);
           }
-            where
-              all : ReadAll (words card) s ws r (take (65 * length ws - 0) T)
-              all = let z : 65 * length ws - 0 ≡ 65 * length ws = omega arith in rw z (read .all few)
 
           -- and the removals decide
-          pub goes-on : {x : Answer} {after : Store} → Gives (storeOf s card) (inTurn removeOf (storeOf s card) ws) x after → Gives (storeOf s card) (removeAllOf (storeOf s card) ws) x after
-          unfolding removeAllOf
-          goes-on g = passed _ 1 _ (ap not rule) (passed _ 2 _ (ap not (eq-eqb _ _ size)) (passed _ 3 _ (ap not (formed-is ∙ fine)) (passed _ 16 _ (ap not ok) g)))
+          pub goes-on : outcome ≡ inTurn removeOf (storeOf s card) ws
+          unfolding removeAllOf refuseIf
+          goes-on = rw (rule, eq-eqb _ _ size, formed-is ∙ fine, ok)
+
+  -- a list that is not refused is admitted, and its removals decided
+  pub record Granted : Type 0 where
+    pub admitted : Admitted s card ws
+    pub on : outcome ≡ inTurn removeOf (storeOf s card) ws
+
+  pub granted : answerOf outcome ≡ done → Granted
+  unfolding removeAllOf
+  granted e =
+      let a = unrefused (not (stateRule s)) 1 _ e in
+      let b = unrefused (not (eqb (length card) (s .lengths .card))) 2 _ (rw (a .1) at e) in
+      let c = unrefused (not (batchFormed (words card) s ws)) 3 _ (rw (a .1, b .1) at e) in
+      let d = unrefused (not (batchRule ws)) 16 _ (rw (a .1, b .1, c .1) at e) in
+      let ok = not-false _ (d .0) in
+      record {
+        admitted = record {
+          rule = not-false _ (a .0);
+          size = eqb-true _ _ (not-false _ (b .0));
+          formed = not-false _ (c .0);
+          few = leb-true _ _ (and-left (leb (length ws) 32) _ (and-right (not (empty ws)) _ ok));
+          once = and-right (leb (length ws) 32) _ (and-right (not (empty ws)) _ ok);
+        };
+        on = a .1 ∙ b .1 ∙ c .1 ∙ d .1;
+      }
+
+  -- refused as judged: nothing has moved
+  pub gives-refused : (n : ℕ) → refused n ≡ answerOf outcome → Gives (storeOf s card) outcome (refused n) (storeOf s card)
+  gives-refused n e = record { answer = e; left = sym (batch-unchanged (storeOf s card) ws .same n (sym e)) }
+
+  -- or done as made
+  pub gives-done : (t : State) (after : List ℕ) → outcome ≡ leave done (storeOf t after) → Gives (storeOf s card) outcome done (storeOf t after)
+  gives-done t after e = rw e (record { answer = refl; left = refl })

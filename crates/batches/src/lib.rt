@@ -1,20 +1,24 @@
-// Removal of several windows together: all or none. The lists are read once for all windows named, and the removals are judged before a byte is written.
+// Removal of several windows together: all or none. All removals are judged before a byte is written, and then made. Both halves read the counts of some windows
+// at a time, so that few of them lie on the stack.
 use admission::Admission;
 use answers::Refusal;
 use answers::Reply;
+use blocks::Free;
 use state::BLOCK_BYTES;
 use state::Buffer;
+use state::Partitions;
 use state::State;
 use state::Windows;
 use sums::Counts;
 use sums::MOST_WINDOWS;
 use sums::SLOT;
 use windows::Replied;
-ghost use mathlib.Core.Bool.{true, false, cond};
+ghost use mathlib.Core.Bool.{true, cond, _&&_};
 ghost use mathlib.Core.List.{[]};
 ghost use mathlib.Core.Path.{_≡_};
 ghost use Prim.Native.Nat.{_+_, _-_, _*_, _≤_, min};
 ghost use lib.ListN.{length};
+ghost use Rattle.lists.specs.Lists.{every};
 ghost use Rattle.words.specs.Words.{words as wordsOf};
 ghost use Rattle.answers.specs.Answers.{answerOf, done, leave, inTurn};
 ghost use Rattle.answers.specs.Numbers.{replied};
@@ -22,32 +26,33 @@ ghost use Rattle.state.specs.Views.{blocks, finished, bufferOf};
 ghost use Rattle.state.specs.Rules.{stateRule};
 ghost use Rattle.partitions.specs.Formed.{partitionsFormed};
 ghost use Rattle.sums.specs.Views.{countsIn};
-ghost use Rattle.windows.specs.Promises.{Gives, storeOf};
+ghost use Rattle.sums.specs.Tally.{listsRuled, windowFormed};
+ghost use Rattle.windows.specs.Promises.{storeOf};
 ghost use Rattle.removals.specs.Removal.{removeOf};
-ghost use Rattle.batches.specs.Batch.{batchRule, RemovesAll};
-ghost use Rattle.batches.specs.Steps.{Ready, ReadLists, roomOf, Roomy, flushAfter, removalAfter};
+ghost use Rattle.batches.specs.Batch.{batchRule, removeAllOf, RemovesAll};
+ghost use Rattle.batches.specs.Steps.{Admitted, roomOf, Roomy, flushAfter, removalAfter, Writable, Listed};
 
-// The numbers of 32 slots.
-const SLOTS: usize = 2080;
+// How many windows' counts are held at a time. With those of all 32 the call would take more than 16 KB of stack.
+const PORTION: usize = 16;
 
-// How many of the windows left one pass takes.
+// The numbers of so many slots.
+const SLOTS: usize = 1040;
+
+// How many of the windows left are read together.
 fn portion(left: usize) -> usize
-    ensures { λ r. ⌜ r ≡ min left 32 ⌝ }
+    ensures { λ r. ⌜ r ≡ min left 16 ⌝ }
 {
-    if left < MOST_WINDOWS {
-        left
-    } else {
-        MOST_WINDOWS
-    }
+    if left < PORTION { left } else { PORTION }
 }
 
-// Judges what is read of every window named, in as many passes as they need; a list that needs more than one is refused later.
-fn read_lists(card: &[u8], s: State, named: &[u32], slots: &mut [u32]) -> bool
+// Judges what is read of every window named, in as many passes as they need. All lists are judged also where none is named.
+fn lists_ok(card: &[u8], s: State, named: &[u32]) -> bool
     requires { ⌜ (stateRule s ≡ true) × (length (wordsOf (now card)) ≡ 1024 * blocks s)
-        × (partitionsFormed (wordsOf (now card)) (blocks s) (finished (s .partitions)) ≡ true) × (length (now slots) ≡ 2080) ⌝ }
-    ensures { λ r. ⌜ ReadLists (wordsOf (now (card .entry))) s (now (named .entry)) r (now (slots .exit)) ⌝ }
+        × (partitionsFormed (wordsOf (now card)) (blocks s) (finished (s .partitions)) ≡ true) ⌝ }
+    ensures { λ r. ⌜ r ≡ (listsRuled (wordsOf (now (card .entry))) s && every (windowFormed (wordsOf (now (card .entry))) s) (now (named .entry))) ⌝ }
 {
     let n = named.len();
+    let mut slots = [0u32; SLOTS];
     let mut from: usize = 0;
     loop {
         let count = portion(n - from);
@@ -176,18 +181,26 @@ fn counted(n: u32, flush: bool) -> u32
 }
 
 // Judges the removals one after another on copies of window numbers and buffer: nothing is written.
-fn judge_all(s: State, card: &[u8], named: &[u32], slots: &[u32]) -> Reply
-    requires { ⌜ Ready s (now card) (now named) (now slots) ⌝ }
+fn judge_all(s: State, card: &[u8], named: &[u32]) -> Reply
+    requires { ⌜ Admitted s (now card) (now named) ⌝ }
     ensures { λ r. ⌜ replied r ≡ answerOf (inTurn removeOf (storeOf s (now (card .entry))) (now (named .entry))) ⌝ }
 {
     let n = named.len();
     let room = room_of(s);
+    let mut slots = [0u32; SLOTS];
     let mut v = s.windows;
     let mut b = s.buffer;
     let mut flushed: u32 = 0;
     let mut i: usize = 0;
     while i < n {
-        let from = SLOT * i;
+        let place = i % PORTION;
+        if place == 0 {
+            let count = portion(n - i);
+            let last = i + count;
+            let end = SLOT * count;
+            sums::read_all(card, s, &named[i..last], &mut slots[0..end]);
+        }
+        let from = SLOT * place;
         let to = from + SLOT;
         let c = sums::counts_of(&slots[from..to], named[i]);
         let verdict = judge_removal(card, room, s.taken, v, b, flushed, named[i], c);
@@ -203,57 +216,115 @@ fn judge_all(s: State, card: &[u8], named: &[u32], slots: &[u32]) -> Reply
     Reply::Done
 }
 
-// Makes the removals one after another, of which none is refused.
-fn remove_each(s: State, card: &mut [u8], named: &[u32], slots: &[u32]) -> State
-    requires { ⌜ Ready s (now card) (now named) (now slots) × (answerOf (inTurn removeOf (storeOf s (now card)) (now named)) ≡ done) ⌝ }
-    ensures { λ r. ⌜ inTurn removeOf (storeOf s (now (card .entry))) (now (named .entry)) ≡ leave done (storeOf r (now (card .exit))) ⌝ }
+// What a call for a list answers. Refusals 1 and 2 come by admission, 3 for what is read of the card, 16 for the list; then come the removals in the order given.
+pub fn judge(s: State, card: &[u8], named: &[u32]) -> Reply
+    ensures { λ r. ⌜ replied r ≡ answerOf (removeAllOf (storeOf s (now (card .entry))) (now (named .entry))) ⌝ }
+{
+    let a = admission::judge_card(rules::state_ok(s), s.lengths, card);
+    if let Admission::Refused(why) = a {
+        return Reply::Refused(why);
+    }
+    let ps = s.partitions;
+    if !partitions::partitions_ok(card, s.lengths.card / BLOCK_BYTES, ps) {
+        return Reply::Refused(Refusal::Malformed);
+    }
+    if !lists_ok(card, s, named) {
+        return Reply::Refused(Refusal::Malformed);
+    }
+    if !batch_ok(named) {
+        return Reply::Refused(Refusal::BadList);
+    }
+    judge_all(s, card, named)
+}
+
+// The finished partitions, and the block last taken.
+struct Listing {
+    pub partitions: Partitions,
+    pub taken: u16,
+}
+
+// Both after a flush, where one is needed. It has passed its tests, so that a free block is found.
+fn list_flush(
+    card: &mut [u8],
+    blocks: u32,
+    taken: u16,
+    b: Buffer,
+    ps: Partitions,
+    flush: bool,
+) -> Listing
+    requires { ⌜ (flush ≡ true → Writable (now card) blocks taken b ps) ⌝ }
+    ensures { λ r. ⌜ Listed (now (card .entry)) blocks taken b ps flush r (now (card .exit)) ⌝ }
+{
+    if !flush {
+        return Listing {
+            partitions: ps,
+            taken: taken,
+        };
+    }
+    let free = blocks::next_free(card, blocks, taken);
+    match free {
+        Free::Nothing => Listing {
+            partitions: ps,
+            taken: taken,
+        },
+        Free::Block(block) => {
+            let list = flushes::writing::flush(card, block, b, ps);
+            Listing {
+                partitions: list,
+                taken: block,
+            }
+        }
+    }
+}
+
+// Makes the removals one after another, of which none is refused. Counts are read from what the removals before have left, which other windows' counts are not
+// moved by.
+pub fn remove_each(s: State, card: &mut [u8], named: &[u32]) -> State
+    requires { ⌜ answerOf (removeAllOf (storeOf s (now card)) (now named)) ≡ done ⌝ }
+    ensures { λ r. ⌜ removeAllOf (storeOf s (now (card .entry))) (now (named .entry)) ≡ leave done (storeOf r (now (card .exit))) ⌝ }
 {
     let n = named.len();
+    let mut slots = [0u32; SLOTS];
     let mut t = s;
     let mut i: usize = 0;
     while i < n {
-        let from = SLOT * i;
+        let place = i % PORTION;
+        if place == 0 {
+            let count = portion(n - i);
+            let last = i + count;
+            let end = SLOT * count;
+            sums::read_all(card, t, &named[i..last], &mut slots[0..end]);
+        }
+        let from = SLOT * place;
         let to = from + SLOT;
         let c = sums::counts_of(&slots[from..to], named[i]);
-        let r = removals::remove_counts(t, card, named[i], c);
-        t = r.state;
+        let flush = removals::must_flush(t.buffer, c);
+        let l = list_flush(
+            card,
+            t.lengths.card / BLOCK_BYTES,
+            t.taken,
+            t.buffer,
+            t.partitions,
+            flush,
+        );
+        let left = removals::take_back(begun(t.buffer, flush), c);
+        let list = l.partitions;
+        t.windows = one_less(t.windows);
+        t.buffer = left;
+        t.partitions = list;
+        t.taken = l.taken;
         i += 1;
     }
     t
 }
 
-// The removals of a list that has passed refusals 1 to 3 and 16: judged first, then made.
-fn remove_listed(s: State, card: &mut [u8], named: &[u32], slots: &[u32]) -> Replied
-    requires { ⌜ Ready s (now card) (now named) (now slots) ⌝ }
-    ensures { λ r. ⌜ Gives (storeOf s (now (card .entry))) (inTurn removeOf (storeOf s (now (card .entry))) (now (named .entry)))
-        (replied (r .reply)) (storeOf (r .state) (now (card .exit))) ⌝ }
-{
-    let verdict = judge_all(s, card, named, slots);
-    match verdict {
-        Reply::Refused(why) => windows::refuse(s, why),
-        Reply::Done => windows::done(remove_each(s, card, named, slots)),
-    }
-}
-
-// Removes closed windows together. Refusals 1 and 2 come by admission, 3 for what is read of the card, 16 for the list; then come the removals in the order given.
+// Removes closed windows together: judged first, and then made.
 pub fn remove_all(s: State, card: &mut [u8], named: &[u32]) -> Replied
     ensures { λ r. ⌜ RemovesAll s (now (card .entry)) (now (named .entry)) r (now (card .exit)) ⌝ }
 {
-    let a = admission::judge_card(rules::state_ok(s), s.lengths, card);
-    if let Admission::Refused(why) = a {
-        return windows::refuse(s, why);
+    let verdict = judge(s, card, named);
+    match verdict {
+        Reply::Refused(why) => windows::refuse(s, why),
+        Reply::Done => windows::done(remove_each(s, card, named)),
     }
-    let ps = s.partitions;
-    if !partitions::partitions_ok(card, s.lengths.card / BLOCK_BYTES, ps) {
-        return windows::refuse(s, Refusal::Malformed);
-    }
-    let mut slots = [0u32; SLOTS];
-    if !read_lists(card, s, named, &mut slots) {
-        return windows::refuse(s, Refusal::Malformed);
-    }
-    if !batch_ok(named) {
-        return windows::refuse(s, Refusal::BadList);
-    }
-    let end = SLOT * named.len();
-    remove_listed(s, card, named, &slots[0..end])
 }

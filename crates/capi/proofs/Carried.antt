@@ -1,6 +1,6 @@
 -- What an engine's call promises of states, promised of their images.
-use Rattle.lists.proofs.Prelude.{Bool, true, false, not, List, _≡_, refl, sym, ap, _∙_, ℕ, eqb, length, not-false}
-use Rattle.words.specs.Words.{Below}
+use Rattle.lists.proofs.Prelude.{Bool, true, false, not, List, _≡_, refl, sym, ap, _∙_, ℕ, zero, suc, eqb, length, not-false}
+use Rattle.words.specs.Words.{bytes, Below}
 use Rattle.answers.specs.Answers.{Answer, done, number, hits, mean, forecast, refused, Outcome, refuse, leave, refuseIf, carry, answerOf, stateOf}
 use Rattle.answers.specs.Unchanged.{Unchanged}
 use Rattle.state.specs.declared.State.{State}
@@ -8,11 +8,11 @@ use Rattle.state.specs.Probe.{Store, Probe}
 use Rattle.windows.specs.Promises.{Gives, storeOf, probeOf}
 use Rattle.windows.specs.Calls.{startOf, unstarted}
 use Rattle.windows.proofs.Outcomes.{stopped, passed}
-use Rattle.images.specs.Images.{imageRule}
+use Rattle.images.specs.Images.{imageRule, imageOf}
 use Rattle.images.proofs.Fits.{image-length}
 use Rattle.images.proofs.Inverse.{image-back}
 use Rattle.capi.specs.Exports.{cardedOf, lentOf, imagedStore, imagedProbe, Lent, startOn, unstartedOn}
-use Rattle.numbers.specs.Images.{stateOn, imaged, leftOn}
+use Rattle.numbers.specs.Images.{stateOn, imaged, repliedBy, leftOn}
 
 -- Promises carried over ----------------------------------------------------------------------------------------------
 
@@ -94,6 +94,33 @@ module _ (image : List ℕ) {good : Bool} (rule : good ≡ imageRule image) (lef
         let r : Gives p (o p) a (probeOf t card' register') = rw read at g in
         let same = put (λ n q. ap (λ (x : Probe). x .state) (left-refused p (o p) n (probeOf t card' register') (u p) (rw q at r))) in
         passed _ 1 _ (ap not (sym rule) ∙ left) (rw (out .0, same) (carried imagedProbe p (lentOf image card register) (ap (λ (i : List ℕ). lentOf i card register) back) (o p) a (probeOf t card' register') r))
+
+-- Judged and then made ------------------------------------------------------------------------------------------------
+
+-- a number that is not 0 is a refusal's
+refused-by : (n : ℕ) → (n ≡ 0 → ⊥) → repliedBy n ≡ refused n
+refused-by zero h = absurd (h refl)
+refused-by (suc n) h = refl
+
+-- a call that is made after it was judged: what it leaves of image and card
+pub made-on : (o : Store → Outcome Store) (image card : List ℕ) (s t : State) (image' card' : List ℕ) → s ≡ stateOn image → o (storeOf s card) ≡ leave done (storeOf t card') → image' ≡ bytes (imageOf t)
+    → carry imagedStore (o (storeOf (stateOn image) card)) ≡ leave done (cardedOf image' card')
+unfolding imagedStore imaged
+made-on o image card s t image' card' read e put =
+    ap (λ (x : State). carry imagedStore (o (storeOf x card))) (sym read) ∙ ap (carry imagedStore) e ∙ ap (λ (i : List ℕ). leave done (cardedOf i card')) (sym put)
+
+module _ (image : List ℕ) {good : Bool} (rule : good ≡ imageRule image) (left : not good ≡ false) (o : Store → Outcome Store) (card : List ℕ) where
+  -- refused as it is judged
+  pub judged-refused : Below 256 image → ((p : Store) → Unchanged p (o p)) → (n : ℕ) → (n ≡ 0 → ⊥) → repliedBy n ≡ answerOf (o (storeOf (stateOn image) card))
+      → Gives (cardedOf image card) (refuseIf (not (imageRule image)) 1 (carry imagedStore (o (storeOf (stateOn image) card)))) (repliedBy n) (cardedOf image card)
+  judged-refused known u n h e =
+      let r : refused n ≡ answerOf (o (storeOf (stateOn image) card)) = sym (refused-by n h) ∙ e in
+      rw (refused-by n h) (on-store image rule left known (stateOn image) refl (refl, refl) o u (record { answer = r; left = sym (u (storeOf (stateOn image) card) .same n (sym r)) }))
+
+  -- or made
+  pub judged-made : (image' card' : List ℕ) → carry imagedStore (o (storeOf (stateOn image) card)) ≡ leave done (cardedOf image' card')
+      → Gives (cardedOf image card) (refuseIf (not (imageRule image)) 1 (carry imagedStore (o (storeOf (stateOn image) card)))) done (cardedOf image' card')
+  judged-made image' card' e = passed _ 1 _ (ap not (sym rule) ∙ left) (rw e (record { answer = refl; left = refl }))
 
 -- Start --------------------------------------------------------------------------------------------------------------
 

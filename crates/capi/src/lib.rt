@@ -8,18 +8,20 @@ use postings::Stretch;
 use ranking::Top;
 use windows::Opening;
 use windows::Replied;
-ghost use mathlib.Core.Bool.{cond, _&&_};
+ghost use mathlib.Core.Bool.{true, cond, _&&_};
 ghost use mathlib.Core.List.{map};
 ghost use mathlib.Core.Path.{_≡_};
 ghost use Prim.Native.Nat.{_*_, _≤_};
 ghost use lib.ListN.{length};
-ghost use Rattle.answers.specs.Answers.{answerOf};
+ghost use Rattle.answers.specs.Answers.{done, leave, answerOf, carry};
 ghost use Rattle.identifiers.specs.Register.{registerRule};
 ghost use Rattle.state.specs.Rules.{registerLength};
-ghost use Rattle.windows.specs.Promises.{Gives};
+ghost use Rattle.windows.specs.Promises.{Gives, storeOf};
 ghost use Rattle.ranking.specs.Top.{listedHits};
-ghost use Rattle.capi.specs.Exports.{cardedOf, lentOf, startOn, unstartedOn, openOn, closeOn, eventOn, flushOn, removeOn, removeAllOn, stepOn};
-ghost use Rattle.numbers.specs.Images.{repliedBy, openedBy, numberFor, toldBy};
+ghost use Rattle.batches.specs.Batch.{removeAllOf};
+ghost use Rattle.images.specs.Images.{imageRule};
+ghost use Rattle.capi.specs.Exports.{cardedOf, lentOf, imagedStore, startOn, unstartedOn, openOn, closeOn, eventOn, flushOn, removeOn, removeAllOn, stepOn};
+ghost use Rattle.numbers.specs.Images.{stateOn, repliedBy, openedBy, numberFor, toldBy};
 ghost use Rattle.capi.specs.Queries.{hitBytes, Tells, queryOn, meanOn, forecastOn};
 
 // Has a register of so many bytes 1 to 1,024 whole entries?
@@ -211,6 +213,28 @@ pub extern "C" fn gemsilver_remove(image: &mut [u8], card: &mut [u8], window: u3
     numbers::settle(image, r)
 }
 
+// What the removal of several windows together answers, as a number. The state that is read for it is gone before the removals are made, so that not both lie on the
+// stack.
+fn judge_list(image: &[u8], card: &[u8], windows: &[u32]) -> u32
+    requires { ⌜ imageRule (now image) ≡ true ⌝ }
+    ensures { λ r. ⌜ repliedBy r ≡ answerOf (removeAllOf (storeOf (stateOn (now (image .entry))) (now (card .entry))) (now (windows .entry))) ⌝ }
+{
+    let s = images::read_state(image);
+    let verdict = batches::judge(s, card, windows);
+    numbers::reply_number(verdict)
+}
+
+// Removes several windows together, where that is not refused.
+fn remove_list(image: &mut [u8], card: &mut [u8], windows: &[u32])
+    requires { ⌜ (imageRule (now image) ≡ true) × (answerOf (removeAllOf (storeOf (stateOn (now image)) (now card)) (now windows)) ≡ done) ⌝ }
+    ensures { λ _. ⌜ carry imagedStore (removeAllOf (storeOf (stateOn (now (image .entry))) (now (card .entry))) (now (windows .entry)))
+        ≡ leave done (cardedOf (now (image .exit)) (now (card .exit))) ⌝ }
+{
+    let s = images::read_state(image);
+    let t = batches::remove_each(s, card, windows);
+    images::write_state(image, t);
+}
+
 // Several windows are removed together, or none.
 #[no_mangle]
 pub extern "C" fn gemsilver_remove_all(image: &mut [u8], card: &mut [u8], windows: &[u32]) -> u32
@@ -220,9 +244,12 @@ pub extern "C" fn gemsilver_remove_all(image: &mut [u8], card: &mut [u8], window
     if !images::image_ok(image) {
         return 1;
     }
-    let s = images::read_state(image);
-    let r = batches::remove_all(s, card, windows);
-    numbers::settle(image, r)
+    let why = judge_list(image, card, windows);
+    if why != 0 {
+        return why;
+    }
+    remove_list(image, card, windows);
+    0
 }
 
 // A merge is taken one step further, or begun.

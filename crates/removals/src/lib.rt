@@ -145,7 +145,7 @@ pub fn must_flush(b: Buffer, c: Counts) -> bool
 }
 
 // Removes a window whose counts are read, with a flush first where the buffer has no room for them.
-pub fn remove_counts(s: State, card: &mut [u8], window: u32, c: Counts) -> Replied
+fn remove_counts(s: State, card: &mut [u8], window: u32, c: Counts) -> Replied
     requires { ⌜ Removable s (now card) window c ⌝ }
     ensures { λ r. ⌜ Gives (storeOf s (now (card .entry))) (removing s (now (card .entry)) window (countsIn c))
         (replied (r .reply)) (storeOf (r .state) (now (card .exit))) ⌝ }

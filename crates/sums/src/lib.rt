@@ -192,12 +192,11 @@ pub fn read_all(card: &[u8], s: State, windows: &[u32], slots: &mut [u32]) -> bo
     ensures { λ r. ⌜ ReadAll (wordsOf (now (card .entry))) s (now (windows .entry)) r (now (slots .exit)) ⌝ }
 {
     clear(slots, windows.len());
-    let ps = s.partitions;
-    if !spans::spans_ok(card, ps) {
+    if !spans::spans_ok(card, s.partitions) {
         return false;
     }
     let mut heads = [0u32; 510];
-    let start = scans::open_heads(card, ps, &mut heads);
+    let start = scans::open_heads(card, s.partitions, &mut heads);
     walk(card, &mut heads, start, s, s.buffer, windows, slots)
 }
 

@@ -12,15 +12,15 @@ use Rattle.sums.proofs.read_all.Tie as tie
 
 spans-ok-requires : tie.Need-spans-ok-requires
 spans-ok-requires c κs =
-    let s = c .before .before .before .before .before .before .before .before in
+    let s = c .before .before .before .before .before .before .before in
     let q = s .args .s in
     let k = state-kept q (s .pre .0) in
     (k .partitions .used, all-readable (words (s .args .card .now)) (blocks q) (finished (q .partitions)) (s .pre .1) (k .lengths .mostBlocks) (s .pre .2))
 
 returns : tie.Need-returns
 returns c =
-    let s = c .before .before .before .before .before .before .before .before .before .before in
-    let k = c .before .before .before .before .before .clear .ensures in
+    let s = c .before .before .before .before .before .before .before .before .before in
+    let k = c .before .before .before .before .clear .ensures in
     let e = lists-unspanned (words (s .args .card .now)) (finished (s .args .s .partitions)) (failed (c .before .spans-ok .ensures) (c .if1 .taken)) in
     record {
       fine = sym (ap (λ b. b && every (windowFormed (words (s .args .card .now)) (s .args .s)) (s .args .windows .now)) e);
@@ -32,7 +32,7 @@ returns c =
 
 open-heads-requires : tie.Need-open-heads-requires
 open-heads-requires c κs =
-    let s = c .before .before .before .before .before .before .before .before .before .before .before in
+    let s = c .before .before .before .before .before .before .before .before .before .before in
     let q = s .args .s in
     let k = state-kept q (s .pre .0) in
     (k .partitions .used, omega (arith, k .partitions .used), omega arith, all-readable (words (s .args .card .now)) (blocks q) (finished (q .partitions)) (s .pre .1) (k .lengths .mostBlocks) (s .pre .2))
@@ -40,7 +40,7 @@ open-heads-requires c κs =
 walk-requires : tie.Need-walk-requires
 walk-requires c κs =
     let t = c .before .before .before .before .before .before in
-    let s = t .before .before .before .before .before .before .before .before .before in
+    let s = t .before .before .before .before .before .before .before .before in
     let k = state-kept (s .args .s) (s .pre .0) in
     let o = c .before .before .before .open-heads .ensures in (
       record {
@@ -53,7 +53,7 @@ walk-requires c κs =
         spans = passed (t .spans-ok .ensures) (c .before .before .before .before .before .if1 .left);
       },
       s .pre .3,
-      t .before .before .before .before .clear .ensures,
+      t .before .before .before .clear .ensures,
     )
 
 returns-2 : tie.Need-returns-2

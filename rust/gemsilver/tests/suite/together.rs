@@ -183,6 +183,28 @@ fn a_flush_refused_at_a_later_window_refuses_the_list() {
     }
 }
 
+/// Windows of 6 to 20 names each: more than are read at a time, with flushes between them.
+#[test]
+fn every_window_of_a_long_list_has_its_own_counts() {
+    for length in [11, 12, 13, 24, 25, 32] {
+        let mut pair = Pair::start(64, 64, &mut Tally::default());
+        for number in 0..34 {
+            window(&mut pair, 6 + number * 7 % 15);
+        }
+        let list: Vec<u32> = (1..=length).map(|place| place * 5 % 33).collect();
+        let mut refused = list.clone();
+        *refused.last_mut().expect("a window") = 99;
+        assert_eq!(together(&mut pair, &refused), Err(7), "{length}");
+        let before = state(&pair).partitions.used;
+        assert_eq!(together(&mut pair, &list), Ok(()), "{length}");
+        assert_eq!(u32::from(state(&pair).windows.live), 34 - length);
+        assert!(state(&pair).partitions.used > before, "{length}");
+        let mut others: Vec<u32> = (1..=34).filter(|number| !list.contains(number)).collect();
+        others.truncate(32);
+        assert_eq!(together(&mut pair, &others), Ok(()), "{length}");
+    }
+}
+
 /// N counts fewer live windows than have counts.
 #[test]
 fn n_may_run_out_on_the_way() {
