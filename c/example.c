@@ -1,6 +1,5 @@
 /* Counts events in nine windows, with a flush after each, merges the partitions a step at a time, and queries before, between and after, also over a few
- * windows alone and under the badge of a maker, who sees the windows of its own games only. Tells the mean count of an identifier before a removal and after,
- * removes windows together, and forecasts what two plans would take. */
+ * windows alone. Tells the mean count of an identifier before a removal and after, removes windows together, and forecasts what two plans would take. */
 #include "gemsilver.h"
 
 #include <stdio.h>
@@ -21,14 +20,6 @@ static void event(const char *identifier) {
                                   strlen(identifier)));
 }
 
-static void listed(uint64_t found, const uint8_t *hits) {
-    printf("%u postings:", (unsigned)gemsilver_query_taken(found));
-    for (size_t i = 0; i < gemsilver_query_hits(found); i++) {
-        printf(" window %u (%u)", (unsigned)gemsilver_hit_window(hits, i), (unsigned)gemsilver_hit_score(hits, i));
-    }
-    printf("\n");
-}
-
 static void query_over(uint16_t first, uint16_t last) {
     struct gemsilver_bytes identifiers[] = {{(const uint8_t *)"LUCKY", 5}, {(const uint8_t *)"TILT", 4}};
     uint8_t hits[3 * GEMSILVER_HIT];
@@ -38,30 +29,15 @@ static void query_over(uint16_t first, uint16_t last) {
         told("query", gemsilver_query_refusal(found));
         return;
     }
-    listed(found, hits);
+    printf("%u postings:", (unsigned)gemsilver_query_taken(found));
+    for (size_t i = 0; i < gemsilver_query_hits(found); i++) {
+        printf(" window %u (%u)", (unsigned)gemsilver_hit_window(hits, i), (unsigned)gemsilver_hit_score(hits, i));
+    }
+    printf("\n");
 }
 
 static void query(void) {
     query_over(GEMSILVER_FIRST_WINDOW, GEMSILVER_LAST_WINDOW);
-}
-
-/* The same over all windows, under a badge that has an access identifier so many times. */
-static void query_as(const char *access, size_t times) {
-    struct gemsilver_bytes identifiers[] = {{(const uint8_t *)"LUCKY", 5}, {(const uint8_t *)"TILT", 4}};
-    struct gemsilver_bytes badge[GEMSILVER_MOST_BADGE + 1];
-    for (size_t i = 0; i < times; i++) {
-        badge[i].bytes = (const uint8_t *)access;
-        badge[i].length = strlen(access);
-    }
-    uint8_t hits[3 * GEMSILVER_HIT];
-    uint64_t found = gemsilver_query_as(image, sizeof image, card, sizeof card, reg, sizeof reg, identifiers, 2, badge, times,
-                                        GEMSILVER_FIRST_WINDOW, GEMSILVER_LAST_WINDOW, hits, sizeof hits);
-    if (gemsilver_query_refusal(found) != 0) {
-        told("query_as", gemsilver_query_refusal(found));
-        return;
-    }
-    printf("as %s: ", access);
-    listed(found, hits);
 }
 
 static void mean(const char *identifier) {
@@ -122,15 +98,12 @@ int main(void) {
             event("TILT");
         }
         event("DOOR");
-        event(window % 2 == 0 ? "ACME" : "NOVA"); /* whose game was played */
         told("close", gemsilver_close(image, sizeof image));
         told("flush", gemsilver_flush(image, sizeof image, card, sizeof card));
     }
     query();
     query_over(2, 4); /* six of nine partitions are passed over */
     query_over(4, 2);
-    query_as("ACME", 1); /* windows 2, 4, 6 and 8 */
-    query_as("ACME", GEMSILVER_MOST_BADGE + 1);
     mean("LUCKY");
     told("remove", gemsilver_remove(image, sizeof image, card, sizeof card, 9));
     query();
@@ -142,11 +115,9 @@ int main(void) {
         query();
     }
     printf("%u steps\n", (unsigned)steps);
-    query_as("ACME", 1); /* neither the merge nor the removal of a window of NOVA is told */
     const uint32_t windows[] = {4, 6, 9};
     remove_all(windows, 3); /* 9 is removed already, so that 4 and 6 stay */
     remove_all(windows, 2);
-    query_as("ACME", 1);
     remove_all(NULL, 0);
     const char *const fits[] = {"LUCKY", "COIN", "LUCKY"};
     const char *const stops[] = {"DOOR", "COIN", "BELL", "COIN", "", "LUCKY"}; /* an empty identifier is none */

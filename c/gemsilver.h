@@ -1,6 +1,5 @@
-/* Gemsilver for C and C++: counts events by identifier in windows of play, keeps them on a card, finds the closed windows of a stretch that match best, all
- * of them or those that a badge sees, tells the mean count of an identifier, removes windows, one or several together, and forecasts what a planned session
- * would take.
+/* Gemsilver for C and C++: counts events by identifier in windows of play, keeps them on a card, finds the closed windows of a stretch that match best,
+ * tells the mean count of an identifier, removes windows, one or several together, and forecasts what a planned session would take.
  *
  * The caller lends three buffers and hands them back to the next call as they were left: the state's image, the card and the register.
  * docs/FORMAT.md tells them byte by byte. They belong together: save all three or none, and at the same moment.
@@ -12,8 +11,7 @@
  * - A buffer may stand at any address, with any alignment; a list of identifiers, of windows or of numbers is aligned as its type is. Buffers that a call
  *   writes (those without const) may overlap no other buffer of the call; those that it only reads may overlap each other.
  * - NULL with a length of 0 is an empty buffer. It is judged like any other of that length: an empty image is refused with 1, an empty card or
- *   register with 2, an empty identifier with 4, no identifiers and an empty list of hits with 14, an empty list of windows with 16, an empty badge with 18.
- *   A plan may be empty.
+ *   register with 2, an empty identifier with 4, no identifiers and an empty list of hits with 14, an empty list of windows with 16. A plan may be empty.
  *
  * The archive: `rt staticlib capi` writes target/staticlib/libcapi.a, for x86-64 Linux. It uses no heap and keeps nothing of its own; of the C
  * library it needs memcpy and memset alone.
@@ -41,7 +39,6 @@ extern "C" {
 #define GEMSILVER_HIT 8                 /* a place in a list of hits */
 #define GEMSILVER_MOST_HITS 32          /* a list has 1 to 32 places */
 #define GEMSILVER_MOST_IDENTIFIERS 5    /* a query names 1 to 5 identifiers */
-#define GEMSILVER_MOST_BADGE 8          /* a badge has 1 to 8 identifiers */
 #define GEMSILVER_MOST_WINDOWS 32       /* 1 to 32 windows are removed together */
 #define GEMSILVER_FIRST_WINDOW 1        /* a query over all windows is one from the first of these two to the last */
 #define GEMSILVER_LAST_WINDOW 65535
@@ -65,8 +62,7 @@ enum gemsilver_refusal {
     GEMSILVER_BAD_QUERY = 14,
     GEMSILVER_UNCOUNTED = 15,
     GEMSILVER_BAD_LIST = 16,
-    GEMSILVER_BAD_STRETCH = 17,
-    GEMSILVER_BAD_BADGE = 18
+    GEMSILVER_BAD_STRETCH = 17
 };
 
 /* A refusal's number in words; of any other number that it is none. */
@@ -106,8 +102,6 @@ static inline const char *gemsilver_refusal_text(uint32_t refusal) {
         return "a list of windows is empty, has more than 32, or names one twice";
     case GEMSILVER_BAD_STRETCH:
         return "a stretch whose first window exceeds its last";
-    case GEMSILVER_BAD_BADGE:
-        return "a badge of no or more than 8 identifiers";
     default:
         return "no refusal";
     }
@@ -167,22 +161,8 @@ uint64_t gemsilver_query(const uint8_t *image, size_t image_length, const uint8_
                          size_t reg_length, const struct gemsilver_bytes *identifiers, size_t identifier_count,
                          uint16_t first, uint16_t last, uint8_t *hits, size_t hits_length);
 
-/* Finds, as gemsilver_query does, windows that a badge sees alone. The badge is a list of 1 to 8 access identifiers, of which one may be there twice; a
- * closed window is visible to it where at least one of them counts. N, F and hits are of the visible windows from first to last.
- *
- * The postings taken are told as the pairs of an identifier of the query and a visible window from first to last in which it counts, wherever that is stored: the
- * stored number would tell of merges and of windows that the badge does not see. After two histories of calls whose visible windows agree, numbers and counts
- * alike, the badge is given the same answers.
- *
- * The badge's identifiers are read and judged as the query's are, by 3 and 4, however many they be; 14 is of the query's alone. A badge of no or more
- * than 8 is refused with 18, after all else. */
-uint64_t gemsilver_query_as(const uint8_t *image, size_t image_length, const uint8_t *card, size_t card_length, const uint8_t *reg,
-                            size_t reg_length, const struct gemsilver_bytes *identifiers, size_t identifier_count,
-                            const struct gemsilver_bytes *badge, size_t badge_count, uint16_t first, uint16_t last, uint8_t *hits,
-                            size_t hits_length);
-
-/* Of what a query gave, under a badge or not: its refusal, 0 where it is none; how many hits are listed; how many stored postings it took up, of the buffer and
- * of the partitions not passed over, the open window's too; under a badge, how many pairs as told there. */
+/* Of what a query gave: its refusal, 0 where it is none; how many hits are listed; how many stored postings it took up, of the buffer and of the partitions
+ * not passed over, the open window's too. */
 static inline uint32_t gemsilver_query_refusal(uint64_t found) {
     return (uint32_t)(found % 256);
 }

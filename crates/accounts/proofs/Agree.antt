@@ -14,10 +14,9 @@ use Rattle.forecasts.specs.Plan.{Planned, Placed, opening, counting, closing, pl
 use Rattle.forecasts.specs.Course.{follow}
 use Rattle.forecasts.proofs.Alike as course
 use Rattle.ranking.specs.Hits.{frequency, ranked}
-use Rattle.ranking.specs.Sight.{seen_in, seen_by}
 use Rattle.averages.specs.Average.{total, averaged}
 use Rattle.removals.specs.Removal.{counts_of, is_live}
-use Rattle.engine.specs.Calls.{Call, Open, Event, Close, Remove, RemoveAll, Flush, Step, Query, QueryAs, Mean, Forecast}
+use Rattle.engine.specs.Calls.{Call, Open, Event, Close, Remove, RemoveAll, Flush, Step, Query, Mean, Forecast}
 use Rattle.accounts.specs.Account.{Account, stored_in, taken_from, read_by, blocks_in, blocks_ahead, stepped_account, flushed_account, overflows, exceeds, added_to, stepping, flushing, flushing_if}
 use Rattle.accounts.specs.Ledger.{Ledger, live, shown, existing, shown_within, existing_within, opens, closes, including, counts, removes}
 use Rattle.accounts.specs.Books.{once, taken_back, Books, books_gauge, removal_in, planned_in, books}
@@ -30,7 +29,7 @@ use Rattle.accounts.proofs.Lawful.{Lawful}
 use Rattle.accounts.proofs.Held.{counts-back, counts-live, counts-length, length_back}
 use Rattle.accounts.proofs.Kept.{Kept, kept-flushed, kept-stepped, kept-opens, kept-closes, kept-counts, kept-removes}
 use Rattle.accounts.proofs.Sound.{windows_of, lists_of, current-open, current-shut, buffer-hold, rules-hold, call-formed}
-use Rattle.accounts.proofs.Queries.{query-within, seen-within, frequency-same, total-same}
+use Rattle.accounts.proofs.Queries.{query-within, frequency-same, total-same}
 
 -- ---- the lists after each change
 
@@ -295,7 +294,7 @@ module _ (blocks entries : ℕ) where
 
   module _ (small : entries ≤ 1024) (l : Ledger) (a : Account) (k : Kept blocks entries l a) where
     pursued-alike : (c : Call) → Alike blocks entries (pursued blocks entries (lists_of l a) c) (books blocks entries l a c)
-    unfolding pursued books seen_in ranked shown_within shown
+    unfolding pursued books
     pursued-alike Open = planned-alike small l a k opening
     pursued-alike (Event n) = planned-alike small l a k (counting n)
     pursued-alike Close = planned-alike small l a k closing
@@ -311,10 +310,6 @@ module _ (blocks entries : ℕ) where
       where
         taken : ℕ
         taken = taken_from (numbers_of l.identifiers ns) (read_by t a)
-    pursued-alike (QueryAs m t ns bs) =
-        refusing _ _ 4 _ _ refl λ _. refusing _ _ 14 _ _ refl λ _. refusing _ _ 17 _ _ refl λ _. refusing _ _ 18 _ _ refl λ _.
-        subst (λ x. Alike blocks entries (leave x (lists_of l a)) (leave (seen_by l.count (shown_within t l) bs m ns) (record { ledger = l; account = a })))
-        (sym (seen-within blocks entries l a k t m ns bs)) (both_leave refl k)
     pursued-alike (Mean n) =
         refusing _ _ 4 _ _ refl λ _. refusing _ _ 15 _ _ (ap (λ f. eqb f 0) (frequency-same blocks entries l a k n)) λ _.
         subst (λ x. Alike blocks entries (leave x (lists_of l a)) (leave (averaged (frequency l.count (shown l) n) (total l.count (shown l) n)) (record { ledger = l; account = a })))

@@ -11,7 +11,6 @@ pub mod Ranked
 pub mod Picks
 pub mod Live
 pub mod Lawful
-pub mod Sight
 pub mod Counted
 pub mod Showing
 pub mod Held

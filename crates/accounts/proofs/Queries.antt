@@ -1,5 +1,5 @@
 -- What a query and a mean find in the lists is what the ledger says, of all windows that show and of a stretch.
-use Rattle.lists.proofs.Prelude.{true, false, not, cond, List, [], ◌≡◌, sym, ap, ap₂, ◌∙◌, fun_ext, ℕ, suc, ◌-◌, ◌<◌, ◌≤◌, arith, ltb, pos, length, get_or, eqb-false, ne_eqb, not-true, up_to, different, by-test, any_none, every, elem, every-elem, every-keep, keep_low, keep-agree, different-keep}
+use Rattle.lists.proofs.Prelude.{true, false, not, cond, List, [], ◌≡◌, sym, ap, ap₂, ◌∙◌, fun_ext, ℕ, suc, ◌-◌, ◌<◌, ◌≤◌, arith, ltb, pos, length, get_or, eqb-false, ne_eqb, not-true, up_to, different, by-test, any_none, keep_low, keep-agree, different-keep}
 use Rattle.lists.proofs.TopK.{different-down}
 use Rattle.postings.specs.declared.Stretch.{Stretch}
 use Rattle.postings.specs.Sums.{sum, above}
@@ -8,14 +8,12 @@ use Rattle.state.specs.Shown.{within, shown_in}
 use Rattle.stretches.specs.Reached.{whole}
 use Rattle.identifiers.specs.Names.{Name, numbers_of}
 use Rattle.ranking.specs.Hits.{frequency, ranked}
-use Rattle.ranking.specs.Sight.{visible, seen_by}
 use Rattle.averages.specs.Average.{total}
 use Rattle.accounts.specs.Account.{Account, stored_in, read_by}
 use Rattle.accounts.specs.Ledger.{Ledger, live, shown, existing, shown_within, existing_within, count_by_number}
 use Rattle.accounts.specs.Lists as lists
 use Rattle.accounts.specs.Lists.{count_of, frequency_of, total_of}
 use Rattle.accounts.proofs.Ranked.{SameCounted, counted-kept, frequency-windows, total-windows, ranked-windows, ranked-agree, frequency-none, total-none, one-query, ranked-names}
-use Rattle.accounts.proofs.Sight.{seen_alike, visible-agree, visible-windows, seen-names}
 use Rattle.accounts.proofs.Lawful.{Lawful}
 use Rattle.accounts.proofs.Held.{any-by-number, counts-live}
 use Rattle.accounts.proofs.Kept.{Kept}
@@ -104,30 +102,6 @@ module _ (blocks entries : ℕ) (l : Ledger) (a : Account) (k : Kept blocks entr
         ∙ ranked-agree (existing_within t l) (count_of (read_by t a)) (count_by_number l) (within t) (shown_in t (windows_of l)) m is (every-within t (windows_of l)) (λ i w y. ap above (sums-read w y i))
         ∙ ranked-windows (count_by_number l) (shown_in t (windows_of l)) (shown_within t l) (within_same entries l k.lawful t) (existing_within t l) m is
         ∙ ranked-names (existing_within t l) l.count l.identifiers ns (shown_within t l) m (λ n w z. k.lawful.uncounted n w z)
-
-    -- under a badge: what is told of the numbers in what is read is what the ledger tells of the names
-    pub seen-within : (m : ℕ) (ns bs : List Name)
-        → seen_by (count_of (read_by t a)) (shown_in t (windows_of l)) (numbers_of l.identifiers bs) m (numbers_of l.identifiers ns) ≡ seen_by l.count (shown_within t l) bs m ns
-    seen-within m ns bs =
-        seen_alike (count_of (read_by t a)) (count_by_number l) (shown_in t (windows_of l)) (shown_within t l) os same (λ w y i. agree i w (inside w y)) m (numbers_of l.identifiers ns)
-        ∙ seen-names l.count l.identifiers (λ n w z. k.lawful.uncounted n w z) (shown_within t l) bs ns m
-      where
-        os : List ℕ
-        os = numbers_of l.identifiers bs
-
-        agree : (i w : ℕ) → within t w ≡ true → count_of (read_by t a) i w ≡ count_by_number l i w
-        agree i w y = unfold count_of in ap above (sums-read w y i)
-
-        same : visible (count_of (read_by t a)) (shown_in t (windows_of l)) os ≡ visible (count_by_number l) (shown_within t l) os
-        same =
-            visible-agree (count_of (read_by t a)) (count_by_number l) (within t) (shown_in t (windows_of l)) (every-within t (windows_of l)) agree os
-            ∙ visible-windows (count_by_number l) (shown_in t (windows_of l)) (shown_within t l) (within_same entries l k.lawful t) os
-
-        inside : (w : ℕ) → elem w (visible (count_of (read_by t a)) (shown_in t (windows_of l)) os) ≡ true → within t w ≡ true
-        inside w y = every-elem (within t) (visible (count_of (read_by t a)) (shown_in t (windows_of l)) os) w all y
-          where
-            all : every (within t) (visible (count_of (read_by t a)) (shown_in t (windows_of l)) os) ≡ true
-            all = unfold visible in every-keep _ (within t) (shown_in t (windows_of l)) (every-within t (windows_of l))
 
   -- ---- a mean, which reads all
 

@@ -63,7 +63,7 @@ ranked-agree {I} n count others p ws k is within e =
 
 -- ---- identifiers that the register does not have add nothing
 
-pub any-query : (t : Name → Bool) (ms ns : List Name) → ((n : Name) → among n ms ≡ false → t n ≡ false) → any (λ i. t (get_or ms i [])) (numbers_of ms ns) ≡ any t ns
+any-query : (t : Name → Bool) (ms ns : List Name) → ((n : Name) → among n ms ≡ false → t n ≡ false) → any (λ i. t (get_or ms i [])) (numbers_of ms ns) ≡ any t ns
 unfolding numbers_of
 any-query t ms [] z = refl
 any-query t ms (n ∷ ns) z =
@@ -71,7 +71,7 @@ any-query t ms (n ∷ ns) z =
     (λ y. rw (known_is ms n, y) (ap₂ ◌||◌ (ap t (number_at ms n y)) (any-query t ms ns z)))
     (λ e. rw (known_is ms n, e, z n e) (any-query t ms ns z))
 
-pub total-query : (g : Name → ℕ) (ms ns : List Name) → ((n : Name) → among n ms ≡ false → g n ≡ 0) → total_by (λ i. g (get_or ms i [])) (numbers_of ms ns) ≡ total_by g ns
+total-query : (g : Name → ℕ) (ms ns : List Name) → ((n : Name) → among n ms ≡ false → g n ≡ 0) → total_by (λ i. g (get_or ms i [])) (numbers_of ms ns) ≡ total_by g ns
 unfolding numbers_of
 total-query g ms [] z = refl
 total-query g ms (n ∷ ns) z =

@@ -7,7 +7,7 @@ use Rattle.answers.proofs.Kept.{after-if, after-choose}
 use Rattle.state.specs.Shown.{within}
 use Rattle.identifiers.specs.Names.{Name, among}
 use Rattle.ranking.specs.Hits.{ranked}
-use Rattle.engine.specs.Calls.{Call, Open, Event, Close, Remove, RemoveAll, Flush, Step, Query, QueryAs, Mean, Forecast}
+use Rattle.engine.specs.Calls.{Call, Open, Event, Close, Remove, RemoveAll, Flush, Step, Query, Mean, Forecast}
 use Rattle.accounts.specs.Account.{Account, stepping, flushing, flushing_if}
 use Rattle.accounts.specs.Ledger.{Ledger, live, shown, shown_within, existing_within, opens, counts}
 use Rattle.accounts.specs.Books.{Books, showing, planned_in, books, books_call}
@@ -94,7 +94,6 @@ module _ (blocks entries : ℕ) (b : Books) (s : Lawful entries b.ledger) (k : �
     hits-among-stay Flush e = stays-flush b Same refl blocks b.account _ (λ a. refl)
     hits-among-stay Step e = stays_step b Same refl blocks b.account _ (λ a. refl)
     hits-among-stay (Query j t ms) e = after-if Same b refl _ 4 _ λ _. after-if Same b refl _ 14 _ λ _. after-if Same b refl _ 17 _ λ _. refl
-    hits-among-stay (QueryAs j t ms bs) e = after-if Same b refl _ 4 _ λ _. after-if Same b refl _ 14 _ λ _. after-if Same b refl _ 17 _ λ _. after-if Same b refl _ 18 _ λ _. refl
     hits-among-stay (Mean n) e = after-if Same b refl _ 4 _ λ _. after-if Same b refl _ 15 _ λ _. refl
     hits-among-stay (Forecast plan numbers) e = after-if Same b refl _ 3 _ λ _. refl
 

@@ -1,6 +1,6 @@
 -- Lists that stand for a ledger and its account keep every rule of the state, and what a call uses of them is well formed: refusals 1 and 3 have no
 -- cause.
-use Rattle.lists.proofs.Prelude.{Bool, true, false, ◌||◌, ◌&&◌, not, cond, true≢false, List, [], ◌∷◌, ◌++◌, map, List-as-Memᴰ, ◌⊎◌, inl, inr, ◌≡◌, refl, sym, ap, ap₂, ◌∙◌, ℕ, zero, suc, ◌+◌, ◌-◌, ◌*◌, ◌<◌, ◌≤◌, arith, eqb, leb, ℤ, pos, negsuc, ◌+ℤ◌, pos-ne-negsuc, length, get_or, length-map, eqb-false, le-leb, lt-leb, leb-true, not-true, keep, every, empty, total_by, down, by-test, and_left, and_right, and_both, every-from, every-keep, every-mem, length-keep, elem-every, every_map, every-member, empty-is, every-both}
+use Rattle.lists.proofs.Prelude.{Bool, true, false, ◌||◌, ◌&&◌, not, cond, true≢false, List, [], ◌∷◌, map, List-as-Memᴰ, ◌⊎◌, inl, inr, ◌≡◌, refl, sym, ap, ap₂, ◌∙◌, ℕ, zero, suc, ◌+◌, ◌-◌, ◌*◌, ◌<◌, ◌≤◌, arith, eqb, leb, ℤ, pos, negsuc, ◌+ℤ◌, pos-ne-negsuc, length, get_or, length-map, eqb-false, le-leb, lt-leb, leb-true, not-true, keep, every, empty, total_by, down, by-test, and_left, and_right, and_both, every-from, every-keep, every-mem, length-keep, elem-every, every_map, every-member, empty-is, every-both}
 use Rattle.postings.specs.declared.Posting.{Posting}
 use Rattle.postings.specs.declared.Stretch.{Stretch}
 use Rattle.postings.specs.Order.{ordered}
@@ -23,7 +23,7 @@ use Rattle.partitions.specs.Formed.{list_rule, in_range, sums_in_range}
 use Rattle.stretches.specs.Reached.{whole}
 use Rattle.removals.specs.Removal.{counts_of}
 use Rattle.plans.specs.Merging.{is_last}
-use Rattle.engine.specs.Calls.{Call, Open, Event, Close, Remove, RemoveAll, Flush, Step, Query, QueryAs, Mean, Forecast}
+use Rattle.engine.specs.Calls.{Call, Open, Event, Close, Remove, RemoveAll, Flush, Step, Query, Mean, Forecast}
 use Rattle.accounts.specs.Account.{Portion, Account, postings_in, stored_in, reaches, read_by, blocks_of, blocks_in, blocks_ahead, due_of, inputs_of}
 use Rattle.accounts.specs.Ledger.{Ledger, live, existing, count_by_number}
 use Rattle.accounts.specs.Lists.{Lists, record_like, lists_rule, identifier_rule, lists_ruled, read_rule, window_sums, window_rule, inputs_rule, call_rule}
@@ -276,6 +276,5 @@ module _ (blocks entries : ℕ) (l : Ledger) (a : Account) (k : Kept blocks entr
   call-formed Flush = refl
   call-formed Step = inputs-formed
   call-formed (Query m t ns) = read-formed t (numbers_of l.identifiers ns)
-  call-formed (QueryAs m t ns bs) = read-formed t (numbers_of l.identifiers (ns ++ bs))
   call-formed (Mean n) = read-formed whole (numbers_of l.identifiers (n ∷ []))
   call-formed (Forecast plan numbers) = refl

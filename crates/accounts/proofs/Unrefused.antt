@@ -4,8 +4,7 @@ use Rattle.answers.specs.Answers.{halted, Outcome, refuse, leave, refuse_if, cho
 use Rattle.recordings.specs.Recording.{recording_rule}
 use Rattle.forecasts.specs.Plan.{Planned, Placed, opening, counting, closing}
 use Rattle.forecasts.specs.Course.{Gauge, told, writes, follow}
-use Rattle.ranking.specs.Sight.{seen_in}
-use Rattle.engine.specs.Calls.{Call, Open, Event, Close, Remove, RemoveAll, Flush, Step, Query, QueryAs, Mean, Forecast, run}
+use Rattle.engine.specs.Calls.{Call, Open, Event, Close, Remove, RemoveAll, Flush, Step, Query, Mean, Forecast, run}
 use Rattle.accounts.specs.Account.{Account, stepping, flushing, flushing_if}
 use Rattle.accounts.specs.Ledger.{Ledger}
 use Rattle.accounts.specs.Books.{Books, Granted, is_done, is_number, is_hits, is_mean, is_forecast, is_later, is_no_plan, AllGranted, no_call, one_event_more, removal_in, planned_in, books, books_call, expected}
@@ -73,7 +72,7 @@ module _ (blocks entries : ℕ) where
   planned-granted l a closing = later _ 5 _ (omega arith) is_done
 
   books-granted : (l : Ledger) (a : Account) (c : Call) → Granted c (answer_of (books blocks entries l a c))
-  unfolding books seen_in
+  unfolding books
   books-granted l a Open = planned-granted l a opening
   books-granted l a (Event n) = planned-granted l a (counting n)
   books-granted l a Close = planned-granted l a closing
@@ -82,7 +81,6 @@ module _ (blocks entries : ℕ) where
   books-granted l a Flush = flush-granted a _ (λ b. is_done)
   books-granted l a Step = step-granted a _ (λ b. is_done)
   books-granted l a (Query k t ns) = later _ 4 _ (omega arith) (later _ 14 _ (omega arith) (later _ 17 _ (omega arith) is_hits))
-  books-granted l a (QueryAs k t ns bs) = later _ 4 _ (omega arith) (later _ 14 _ (omega arith) (later _ 17 _ (omega arith) (later _ 18 _ (omega arith) is_hits)))
   books-granted l a (Mean n) = later _ 4 _ (omega arith) (later _ 15 _ (omega arith) is_mean)
   books-granted l a (Forecast plan numbers) = plan-granted plan numbers (recording_rule plan numbers) refl _ (follow-granted _ _ _ 0 _)
 

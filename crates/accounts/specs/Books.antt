@@ -1,6 +1,6 @@
--- The ledger with the account beside it: what each call is to answer. Window numbers, hits, scores and means, all that is told under a badge, and refusals 4 to 9 and 14
--- to 18 come from the ledger alone; refusals 10 to 13 and the postings that a plain query takes from the account; a forecast from both.
-use Rattle.std.specs.Prelude.{Bool, true, false, ◌&&◌, not, cond, List, [], ◌∷◌, ◌++◌, ◌≡◌, ℕ, suc, ◌≤◌, eqb, leb, ℤ, pos, neg_ℤ, length, get_or}
+-- The ledger with the account beside it: what each call is to answer. Window numbers, hits, scores and means, and refusals 4 to 9 and 14 to 17 come
+-- from the ledger alone; refusals 10 to 13 and the postings taken from the account; a forecast from both.
+use Rattle.std.specs.Prelude.{Bool, true, false, ◌&&◌, not, cond, List, [], ◌∷◌, ◌≡◌, ℕ, suc, ◌≤◌, eqb, leb, ℤ, pos, neg_ℤ, length, get_or}
 use Rattle.lists.specs.Lists.{any, up_to}
 use Rattle.postings.specs.declared.Posting.{Posting}
 use Rattle.postings.specs.Merge.{is_zero}
@@ -14,11 +14,10 @@ use Rattle.recordings.specs.Recording.{recording_rule, recorded}
 use Rattle.forecasts.specs.Plan.{Planned, opening, counting, closing, plan_calls}
 use Rattle.forecasts.specs.Course.{Gauge, follow}
 use Rattle.ranking.specs.Hits.{frequency, ranked}
-use Rattle.ranking.specs.Asked.{bad_query, bad_stretch, bad_badge}
-use Rattle.ranking.specs.Sight.{seen_by}
+use Rattle.ranking.specs.Asked.{bad_query, bad_stretch}
 use Rattle.averages.specs.Average.{total, averaged}
 use Rattle.batches.specs.Batch.{batch_rule}
-use Rattle.engine.specs.Calls.{Call, Open, Event, Close, Remove, RemoveAll, Flush, Step, Query, QueryAs, Mean, Forecast, run}
+use Rattle.engine.specs.Calls.{Call, Open, Event, Close, Remove, RemoveAll, Flush, Step, Query, Mean, Forecast, run}
 use Rattle.accounts.specs.Account.{Portion, Account, empty_account, taken_from, read_by, blocks_in, overflows, exceeds, added_to, stepping, flushing, flushing_if}
 use Rattle.accounts.specs.Ledger.{Ledger, empty_ledger, live, shown, shown_within, existing_within, opens, closes, counts, removes}
 
@@ -68,7 +67,6 @@ showing (RemoveAll ws) = true
 showing Flush = false
 showing Step = false
 showing (Query k t ns) = false
-showing (QueryAs k t ns bs) = false
 showing (Mean n) = false
 showing (Forecast plan counts) = false
 
@@ -112,9 +110,6 @@ module _ (blocks entries : ℕ) where
       admit (past 3 order.query) (any bad_length ns ∷ bad_query k ns ∷ bad_stretch t ∷ [])
       (leave (hits (ranked (existing_within t l) l.count (shown_within t l) k ns) (taken_from (numbers_of l.identifiers ns) (read_by t a)))
       (record { ledger = l; account = a }))
-  books l a (QueryAs k t ns bs) =
-      admit (past 3 order.query_as) (any bad_length (ns ++ bs) ∷ bad_query k ns ∷ bad_stretch t ∷ bad_badge bs ∷ [])
-      (leave (seen_by l.count (shown_within t l) bs k ns) (record { ledger = l; account = a }))
   books l a (Mean n) =
       admit (past 3 order.mean) (bad_length n ∷ eqb (frequency l.count (shown l) n) 0 ∷ [])
       (leave (averaged (frequency l.count (shown l) n) (total l.count (shown l) n)) (record { ledger = l; account = a }))

@@ -1,10 +1,9 @@
 -- The ledger: what a plain list of windows would say. It has each window's counts, the highest number handed out and the names it has met, and knows nothing of partitions.
 use Rattle.std.specs.Prelude.{Bool, true, false, ◌&&◌, cond, List, [], ◌∷◌, ◌++◌, ℕ, suc, ◌-◌, eqb, ltb, length, get_or}
-use Rattle.lists.specs.Lists.{keep, any, elem, down, same}
+use Rattle.lists.specs.Lists.{keep, any, down, same}
 use Rattle.postings.specs.declared.Stretch.{Stretch}
 use Rattle.state.specs.Shown.{within}
 use Rattle.identifiers.specs.Names.{Name, among}
-use Rattle.ranking.specs.Sight.{visible}
 
 -- the last number given, which an open window has; the identifiers ever counted, in order of first count; the open window's events and identifiers;
 -- and the count of an identifier in a window, 0 where the window is not live
@@ -37,21 +36,6 @@ shown_within t l = keep (within t) (shown l)
 
 unfoldable pub existing_within : Stretch → Ledger → ℕ
 existing_within t l = length (keep (live l) (shown_within t l))
-
--- the windows that a badge sees
-unfoldable pub sight_within : Stretch → List Name → Ledger → List ℕ
-sight_within t bs l = visible l.count (shown_within t l) bs
-
--- the ledger cut down to some windows, as if nothing had ever been counted in any other
-unfoldable pub cut_to : List ℕ → Ledger → Ledger
-cut_to ws l = record {
-  last = l.last;
-  identifiers = l.identifiers;
-  is_open = l.is_open;
-  events = l.events;
-  listed = l.listed;
-  count = λ n w. cond (elem w ws) (l.count n w) 0;
-}
 
 -- the count by an identifier's number, its place in the order of first count
 abbrev pub count_by_number : Ledger → ℕ → ℕ → ℕ

@@ -21,8 +21,7 @@ use Rattle.forecasts.specs.Course.{Gauge, follow}
 use Rattle.partitions.specs.Layout.{record_for}
 use Rattle.partitions.specs.Formed.{list_rule, in_range, sums_in_range}
 use Rattle.ranking.specs.Hits.{frequency, ranked}
-use Rattle.ranking.specs.Asked.{bad_query, bad_stretch, bad_badge}
-use Rattle.ranking.specs.Sight.{seen_by}
+use Rattle.ranking.specs.Asked.{bad_query, bad_stretch}
 use Rattle.stretches.specs.Reached.{whole}
 -- N of windows, by what is stored
 unfoldable pub use Rattle.census.specs.Existing.{existing}
@@ -30,7 +29,7 @@ use Rattle.removals.specs.Removal.{of_window, counts_of, is_live}
 use Rattle.plans.specs.Merging.{is_last}
 use Rattle.averages.specs.Average.{total, averaged}
 use Rattle.batches.specs.Batch.{batch_rule}
-use Rattle.engine.specs.Calls.{Call, Open, Event, Close, Remove, RemoveAll, Flush, Step, Query, QueryAs, Mean, Forecast, run}
+use Rattle.engine.specs.Calls.{Call, Open, Event, Close, Remove, RemoveAll, Flush, Step, Query, Mean, Forecast, run}
 use Rattle.accounts.specs.Account.{Portion, Account, empty_account, postings_in, stored_in, taken_from, read_by, blocks_in, due_of, inputs_of, overflows, exceeds, added_to, stepping, flushing, flushing_if}
 
 -- the state's window numbers; the register's identifiers, by number; the numbers of the open window's identifiers, in order of first count; the
@@ -106,7 +105,6 @@ call_rule e (RemoveAll ws) = lists_ruled e.account && every (window_sums e.accou
 call_rule e Flush = true
 call_rule e Step = inputs_rule e.account
 call_rule e (Query k t ns) = read_rule (read_by t e.account) (numbers_of e.names ns)
-call_rule e (QueryAs k t ns bs) = read_rule (read_by t e.account) (numbers_of e.names (ns ++ bs))
 call_rule e (Mean n) = read_rule (read_by whole e.account) (numbers_of e.names (n ∷ []))
 call_rule e (Forecast plan counts) = true
 
@@ -227,9 +225,6 @@ module _ (blocks entries : ℕ) where
       (ranked (existing (stored_in (read_by t e.account)) (shown_in t e.windows)) (count_of (read_by t e.account)) (shown_in t e.windows) k (numbers_of e.names ns))
       (taken_from (numbers_of e.names ns) (read_by t e.account)))
       e)
-  pursued e (QueryAs k t ns bs) =
-      admit (past 3 order.query_as) (any bad_length (ns ++ bs) ∷ bad_query k ns ∷ bad_stretch t ∷ bad_badge bs ∷ [])
-      (leave (seen_by (count_of (read_by t e.account)) (shown_in t e.windows) (numbers_of e.names bs) k (numbers_of e.names ns)) e)
   pursued e (Mean n) =
       admit (past 3 order.mean) (bad_length n ∷ eqb (frequency_of e n) 0 ∷ [])
       (leave (averaged (frequency_of e n) (total_of e n)) e)

@@ -5,14 +5,14 @@ use Prim.Native.Nat.{ℕ, ◌≤◌}
 use lib.ListN.{get_or}
 use native.Mathlib.Omega.{arith}
 use Rattle.answers.specs.declared.Refusal.{Refusal}
-use Rattle.answers.specs.declared.Refusal.TheVariants.{BrokenState, WrongLength, Malformed, BadIdentifier, OutOfTurn, Exhausted, NotLive, RegisterFull, WindowFull, LevelFull, HalfFull, TooFewFree, NothingDue, BadQuery, Uncounted, BadList, BadStretch, BadBadge}
+use Rattle.answers.specs.declared.Refusal.TheVariants.{BrokenState, WrongLength, Malformed, BadIdentifier, OutOfTurn, Exhausted, NotLive, RegisterFull, WindowFull, LevelFull, HalfFull, TooFewFree, NothingDue, BadQuery, Uncounted, BadList, BadStretch}
 use Rattle.answers.specs.Numbers.{refusal_number}
 
 -- the refusal with a number; none has 0
 abbrev pub refusal_of : ℕ → Refusal
 refusal_of n =
     get_or
-    (BrokenState ∷ BrokenState ∷ WrongLength ∷ Malformed ∷ BadIdentifier ∷ OutOfTurn ∷ Exhausted ∷ NotLive ∷ RegisterFull ∷ WindowFull ∷ LevelFull ∷ HalfFull ∷ TooFewFree ∷ NothingDue ∷ BadQuery ∷ Uncounted ∷ BadList ∷ BadStretch ∷ BadBadge ∷ []) n BrokenState
+    (BrokenState ∷ BrokenState ∷ WrongLength ∷ Malformed ∷ BadIdentifier ∷ OutOfTurn ∷ Exhausted ∷ NotLive ∷ RegisterFull ∷ WindowFull ∷ LevelFull ∷ HalfFull ∷ TooFewFree ∷ NothingDue ∷ BadQuery ∷ Uncounted ∷ BadList ∷ BadStretch ∷ []) n BrokenState
 
 pub refusal-back : (why : Refusal) → refusal_of (refusal_number why) ≡ why
 refusal-back BrokenState = refl
@@ -32,10 +32,9 @@ refusal-back BadQuery = refl
 refusal-back Uncounted = refl
 refusal-back BadList = refl
 refusal-back BadStretch = refl
-refusal-back BadBadge = refl
 
--- the numbers lie between 1 and 18
-pub number-within : (why : Refusal) → (1 ≤ refusal_number why) × (refusal_number why ≤ 18)
+-- the numbers lie between 1 and 17
+pub number-within : (why : Refusal) → (1 ≤ refusal_number why) × (refusal_number why ≤ 17)
 number-within BrokenState = (omega arith, omega arith)
 number-within WrongLength = (omega arith, omega arith)
 number-within Malformed = (omega arith, omega arith)
@@ -53,4 +52,3 @@ number-within BadQuery = (omega arith, omega arith)
 number-within Uncounted = (omega arith, omega arith)
 number-within BadList = (omega arith, omega arith)
 number-within BadStretch = (omega arith, omega arith)
-number-within BadBadge = (omega arith, omega arith)

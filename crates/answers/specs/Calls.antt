@@ -3,7 +3,7 @@ use Rattle.std.specs.Prelude.{List, ℕ}
 use Rattle.postings.specs.declared.Stretch.{Stretch}
 
 -- an event and a mean have an identifier's bytes, a removal a window or several, a query so many places in its list, a stretch of windows and the bytes of each
--- identifier, under a badge the bytes of each access identifier too, and a forecast a plan's entries and how many belong to each window
+-- identifier, and a forecast a plan's entries and how many belong to each window
 pub data Call : Type 0 where
   Open : Call
   Event : List ℕ → Call
@@ -13,6 +13,5 @@ pub data Call : Type 0 where
   Flush : Call
   Step : Call
   Query : ℕ → Stretch → List (List ℕ) → Call
-  QueryAs : ℕ → Stretch → List (List ℕ) → List (List ℕ) → Call
   Mean : List ℕ → Call
   Forecast : List ℕ → List ℕ → Call

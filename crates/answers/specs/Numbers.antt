@@ -1,7 +1,7 @@
 -- The document's number or value for each case of an answer of the code.
 use Rattle.std.specs.Prelude.{List, ℕ, take}
 use Rattle.answers.specs.declared.Refusal.{Refusal}
-use Rattle.answers.specs.declared.Refusal.TheVariants.{BrokenState, WrongLength, Malformed, BadIdentifier, OutOfTurn, Exhausted, NotLive, RegisterFull, WindowFull, LevelFull, HalfFull, TooFewFree, NothingDue, BadQuery, Uncounted, BadList, BadStretch, BadBadge}
+use Rattle.answers.specs.declared.Refusal.TheVariants.{BrokenState, WrongLength, Malformed, BadIdentifier, OutOfTurn, Exhausted, NotLive, RegisterFull, WindowFull, LevelFull, HalfFull, TooFewFree, NothingDue, BadQuery, Uncounted, BadList, BadStretch}
 use Rattle.answers.specs.declared.Reply.{Reply}
 use Rattle.answers.specs.declared.Reply.TheVariants as reply
 use Rattle.answers.specs.declared.Opened.{Opened}
@@ -36,7 +36,6 @@ refusal_number BadQuery = 14
 refusal_number Uncounted = 15
 refusal_number BadList = 16
 refusal_number BadStretch = 17
-refusal_number BadBadge = 18
 
 -- the answer that a reply stands for
 abbrev pub replied : Reply → Answer

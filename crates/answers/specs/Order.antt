@@ -27,10 +27,6 @@ step = 1 ∷ 2 ∷ 3 ∷ []
 abbrev pub query : List ℕ
 query = 1 ∷ 2 ∷ 3 ∷ 4 ∷ 14 ∷ 17 ∷ []
 
--- under a badge
-abbrev pub query_as : List ℕ
-query_as = 1 ∷ 2 ∷ 3 ∷ 4 ∷ 14 ∷ 17 ∷ 18 ∷ []
-
 abbrev pub mean : List ℕ
 mean = 1 ∷ 2 ∷ 3 ∷ 4 ∷ 15 ∷ []
 

@@ -22,7 +22,6 @@ pub enum Refusal {
     Uncounted,
     BadList,
     BadStretch,
-    BadBadge,
 }
 
 // The answer of a call that gives no value.
@@ -96,6 +95,5 @@ pub fn number_of(why: Refusal) -> u32
         Refusal::Uncounted => 15,
         Refusal::BadList => 16,
         Refusal::BadStretch => 17,
-        Refusal::BadBadge => 18,
     }
 }

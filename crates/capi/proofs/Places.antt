@@ -7,7 +7,7 @@ use Rattle.postings.specs.declared.Stretch.{Stretch}
 use Rattle.answers.specs.declared.Hit.{Hit}
 use Rattle.answers.specs.declared.Found.{Found}
 use Rattle.answers.specs.declared.Found.TheVariants as found
-use Rattle.answers.specs.Answers.{Answer, Outcome, refuse_if, carry, answer_of, state_of}
+use Rattle.answers.specs.Answers.{Answer, Outcome, refuse_if, carry}
 use Rattle.answers.specs.Numbers.{found_as}
 use Rattle.state.specs.Probe.{Probe}
 use Rattle.identifiers.specs.Names.{Name}
@@ -16,8 +16,6 @@ use Rattle.queries.specs.Query.{fill, query_of}
 use Rattle.ranking.specs.Top.{listed_hits}
 use Rattle.queries.specs.Finds.{answered, Finds}
 use Rattle.queries.proofs.Outcomes.{found-filled}
-use Rattle.badges.specs.Badge.{query_as_of, answered_as}
-use Rattle.badges.proofs.Outcomes as badge
 use Rattle.numbers.specs.Images.{number_for, number_found}
 use Rattle.capi.specs.Queries.{hit_words, hits_in, hit_bytes, Tells}
 use Rattle.capi.proofs.Carried.{carried}
@@ -165,28 +163,14 @@ pub tells-passed : {S : Type 0} (s : S) (t : Bool) (n : ℕ) (o : Outcome S) (r 
 unfolding refuse_if
 tells-passed s t n o r after e g = rw e g
 
--- what is found, put into the lent bytes, is what an outcome on their hits tells
-module _ (b : List ℕ) (h : Below 256 b) (a : Found) (t : Top) (long : length t.hits ≡ 32) where
-  on-found : (x : Answer) (o : Outcome (List Hit)) → Finds x (length b / 8) a t → found_as a t.hits ≡ answer_of o → fill (listed_hits t) (hits_in (words b)) ≡ state_of (hits_in (words b)) o
-      → Tells b (carry (hit_bytes b) o) (number_found a) (hit_bytes b (listed_hits t))
-  on-found x o v e f =
-      let l : length (listed_hits t) ≡ t.used = length-take-le t.used t.hits (omega (arith, v.most)) in
-      let same = filled-bytes b h (listed_hits t) (omega (arith, v.fits)) in
-      let g = carried (hit_bytes b) (hits_in (words b)) b (hits-back b h) o (found_as a t.hits) (fill (listed_hits t) (hits_in (words b))) (record { answer = e; left = f }) in
-      record { number = number-found _ (length b / 8) a t long v ∙ ap number_for g.answer; left = sym same ∙ g.left }
-
-  -- a search promises the exported query
-  pub on-query : (p : Probe) (st : Stretch) (ns : List Name) → Finds (answered p st ns (length b / 8)) (length b / 8) a t
-      → Tells b (carry (hit_bytes b) (query_of p st ns (hits_in (words b)))) (number_found a) (hit_bytes b (listed_hits t))
-  on-query p st ns v =
-      let w : Finds (answered p st ns (length (hits_in (words b)))) (length (hits_in (words b))) a t = rw (places_of b) v in
-      let f = found-filled p st ns (hits_in (words b)) a t w in
-      on-found _ (query_of p st ns (hits_in (words b))) v f.0 f.1
-
-  -- and one under a badge
-  pub on-query-as : (p : Probe) (st : Stretch) (ns bs : List Name) → Finds (answered_as p st ns bs (length b / 8)) (length b / 8) a t
-      → Tells b (carry (hit_bytes b) (query_as_of p st ns bs (hits_in (words b)))) (number_found a) (hit_bytes b (listed_hits t))
-  on-query-as p st ns bs v =
-      let w : Finds (answered_as p st ns bs (length (hits_in (words b)))) (length (hits_in (words b))) a t = rw (places_of b) v in
-      let f = badge.found-filled p st ns bs (hits_in (words b)) a t w in
-      on-found _ (query_as_of p st ns bs (hits_in (words b))) v f.0 f.1
+-- a search promises the exported query
+pub on-query : (p : Probe) (st : Stretch) (ns : List Name) (b : List ℕ) → Below 256 b → (a : Found) (t : Top) → length t.hits ≡ 32 → Finds (answered p st ns (length b / 8)) (length b / 8) a t
+    → Tells b (carry (hit_bytes b) (query_of p st ns (hits_in (words b)))) (number_found a) (hit_bytes b (listed_hits t))
+on-query p st ns b h a t long v =
+    let places = hits_in (words b) in
+    let w : Finds (answered p st ns (length places)) (length places) a t = rw (places_of b) v in
+    let f = found-filled p st ns places a t w in
+    let l : length (listed_hits t) ≡ t.used = length-take-le t.used t.hits (omega (arith, v.most)) in
+    let same = filled-bytes b h (listed_hits t) (omega (arith, v.fits)) in
+    let g = carried (hit_bytes b) places b (hits-back b h) (query_of p st ns places) (found_as a t.hits) (fill (listed_hits t) places) (record { answer = f.0; left = f.1 }) in
+    record { number = number-found _ (length b / 8) a t long v ∙ ap number_for g.answer; left = sym same ∙ g.left }

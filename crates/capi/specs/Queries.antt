@@ -1,4 +1,4 @@
--- The exported queries, with the lent list of hits as bytes, eight to a hit, and the exported mean and forecast.
+-- The exported query, with the lent list of hits as bytes, eight to a hit, and the exported mean and forecast.
 use Rattle.std.specs.Prelude.{not, List, [], ◌∷◌, ◌++◌, map, ◌≡◌, ℕ, ◌*◌, length, drop}
 use Rattle.lists.specs.Lists.{joined}
 use Rattle.words.specs.Words.{words, bytes}
@@ -8,7 +8,6 @@ use Rattle.answers.specs.declared.Hit.{Hit}
 use Rattle.identifiers.specs.Names.{Name}
 use Rattle.windows.specs.Promises.{probe_of}
 use Rattle.queries.specs.Query.{query_of}
-use Rattle.badges.specs.Badge.{query_as_of}
 use Rattle.means.specs.Mean.{mean_of}
 use Rattle.forecasts.specs.Outlook.{forecast_of}
 use Rattle.images.specs.Images.{image_rule}
@@ -39,12 +38,6 @@ unfoldable pub query_on : Lent → Stretch → List Name → List ℕ → Outcom
 query_on l t ns lent =
     refuse_if (not (image_rule l.image)) 1
     (carry (hit_bytes lent) (query_of (probe_of (state_on l.image) l.card l.register) t ns (hits_in (words lent))))
-
--- under a badge
-unfoldable pub query_as_on : Lent → Stretch → List Name → List Name → List ℕ → Outcome (List ℕ)
-query_as_on l t ns bs lent =
-    refuse_if (not (image_rule l.image)) 1
-    (carry (hit_bytes lent) (query_as_of (probe_of (state_on l.image) l.card l.register) t ns bs (hits_in (words lent))))
 
 unfoldable pub mean_on : Lent → Name → Outcome (Unit {0})
 mean_on l n = refuse_if (not (image_rule l.image)) 1 (mean_of (probe_of (state_on l.image) l.card l.register) n)

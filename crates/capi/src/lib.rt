@@ -9,7 +9,7 @@ ghost use Rattle.batches.specs.Batch.{remove_all_of};
 ghost use Rattle.images.specs.Images.{image_rule};
 ghost use Rattle.capi.specs.Exports.{carded_of, lent_of, imaged_store, start_on, unstarted_on, open_on, close_on, event_on, flush_on, remove_on, remove_all_on, step_on};
 ghost use Rattle.numbers.specs.Images.{state_on, replied_by, opened_by, number_for, told_by};
-ghost use Rattle.capi.specs.Queries.{hit_bytes, Tells, query_on, query_as_on, mean_on, forecast_on};
+ghost use Rattle.capi.specs.Queries.{hit_bytes, Tells, query_on, mean_on, forecast_on};
 
 use answers::{Averaged, Forecast, Found, Opened, Reply};
 use postings::Stretch;
@@ -152,35 +152,6 @@ pub extern "C" fn gemsilver_query(
         last: last,
     };
     let r = queries::search(s, card, register, ids, t, hits.len() / 8);
-    put_hits(hits, r.top);
-    let answer = r.answer;
-    numbers::found_number(answer)
-}
-
-// The same, from one window to another, under a badge of access identifiers: of the windows in which one of them counts, and the pairs of an identifier and such a window for the postings taken.
-#[unsafe(no_mangle)]
-pub extern "C" fn gemsilver_query_as(
-    image: &[u8],
-    card: &[u8],
-    register: &[u8],
-    ids: &[&[u8]],
-    badge: &[&[u8]],
-    from: u16,
-    to: u16,
-    hits: &mut [u8],
-) -> u64
-    ensures { Tells hits.old (query_as_on (lent_of image.now card.now register.now) (record { first = from; last = to }) (map (λ x. x.now) ids.now) (map (λ x. x.now) badge.now) hits.old)
-        result hits.new }
-{
-    if !images::image_ok(image) {
-        return 1;
-    }
-    let s = images::read_state(image);
-    let t = Stretch {
-        first: from,
-        last: to,
-    };
-    let r = badges::search_as(s, card, register, ids, badge, t, hits.len() / 8);
     put_hits(hits, r.top);
     let answer = r.answer;
     numbers::found_number(answer)

@@ -1,5 +1,5 @@
--- Queries, mean and removals on bytes are those on lists.
-use Rattle.lists.proofs.Prelude.{Bool, true, ◌||◌, ◌&&◌, not, List, [], ◌∷◌, ◌++◌, foldr, ◌≡◌, refl, sym, ap, ap₂, ◌∙◌, subst, fun_ext, ℕ, ◌+◌, ◌-◌, eqb, ltb, leb, length, replicate, length-replicate, keep, every, elem, total_by, and_both, every_map}
+-- Query, mean and removals on bytes are those on lists.
+use Rattle.lists.proofs.Prelude.{Bool, true, ◌||◌, ◌&&◌, not, List, [], ◌∷◌, foldr, ◌≡◌, refl, sym, ap, ap₂, ◌∙◌, subst, fun_ext, ℕ, ◌+◌, ◌-◌, eqb, ltb, leb, length, replicate, length-replicate, keep, every, elem, total_by, and_both, every_map}
 use Rattle.words.specs.Words.{words}
 use Rattle.postings.specs.declared.Posting.{Posting}
 use Rattle.postings.specs.declared.Stretch.{Stretch}
@@ -23,17 +23,14 @@ use Rattle.ranking.specs.Hits.{frequency, ranked}
 use Rattle.averages.specs.Average.{total, averaged}
 use Rattle.means.specs.Mean.{frequency_in, total_in, meaning, mean_of}
 use Rattle.queries.specs.Query.{count_in, taken_up, numbers, query_formed, existing_in, hits_of, querying, query_of, fill}
-use Rattle.queries.specs.Finds.{hits_in}
 use Rattle.ranking.specs.Asked.{bad_query}
-use Rattle.ranking.specs.Sight.{seen_by}
 use Rattle.removals.specs.Removal.{of_window, counts_of, is_live, lists_formed, removal_formed, removal_flushes, removed, removing, remove_of}
 use Rattle.sums.specs.Tally.{lists_ruled, window_formed}
 use Rattle.stretches.specs.Reached as bytes
 use Rattle.stretches.specs.Reached.{whole}
 use Rattle.census.specs.Existing.{existing}
 use Rattle.batches.specs.Batch.{batch_formed, remove_all_of}
-use Rattle.badges.specs.Badge.{seen_of, querying_as, query_as_of}
-use Rattle.engine.specs.Calls.{Remove, RemoveAll, Query, QueryAs, Mean, no_hit, store_in, with_store, probe_call}
+use Rattle.engine.specs.Calls.{Remove, RemoveAll, Query, Mean, no_hit, store_in, with_store, probe_call}
 use Rattle.accounts.specs.Account.{Portion, Account, postings_in, stored_in, taken_from, read_by, exceeds, added_to, flushing_if as account_flushing_if}
 use Rattle.accounts.specs.Lists as accounts
 use Rattle.accounts.specs.Lists.{Lists, read_rule, window_sums, window_rule, call_rule, count_of, frequency_of, total_of, removed_lists, removing_lists, removal_of, with_account, pursued}
@@ -122,43 +119,6 @@ module _ {ls : Lengths} (p : Probe) (e : Lists) (k : Stored ls p e) (fine : Fine
 
         well : query_formed W s t p.register (numbers p.register ns) ≡ true
         well = well-formed t ns (unfold call_rule in rule)
-
-    -- under a badge
-    seen_same : (m : ℕ) (ns bs : List Name) → seen_of W read t m (numbers p.register ns) (numbers p.register bs)
-        ≡ seen_by (count_of (read_by t e.account)) (shown_in t e.windows) (numbers_of e.names bs) m (numbers_of e.names ns)
-    unfolding seen_of
-    seen_same m ns bs =
-        ap₂ (λ (c : ℕ → ℕ → ℕ) (w : Windows). seen_by c (shown_in t w) (numbers p.register bs) m (numbers p.register ns)) (counts-read s W e h t) h.windows
-        ∙ ap₂ (λ (is os : List ℕ). seen_by (count_of (read_by t e.account)) (shown_in t e.windows) os m is) (numbers-same ns) (numbers-same bs)
-
-    pub query-as-same : (m : ℕ) (ns bs : List Name) → call_rule e (QueryAs m t ns bs) ≡ true
-        → Same (Stored ls) (probe_call p (QueryAs m t ns bs)) (pursued (blocks s) (register_size s) e (QueryAs m t ns bs))
-    unfolding probe_call query_as_of querying_as pursued
-    query-as-same m ns bs rule =
-        same-carry R (Stored ls) (λ (l : List Hit). p) (λ l e' r. r)
-        (passing R _ 1 _ _ (no-first p e k fine)
-        (passing R _ 2 _ _ (no-second-both p e k fine)
-        (passing R _ 3 _ _ (ap not (well-formed t (ns ++ bs) (unfold call_rule in rule)))
-        (refusing R _ _ 4 _ _ refl λ _.
-        refusing R _ _ 14 _ _ (ap (λ n. bad_query n ns) places) λ _.
-        refusing R _ _ 17 _ _ refl λ _.
-        refusing R _ _ 18 _ _ refl λ _.
-        subst (λ (x : Answer). Same R (leave x (fill (hits_in seen) (replicate m no_hit))) (leave answer e)) (sym said) (both_leave k)))))
-      where
-        R : List Hit → Lists → Type 0
-        R l e' = Stored ls p e'
-
-        places : length (replicate m no_hit) ≡ m
-        places = length-replicate m no_hit
-
-        seen : Answer
-        seen = seen_of W read t (length (replicate m no_hit)) (numbers p.register ns) (numbers p.register bs)
-
-        answer : Answer
-        answer = seen_by (count_of (read_by t e.account)) (shown_in t e.windows) (numbers_of e.names bs) m (numbers_of e.names ns)
-
-        said : seen ≡ answer
-        said = ap (λ n. seen_of W read t n (numbers p.register ns) (numbers p.register bs)) places ∙ seen_same m ns bs
 
   -- ---- mean
 

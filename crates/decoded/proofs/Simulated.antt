@@ -13,7 +13,7 @@ use Rattle.partitions.specs.Reading.{stored}
 use Rattle.partitions.specs.Formed.{list_rule, in_range, sums_in_range, Writable}
 use Rattle.removals.specs.Removal.{remove_of}
 use Rattle.batches.specs.Batch.{batch_formed}
-use Rattle.engine.specs.Calls.{Call, Open, Event, Close, Remove, RemoveAll, Flush, Step, Query, QueryAs, Mean, Forecast, store_in, with_store, probe_call, run, afterwards}
+use Rattle.engine.specs.Calls.{Call, Open, Event, Close, Remove, RemoveAll, Flush, Step, Query, Mean, Forecast, store_in, with_store, probe_call, run, afterwards}
 use Rattle.accounts.specs.Account.{Account, stored_in, inputs_of, merged}
 use Rattle.accounts.specs.Ledger.{Ledger, count_by_number}
 use Rattle.accounts.specs.Books.{Books, books_call}
@@ -30,7 +30,7 @@ use Rattle.decoded.proofs.Holds.{Stored, stored_is}
 use Rattle.decoded.proofs.Ruled.{ruled, same_length}
 use Rattle.decoded.proofs.Flushing.{Same, both_refuse, both_leave, same_next, Fine}
 use Rattle.decoded.proofs.WindowCalls.{open-same, close-same, flush-call-same, event-same}
-use Rattle.decoded.proofs.Readings.{query-same, query-as-same, mean-same, removal-same, batch-same, remove-same, removals-same}
+use Rattle.decoded.proofs.Readings.{query-same, mean-same, removal-same, batch-same, remove-same, removals-same}
 use Rattle.decoded.proofs.Forecasts.{forecast-same}
 use Rattle.decoded.proofs.StepCall.{step_same}
 
@@ -120,7 +120,6 @@ module _ (ls : Lengths) where
     pursued-same p e b s k f Flush r = flush-call-same p e k f
     pursued-same p e b s k f Step r = step_same p e k f r
     pursued-same p e b s k f (Query x t ns) r = query-same p e k f t x ns r
-    pursued-same p e b s k f (QueryAs x t ns bs) r = query-as-same p e k f t x ns bs r
     pursued-same p e b s k f (Mean x) r = mean-same p e k f x r
     pursued-same p e b s k f (Forecast plan counts) r = forecast-same p e k f plan counts
 

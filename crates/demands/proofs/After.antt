@@ -93,7 +93,7 @@ module _ (c r : ℕ) (card_fits : card_length c ≡ true) (register_fits : regis
   abbrev W : List ℕ
   W = words p.card
 
-  pub left : Left ls (entries-most r register_fits) p b
+  left : Left ls (entries-most r register_fits) p b
   left = history-left c r card_fits register_fits cs
 
   abbrev first_of : List Answer → Answer
@@ -101,7 +101,7 @@ module _ (c r : ℕ) (card_fits : card_length c ≡ true) (register_fits : regis
   first_of (a ∷ told) = a
 
   -- one call more
-  pub answered : (q : Call) → answer_of (probe_call p q) ≡ answer_of (books_call (c / 4096) (r / 65) b q)
+  answered : (q : Call) → answer_of (probe_call p q) ≡ answer_of (books_call (c / 4096) (r / 65) b q)
   answered q = ap first_of both
     where
       both : answer_of (probe_call p q) ∷ [] ≡ answer_of (books_call (c / 4096) (r / 65) b q) ∷ []

@@ -12,13 +12,12 @@ use Rattle.flushes.specs.Flush.{flushing, flushing_if, flush_of}
 use Rattle.windows.specs.Calls.{fresh, open_of, close_of}
 use Rattle.events.specs.Event.{event_of}
 use Rattle.queries.specs.Query.{query_of}
-use Rattle.badges.specs.Badge.{query_as_of}
 use Rattle.means.specs.Mean.{mean_of}
 use Rattle.forecasts.specs.Outlook.{forecast_of}
 use Rattle.removals.specs.Removal.{removing, remove_of}
 use Rattle.batches.specs.Batch.{remove_all_of}
 use Rattle.plans.specs.Step.{stepping, step_of}
-use Rattle.engine.specs.Calls.{Call, Open, Event, Close, Remove, RemoveAll, Flush, Step, Query, QueryAs, Mean, Forecast, store_in, with_store, with_state, no_hit, probe_call, afterwards}
+use Rattle.engine.specs.Calls.{Call, Open, Event, Close, Remove, RemoveAll, Flush, Step, Query, Mean, Forecast, store_in, with_store, with_state, no_hit, probe_call, afterwards}
 use Rattle.demands.proofs.Rows.{state-carry}
 
 -- the bytes of its words are the card
@@ -98,7 +97,6 @@ call-whole p w (RemoveAll ns) = carried (with_store p) (store_in p) (remove_all_
 call-whole p w Flush = carried (with_store p) (store_in p) (flush_of (store_in p)) (flushed-whole (store_in p) w)
 call-whole p w Step = carried (with_store p) (store_in p) (step_of (store_in p)) (stepped-whole (store_in p) w)
 call-whole p w (Query k t ns) = carried (λ (l : List Hit). p) (replicate k no_hit) (query_of p t ns (replicate k no_hit)) w
-call-whole p w (QueryAs k t ns bs) = carried (λ (l : List Hit). p) (replicate k no_hit) (query_as_of p t ns bs (replicate k no_hit)) w
 call-whole p w (Mean n) = carried (λ (u : Unit {0}). p) tt (mean_of p n) w
 call-whole p w (Forecast plan counts) = carried (λ (u : Unit {0}). p) tt (forecast_of p.state p.register plan counts) w
 

@@ -41,12 +41,9 @@ use Rattle.queries.specs.Query.{count_in, numbers, taken_up, query_formed, fill,
 use Rattle.queries.specs.Finds.{answered}
 use Rattle.queries.specs.declared.Answered.{Answered}
 use Rattle.queries.proofs.Refused.{query-unchanged}
-use Rattle.ranking.specs.Asked.{bad_query, bad_stretch, bad_badge}
-use Rattle.ranking.specs.Hits.{frequency, ranked}
-use Rattle.ranking.specs.Sight.{pairs_of}
+use Rattle.ranking.specs.Asked.{bad_query, bad_stretch}
+use Rattle.ranking.specs.Hits.{frequency}
 use Rattle.averages.specs.Average.{total, averaging}
-use Rattle.badges.specs.Badge.{query_as_of, answered_as}
-use Rattle.badges.proofs.Refused.{query-as-unchanged}
 use Rattle.means.specs.Mean.{frequency_in, total_in, mean_of}
 use Rattle.forecasts.specs.Plan.{plan_calls}
 use Rattle.batches.specs.Batch.{batch_rule, batch_formed}
@@ -61,7 +58,7 @@ use Rattle.jobs.proofs.Lent.{lent-unchanged, lent_other, lent-own}
 use Rattle.accounts.specs.Account as account
 use Rattle.accounts.specs.Account.{Account, stored_in, taken_from, inputs_of, merged, blocks_of, stepped_account}
 use Rattle.accounts.specs.Ledger as ledger
-use Rattle.accounts.specs.Ledger.{Ledger, existing, shown_within, existing_within, including, count_by_number}
+use Rattle.accounts.specs.Ledger.{existing, shown_within, existing_within, including, count_by_number}
 use Rattle.accounts.specs.Books.{AllGranted, showing, expected}
 use Rattle.accounts.specs.Lists.{Lists}
 use Rattle.accounts.proofs.Stored.{sum-stored-stepped}
@@ -69,14 +66,13 @@ use Rattle.decoded.specs.Portions.{portion_on, output_of, clean_past}
 use Rattle.decoded.proofs.Simulated.{left-sums}
 use Rattle.histories.specs.Statement.{answers, SameAnswers}
 use Rattle.histories.proofs.Theorem.{entries-most, same-answers, none-malformed, history-left}
-use Rattle.demands.specs.Words.{Fit, Listing, most_score, Divided, Together, Foreseen, probe_after, books_after, sight_on, cut_after, SameSight, told_to, Alike, unused}
-use Rattle.demands.specs.Promises.{Starts, Opens, Counts, Closes, Removes, RemovesAll, Flushes, Steps, Asks, AsksValue, AsksAs, Averages, Foretells, Begun}
+use Rattle.demands.specs.Words.{Fit, Listing, most_score, Divided, Together, Foreseen, probe_after, books_after, unused}
+use Rattle.demands.specs.Promises.{Starts, Opens, Counts, Closes, Removes, RemovesAll, Flushes, Steps, Asks, AsksValue, Averages, Foretells, Begun}
 use Rattle.demands.proofs.Granted.{event-bad, query-bad, query-stretch, mean-bad, event-noted, query-answered, answered-listing, hits-show, scores-few, mean-answered, plan-bad, forecast-kept}
 use Rattle.demands.proofs.Rows.{start-fresh, start-refuses, all-unstarted, begun-run}
 use Rattle.demands.proofs.Removals.{removals-together, removals-late, list-bad}
 use Rattle.demands.proofs.Single.{one_state, one_store, one-probe, one-opening, one_list, one_found, one-averaged, one-forecasted}
 use Rattle.demands.proofs.After.{by-books, listing-by-ledger, whole-left, hits-kept, mean-told, mean-by-ledger, list-bad-after, together-left, count-removed, live-removed, none-removed, forecast-left, free-left, byte_left, past-left, spans-left, output-left}
-use Rattle.demands.proofs.Badges.{query-as-bad, badge-bad, seen-answered, seen-listing, seen-only, seen_few, seen-by-ledger, alike-told, narrower}
 
 -- ==== 1. Every call does what the page says, on every input
 
@@ -114,10 +110,6 @@ one-query s card register t ids places x y places₁ places₂ g h = one_list x 
 pub one-query-value : (s : State) (card register : List ℕ) (t : Stretch) (ids : List Name) (places : ℕ) (x y : Answered) → AsksValue s card register t ids places x → AsksValue s card register t ids places y → x ≡ y
 one-query-value s card register t ids places x y g h = one_found (answered (probe_of s card register) t ids places) places x y g h
 
-pub one-query-as : (s : State) (card register : List ℕ) (t : Stretch) (ids badge : List Name) (places : ℕ) (x y : Answered)
-    → AsksAs s card register t ids badge places x → AsksAs s card register t ids badge places y → x ≡ y
-one-query-as s card register t ids badge places x y g h = one_found (answered_as (probe_of s card register) t ids badge places) places x y g h
-
 pub one-mean : (s : State) (card register : List ℕ) (id : Name) (x y : Averaged) → Averages s card register id x → Averages s card register id y → x ≡ y
 one-mean s card register id x y g h = one-averaged x y (g ∙ sym h)
 
@@ -144,11 +136,6 @@ refused-unchanged p c n e = (call-unchanged p c).same n e
 -- A refused query leaves the lent list as it was.
 pub refused-list-unchanged : (p : Probe) (t : Stretch) (ns : List Name) (places : List Hit) (n : ℕ) → answer_of (query_of p t ns places) ≡ refused n → state_of places (query_of p t ns places) ≡ places
 refused-list-unchanged p t ns places n e = (query-unchanged p t ns places).same n e
-
--- So does a refused query under a badge.
-pub refused-as-unchanged : (p : Probe) (t : Stretch) (ns bs : List Name) (places : List Hit) (n : ℕ) → answer_of (query_as_of p t ns bs places) ≡ refused n
-    → state_of places (query_as_of p t ns bs places) ≡ places
-refused-as-unchanged p t ns bs places n e = (query-as-unchanged p t ns bs places).same n e
 
 -- A refused start leaves both buffers as they were, and gives a state of zeros.
 pub refused-start : (card register : List ℕ) (n : ℕ) → answer_of (start_of card register) ≡ refused n → state_of (unstarted card register) (start_of card register) ≡ unstarted card register
@@ -184,17 +171,7 @@ pub bad-stretch : (p : Probe) (t : Stretch) (ns : List Name) (places : List Hit)
     → any bad_length ns ≡ false → bad_query (length places) ns ≡ false → bad_stretch t ≡ true → answer_of (query_of p t ns places) ≡ refused 17
 bad-stretch = query-stretch
 
--- A query under a badge is refused with 4 for a bad identifier of the query or of the badge (with 1 to 3 where these come first).
-pub bad-query-as : (p : Probe) (t : Stretch) (ns bs : List Name) (places : List Hit) → Fit p → query_formed (words p.card) p.state t p.register (numbers p.register (ns ++ bs)) ≡ true
-    → any bad_length (ns ++ bs) ≡ true → answer_of (query_as_of p t ns bs places) ≡ refused 4
-bad-query-as = query-as-bad
-
--- With a badge of no or more than 8 access identifiers it is refused with 18 (with 1 to 4, 14 or 17 where these come first).
-pub bad-badge : (p : Probe) (t : Stretch) (ns bs : List Name) (places : List Hit) → Fit p → query_formed (words p.card) p.state t p.register (numbers p.register (ns ++ bs)) ≡ true
-    → any bad_length (ns ++ bs) ≡ false → bad_query (length places) ns ≡ false → bad_stretch t ≡ false → bad_badge bs ≡ true → answer_of (query_as_of p t ns bs places) ≡ refused 18
-bad-badge = badge-bad
-
--- A mean of a bad identifier is refused with 4 (with 1 to 3 where these come first).
+-- And a mean of one.
 pub bad-mean : (p : Probe) (n : Name) → Fit p → query_formed (words p.card) p.state whole p.register (numbers p.register (n ∷ [])) ≡ true
     → bad_length n ≡ true → answer_of (mean_of p n) ≡ refused 4
 bad-mean = mean-bad
@@ -285,47 +262,6 @@ taken-by-account c r card_fits register_fits cs t ns places found taken e = (by-
 pub places-kept : (p : Probe) (t : Stretch) (ns : List Name) (places found : List Hit) (taken : ℕ) → answer_of (query_of p t ns places) ≡ hits found taken
     → state_of places (query_of p t ns places) ≡ fill found places
 places-kept p t ns places found taken e = (query-answered p t ns places found taken e).left_is
-
--- Under a badge the hits are of matching windows that it sees, with exactly the defined scores, in falling order, and cut only where the list is full. N is how many windows it
--- sees, F and counts are of these, and what is told as taken are the pairs of the query's identifiers and such windows with a count above 0, wherever they are stored.
-pub badge-exact : (p : Probe) (t : Stretch) (ns bs : List Name) (places found : List Hit) (taken : ℕ) → answer_of (query_as_of p t ns bs places) ≡ hits found taken
-    → Listing (length (sight_on p t bs)) (count_in (words p.card) (read_by t p.state)) (sight_on p t bs) (length places) (numbers p.register ns) found
-    × (pairs_of (count_in (words p.card) (read_by t p.state)) (sight_on p t bs) (numbers p.register ns) ≡ taken)
-badge-exact p t ns bs places found taken e = (seen-listing p t ns bs places found taken e, (seen-answered p t ns bs places found taken e).taken_is)
-
--- Each hit is of a window of the stretch, none of a window under way, and in each some access identifier has a sum above 0.
-pub badge-sees : (p : Probe) (t : Stretch) (ns bs : List Name) (places found : List Hit) (taken : ℕ) → answer_of (query_as_of p t ns bs places) ≡ hits found taken
-    → every (λ h. (within t h.window && shows p.state.windows.current h.window) && any (λ b. ltb 0 (count_in (words p.card) (read_by t p.state) b h.window)) (numbers p.register bs)) found ≡ true
-badge-sees = seen-only
-
--- No score is above 306,000 here either.
-pub badge-scores-most : (p : Probe) (t : Stretch) (ns bs : List Name) (places found : List Hit) (taken : ℕ) → answer_of (query_as_of p t ns bs places) ≡ hits found taken
-    → every (λ h. leb h.score most_score) found ≡ true
-badge-scores-most = seen_few
-
--- Places beyond the last hit keep their content, too.
-pub badge-places-kept : (p : Probe) (t : Stretch) (ns bs : List Name) (places found : List Hit) (taken : ℕ) → answer_of (query_as_of p t ns bs places) ≡ hits found taken
-    → state_of places (query_as_of p t ns bs places) ≡ fill found places
-badge-places-kept p t ns bs places found taken e = (seen-answered p t ns bs places found taken e).left_is
-
--- After every history a badge is told what the ledger says that is cut down to the windows that it sees, as if nothing had ever been counted in any other: hits, N, F and pairs
--- taken are of all closed windows there.
-pub badge-by-ledger : (c r : ℕ) → card_length c ≡ true → register_length r ≡ true → (cs : List Call) (t : Stretch) (ns bs : List Name) (places found : List Hit) (taken : ℕ)
-    → answer_of (query_as_of (probe_after c r cs) t ns bs places) ≡ hits found taken
-    → (found ≡ ranked (existing (cut_after c r cs t bs)) (cut_after c r cs t bs).count (ledger.shown (cut_after c r cs t bs)) (length places) ns)
-    × (taken ≡ pairs_of (cut_after c r cs t bs).count (ledger.shown (cut_after c r cs t bs)) ns)
-badge-by-ledger = seen-by-ledger
-
--- Two histories of this engine, on cards and registers of any sizes, whose queries under a badge are the same, and whose closed windows that it sees in the stretch asked for
--- agree at each of them, numbers and counts alike, give that badge equal answers, refusals included, whatever other windows hold and whatever else either history does.
--- Not claimed: how long a call takes, and what other calls tell, as a query without a badge or under another, a mean, the numbers of windows, the refusals of other calls.
-pub badge-alike : (bs : List Name) (c r d q : ℕ) → card_length c ≡ true → register_length r ≡ true → card_length d ≡ true → register_length q ≡ true → (cs ds : List Call) → Alike bs c r d q cs ds
-    → told_to bs cs (answers c r cs) ≡ told_to bs ds (answers d q ds)
-badge-alike = alike-told
-
--- What two ledgers show a badge the same in one stretch they do in every stretch inside it; so ledgers that do from 0 to 65,535 do in every stretch.
-pub shown-inside : (u t : Stretch) → u.first ≤ t.first → t.last ≤ u.last → (bs : List Name) (l m : Ledger) → SameSight u bs l m → SameSight t bs l m
-shown-inside = narrower
 
 -- A mean loses nothing: quotient × F + remainder is the sum of the identifier's counts in the windows that show, the remainder is below F, and F is the number of those
 -- windows in which its count is above 0.

@@ -135,7 +135,7 @@ taken_of (forecast k b m h) = 0
 taken_of (refused n) = 0
 
 -- a query that is not refused with 14
-pub asked-few : (k : ℕ) (ns : List Name) → bad_query k ns ≡ false → length ns ≤ 5
+asked-few : (k : ℕ) (ns : List Name) → bad_query k ns ≡ false → length ns ≤ 5
 unfolding bad_query
 asked-few k ns e = ltb-false 5 (length ns) (or-none (ltb 5 (length ns)) _ (or-none (empty ns) _ e).1).0
 
@@ -181,26 +181,24 @@ answered-listing p t ns places found taken e =
     once : different (shown_in t p.state.windows) ≡ true
     once = unfold shown_in in different-keep (shows_in t p.state.windows.current) (down 65535) (different-down 65535)
 
--- what holds of each window that matches, with its score, holds of every hit of a listing
-pub listing-each : {I : Type 0} (N : ℕ) (count : I → ℕ → ℕ) (windows : List ℕ) (k : ℕ) (is : List I) (found : List Hit) → Listing N count windows k is found → (u : Hit → Bool)
-    → ((h : Hit) → elem h.window (matching N count windows is) ≡ true → h.score ≡ score N count windows is h.window → u h ≡ true) → every u found ≡ true
-listing-each N count windows k is found listing u f =
+-- what holds of each window that matches, with its score, holds of every hit
+hits-each : (p : Probe) (t : Stretch) (ns : List Name) (places found : List Hit) (taken : ℕ) → answer_of (query_of p t ns places) ≡ hits found taken → (u : Hit → Bool)
+    → ((h : Hit) → elem h.window (matching (existing_on p t) (count_in (words p.card) (read_by t p.state)) (shown_in t p.state.windows) (numbers p.register ns)) ≡ true
+    → h.score ≡ score (existing_on p t) (count_in (words p.card) (read_by t p.state)) (shown_in t p.state.windows) (numbers p.register ns) h.window → u h ≡ true) → every u found ≡ true
+hits-each p t ns places found taken e u f =
+    let N = existing_on p t in
+    let count = count_in (words p.card) (read_by t p.state) in
+    let windows = shown_in t p.state.windows in
+    let is = numbers p.register ns in
+    let exact = (answered-listing p t ns places found taken e).exact in
     every-from
     (λ h. elem h.window (matching N count windows is) && eqb h.score (scored N count windows is h.window).score)
     (λ h. elem h.window (matching N count windows is) && eqb h.score (scored N count windows is h.window).score)
     u
     (λ h a b. f h (and_left _ _ a) (eqb-true _ _ (and_right (elem h.window (matching N count windows is)) _ a)))
     found
-    listing.exact
-    listing.exact
-
--- so of a query
-hits-each : (p : Probe) (t : Stretch) (ns : List Name) (places found : List Hit) (taken : ℕ) → answer_of (query_of p t ns places) ≡ hits found taken → (u : Hit → Bool)
-    → ((h : Hit) → elem h.window (matching (existing_on p t) (count_in (words p.card) (read_by t p.state)) (shown_in t p.state.windows) (numbers p.register ns)) ≡ true
-    → h.score ≡ score (existing_on p t) (count_in (words p.card) (read_by t p.state)) (shown_in t p.state.windows) (numbers p.register ns) h.window → u h ≡ true) → every u found ≡ true
-hits-each p t ns places found taken e u f =
-    listing-each (existing_on p t) (count_in (words p.card) (read_by t p.state)) (shown_in t p.state.windows) (length places) (numbers p.register ns) found
-    (answered-listing p t ns places found taken e) u f
+    exact
+    exact
 
 -- each is of a window of the stretch that shows
 pub hits-show : (p : Probe) (t : Stretch) (ns : List Name) (places found : List Hit) (taken : ℕ) → answer_of (query_of p t ns places) ≡ hits found taken
@@ -254,17 +252,17 @@ mean-answered p n q r d e = (mean-where p n _ _ q r d).holds e
 
 -- ---- identifiers of a bad length
 
-pub refuse-now : {S : Type 0} (t : Bool) (n : ℕ) (o : Outcome S) → t ≡ true → answer_of (refuse_if t n o) ≡ refused n
+refuse-now : {S : Type 0} (t : Bool) (n : ℕ) (o : Outcome S) → t ≡ true → answer_of (refuse_if t n o) ≡ refused n
 unfolding refuse_if
 refuse-now true n o e = refl
 refuse-now false n o e = absurd (let z : ◌≡◌ {A = ℕ} 0 1 = cc in omega arith)
 
-pub refuse-later : {S : Type 0} (t : Bool) (n : ℕ) (o : Outcome S) (a : Answer) → t ≡ true → answer_of o ≡ a → answer_of (refuse_if (not t) n o) ≡ a
+refuse-later : {S : Type 0} (t : Bool) (n : ℕ) (o : Outcome S) (a : Answer) → t ≡ true → answer_of o ≡ a → answer_of (refuse_if (not t) n o) ≡ a
 unfolding refuse_if
 refuse-later true n o a e f = f
 refuse-later false n o a e f = absurd (let z : ◌≡◌ {A = ℕ} 0 1 = cc in omega arith)
 
-pub refuse-not : {S : Type 0} (t : Bool) (n : ℕ) (o : Outcome S) (a : Answer) → t ≡ false → answer_of o ≡ a → answer_of (refuse_if t n o) ≡ a
+refuse-not : {S : Type 0} (t : Bool) (n : ℕ) (o : Outcome S) (a : Answer) → t ≡ false → answer_of o ≡ a → answer_of (refuse_if t n o) ≡ a
 unfolding refuse_if
 refuse-not true n o a e f = absurd (let z : ◌≡◌ {A = ℕ} 0 1 = cc in omega arith)
 refuse-not false n o a e f = f

@@ -6,5 +6,4 @@ pub mod Single
 pub mod Cards
 pub mod Foreseen
 pub mod After
-pub mod Badges
 pub mod Demands

@@ -22,16 +22,15 @@ use Rattle.queries.specs.Query.{numbers, taken_up, hits_of, querying, existing_o
 use Rattle.ranking.specs.Asked.{bad_query}
 use Rattle.queries.specs.Finds.{answered, Finds}
 use Rattle.ranking.specs.declared.Top.{Top}
-use Rattle.badges.specs.Badge.{seen_of, querying_as, query_as_of, answered_as}
 use Rattle.means.specs.Mean.{meaning, mean_of}
 use Rattle.forecasts.specs.Outlook.{forecast_of}
 use Rattle.removals.specs.Removal.{remove_of}
 use Rattle.batches.specs.Batch.{remove_all_of}
 use Rattle.plans.specs.Step.{step_of}
 use Rattle.engine.specs.Calls as calls
-use Rattle.engine.specs.Calls.{Call, Open, Event, Close, Remove, RemoveAll, Flush, Step, Query, QueryAs, Mean, with_store, with_state, no_hit, probe_call, run}
+use Rattle.engine.specs.Calls.{Call, Open, Event, Close, Remove, RemoveAll, Flush, Step, Query, Mean, with_store, with_state, no_hit, probe_call, run}
 use Rattle.histories.specs.Statement.{answers}
-use Rattle.demands.specs.Promises.{Row, no_call, opening, counting, closing, removing, removing_all, flushing, stepping, asking, asking_value, asking_as, averaging, foretelling, Begun}
+use Rattle.demands.specs.Promises.{Row, no_call, opening, counting, closing, removing, removing_all, flushing, stepping, asking, asking_value, averaging, foretelling, Begun}
 
 -- ---- outcomes seen on the whole probe
 
@@ -76,25 +75,6 @@ unfolding probe_call
 query-called p t ns places =
     query-any p t ns places (replicate (length places) no_hit) (sym (length-replicate (length places) no_hit))
     ∙ sym (answer-carry (λ (l : List Hit). p) (query_of p t ns (replicate (length places) no_hit)))
-
--- under a badge
-query-as-any : (p : Probe) (t : Stretch) (ns bs : List Name) (places others : List Hit) → length places ≡ length others → answer_of (query_as_of p t ns bs places) ≡ answer_of (query_as_of p t ns bs others)
-unfolding query_as_of querying_as
-query-as-any p t ns bs places others e =
-    same_if _ _ 1 _ _ refl
-    (same_if _ _ 2 _ _ refl
-    (same_if _ _ 3 _ _ refl
-    (same_if _ _ 4 _ _ refl
-    (same_if _ _ 14 _ _ (ap (λ k. bad_query k ns) e)
-    (same_if _ _ 17 _ _ refl
-    (same_if _ _ 18 _ _ refl
-    (ap (λ k. seen_of (words p.card) (read_by t p.state) t k (numbers p.register ns) (numbers p.register bs)) e)))))))
-
-pub query-as-called : (p : Probe) (t : Stretch) (ns bs : List Name) (places : List Hit) → answer_of (query_as_of p t ns bs places) ≡ answer_of (probe_call p (QueryAs (length places) t ns bs))
-unfolding probe_call
-query-as-called p t ns bs places =
-    query-as-any p t ns bs places (replicate (length places) no_hit) (sym (length-replicate (length places) no_hit))
-    ∙ sym (answer-carry (λ (l : List Hit). p) (query_as_of p t ns bs (replicate (length places) no_hit)))
 
 -- ---- in a row
 
@@ -151,12 +131,6 @@ module _ (p : Probe) where
   unfolding probe_call
   value-is t ns k a u f = (f.answer ∙ sym (answer-carry (λ (l : List Hit). p) (query_of p t ns (replicate k no_hit))), query-left k t ns)
 
-  value-as-is : (t : Stretch) (ns bs : List Name) (k : ℕ) (a : Found) (u : Top) → Finds (answered_as p t ns bs k) k a u → Is p (QueryAs k t ns bs) (found_as a u.hits) p
-  unfolding probe_call
-  value-as-is t ns bs k a u f =
-      let o = query_as_of p t ns bs (replicate k no_hit) in
-      (f.answer ∙ sym (answer-carry (λ (l : List Hit). p) o), sym (state-carry (λ (l : List Hit). p) (replicate k no_hit) o))
-
   -- a mean leaves it too
   mean-is : (n : Name) (a : Averaged) → averaged_as a ≡ answer_of (mean_of p n) → Is p (Mean n) (averaged_as a) p
   unfolding probe_call
@@ -187,8 +161,6 @@ row-run (asking {s} {card} {register} {cs} {told} {stretch} {ids} {hits} r g row
     follow _ (Query (length hits) stretch ids) cs _ _ told (query-is (probe_of s card register) stretch ids hits _ _ g.0) (row-run row)
 row-run (asking_value {s} {card} {register} {cs} {told} {stretch} {ids} {places} r g row) =
     follow _ (Query places stretch ids) cs _ _ told (value-is (probe_of s card register) stretch ids places r.answer r.top g) (row-run row)
-row-run (asking_as {s} {card} {register} {cs} {told} {stretch} {ids} {badge} {places} r g row) =
-    follow _ (QueryAs places stretch ids badge) cs _ _ told (value-as-is (probe_of s card register) stretch ids badge places r.answer r.top g) (row-run row)
 row-run (averaging {s} {card} {register} {cs} {told} {id} r g row) = follow _ (Mean id) cs _ _ told (mean-is (probe_of s card register) id r g) (row-run row)
 row-run (foretelling {s} {card} {register} {cs} {told} {plan} {counts} r g row) =
     follow _ (calls.Forecast plan counts) cs _ _ told (forecast-is (probe_of s card register) plan counts r g) (row-run row)
@@ -213,7 +185,7 @@ zeros-broken = refl
 
 -- so every call on it is refused with 1
 pub all-unstarted : (card register : List ℕ) (c : Call) → answer_of (probe_call (unstarted card register) c) ≡ refused 1
-unfolding probe_call unstarted open_of close_of event_of flush_of remove_of remove_all_of step_of query_of querying query_as_of querying_as mean_of meaning forecast_of refuse_if
+unfolding probe_call unstarted open_of close_of event_of flush_of remove_of remove_all_of step_of query_of querying mean_of meaning forecast_of refuse_if
 all-unstarted card register Open = rw zeros-broken
 all-unstarted card register (Event n) = rw zeros-broken
 all-unstarted card register Close = rw zeros-broken
@@ -222,7 +194,6 @@ all-unstarted card register (RemoveAll ws) = rw zeros-broken
 all-unstarted card register Flush = rw zeros-broken
 all-unstarted card register Step = rw zeros-broken
 all-unstarted card register (Query k t ns) = rw zeros-broken
-all-unstarted card register (QueryAs k t ns bs) = rw zeros-broken
 all-unstarted card register (Mean n) = rw zeros-broken
 all-unstarted card register (calls.Forecast plan counts) = rw zeros-broken
 

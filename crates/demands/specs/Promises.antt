@@ -16,14 +16,13 @@ use Rattle.windows.specs.declared.Opening.{Opening}
 use Rattle.windows.specs.declared.Replied.{Replied}
 pub use Rattle.queries.specs.Finds.{AsksValue}
 use Rattle.queries.specs.declared.Answered.{Answered}
-pub use Rattle.badges.specs.Badge.{AsksAs}
 pub use Rattle.means.specs.Mean.{Averages}
 pub use Rattle.forecasts.specs.Outlook.{Foretells}
 pub use Rattle.removals.specs.Promises.{Removes}
 pub use Rattle.batches.specs.Batch.{RemovesAll}
 pub use Rattle.merges.specs.Promises.{Steps}
 use Rattle.engine.specs.Calls as calls
-use Rattle.engine.specs.Calls.{Call, Open, Event, Close, Remove, RemoveAll, Flush, Step, Query, QueryAs, Mean}
+use Rattle.engine.specs.Calls.{Call, Open, Event, Close, Remove, RemoveAll, Flush, Step, Query, Mean}
 pub use Rattle.hits.specs.Lent.{Asks}
 
 -- from this state, card and register on: the calls, each given what the one before left, and the answers of results that keep their promises
@@ -49,9 +48,6 @@ pub data Row : State → List ℕ → List ℕ → List Call → List Answer →
   -- or so many places are asked for, and the hits are in the result
   asking_value : {s : State} {card register : List ℕ} {cs : List Call} {told : List Answer} {stretch : Stretch} {ids : List Name} {places : ℕ} (r : Answered)
       → AsksValue s card register stretch ids places r → Row s card register cs told → Row s card register (Query places stretch ids ∷ cs) (found_as r.answer r.top.hits ∷ told)
-  -- the same under a badge
-  asking_as : {s : State} {card register : List ℕ} {cs : List Call} {told : List Answer} {stretch : Stretch} {ids badge : List Name} {places : ℕ} (r : Answered)
-      → AsksAs s card register stretch ids badge places r → Row s card register cs told → Row s card register (QueryAs places stretch ids badge ∷ cs) (found_as r.answer r.top.hits ∷ told)
   -- a mean
   averaging : {s : State} {card register : List ℕ} {cs : List Call} {told : List Answer} {id : Name} (r : Averaged)
       → Averages s card register id r → Row s card register cs told → Row s card register (Mean id ∷ cs) (averaged_as r ∷ told)

@@ -1,24 +1,19 @@
 -- Words that the demands are stated with.
 use Rattle.std.specs.Prelude.{Bool, true, false, ◌&&◌, not, cond, List, [], ◌∷◌, ◌++◌, map, ◌≡◌, ℕ, suc, ◌+◌, ◌*◌, ◌/◌, ◌<◌, eqb, ltb, length, take, replicate}
-use Rattle.lists.specs.Lists.{every, any, elem, same}
+use Rattle.lists.specs.Lists.{every, any, elem}
 use Rattle.words.specs.Words.{words}
-use Rattle.postings.specs.declared.Stretch.{Stretch}
 use Rattle.answers.specs.Answers.{Halt, never, halted, Answer, done, number, hits, mean, forecast, refused, Outcome, refuse, leave, answer_of, state_of}
 use Rattle.answers.specs.declared.Hit.{Hit}
 use Rattle.state.specs.Rules.{state_rule}
 use Rattle.state.specs.Probe.{Probe, has_length}
-use Rattle.identifiers.specs.Names.{Name}
 use Rattle.identifiers.specs.Register.{names, register_rule}
 use Rattle.flushes.specs.Flush.{finished_blocks}
 use Rattle.forecasts.specs.Plan.{Placed}
 use Rattle.windows.specs.Calls.{fresh}
 use Rattle.ranking.specs.Hits.{outranks, score, matching}
-use Rattle.stretches.specs.Reached.{read_by}
-use Rattle.queries.specs.Query.{numbers}
-use Rattle.badges.specs.Badge.{sight_of}
-use Rattle.engine.specs.Calls.{Call, Open, Event, Close, Remove, RemoveAll, Flush, Step, Query, QueryAs, Mean, Forecast, probe_call, planned_call, probe_gauge, run, afterwards}
+use Rattle.engine.specs.Calls.{Call, Remove, probe_call, planned_call, probe_gauge, run, afterwards}
 use Rattle.accounts.specs.Account.{empty_account}
-use Rattle.accounts.specs.Ledger.{Ledger, empty_ledger, sight_within, cut_to}
+use Rattle.accounts.specs.Ledger.{empty_ledger}
 use Rattle.accounts.specs.Books.{Books, books_call}
 use Rattle.decoded.specs.Portions.{occupied}
 
@@ -103,55 +98,6 @@ probe_after c r cs = afterwards probe_call (fresh c r) cs
 
 abbrev pub books_after : ℕ → ℕ → List Call → Books
 books_after c r cs = afterwards (books_call (c / 4096) (r / 65)) (record { ledger = empty_ledger; account = empty_account }) cs
-
--- the windows that a badge sees on a probe, and the ledger after such a list of calls cut down to those that it sees
-abbrev pub sight_on : Probe → Stretch → List Name → List ℕ
-sight_on p t bs = sight_of (words p.card) (read_by t p.state) t (numbers p.register bs)
-
-abbrev pub cut_after : ℕ → ℕ → List Call → Stretch → List Name → Ledger
-cut_after c r cs t bs = cut_to (sight_within t bs (books_after c r cs).ledger) (books_after c r cs).ledger
-
--- two ledgers show a badge the same in a stretch: the same windows, and the same counts in each of them
-pub record SameSight (t : Stretch) (bs : List Name) (l m : Ledger) : Type 0 where
-  pub windows : sight_within t bs l ≡ sight_within t bs m
-  pub counts : (w : ℕ) → elem w (sight_within t bs l) ≡ true → (n : Name) → l.count n w ≡ m.count n w
-
--- are two badges of the same access identifiers, in the same order
-abbrev pub same_badge : List Name → List Name → Bool
-same_badge [] [] = true
-same_badge [] (d ∷ ds) = false
-same_badge (b ∷ bs) [] = false
-same_badge (b ∷ bs) (d ∷ ds) = same b d && same_badge bs ds
-
--- is a call a query under this badge
-abbrev pub asks_under : List Name → Call → Bool
-asks_under bs Open = false
-asks_under bs (Event n) = false
-asks_under bs Close = false
-asks_under bs (Remove w) = false
-asks_under bs (RemoveAll ws) = false
-asks_under bs Flush = false
-asks_under bs Step = false
-asks_under bs (Query k t ns) = false
-asks_under bs (QueryAs k t ns ds) = same_badge bs ds
-asks_under bs (Mean n) = false
-asks_under bs (Forecast plan counts) = false
-
--- the answers to the queries under this badge, in order
-abbrev pub told_to : List Name → List Call → List Answer → List Answer
-told_to bs [] told = []
-told_to bs (c ∷ cs) [] = []
-told_to bs (c ∷ cs) (x ∷ told) = cond (asks_under bs c) (x ∷ told_to bs cs told) (told_to bs cs told)
-
--- two histories, on cards of c and d bytes with registers of r and q, that ask the same under a badge and show it the same whenever they do. Either makes any calls besides
-pub data Alike (bs : List Name) (c r d q : ℕ) : List Call → List Call → Type 0 where
-  neither : Alike bs c r d q [] []
-  -- the one makes a call more that is no query under this badge, or the other does
-  first : {cs ds : List Call} (x : Call) → asks_under bs x ≡ false → Alike bs c r d q cs ds → Alike bs c r d q (cs ++ (x ∷ [])) ds
-  second : {cs ds : List Call} (x : Call) → asks_under bs x ≡ false → Alike bs c r d q cs ds → Alike bs c r d q cs (ds ++ (x ∷ []))
-  -- both make the same query under it, where the stretch asked for shows it the same
-  both : {cs ds : List Call} (k : ℕ) (t : Stretch) (ns : List Name) → SameSight t bs (books_after c r cs).ledger (books_after d q ds).ledger → Alike bs c r d q cs ds
-      → Alike bs c r d q (cs ++ (QueryAs k t ns bs ∷ [])) (ds ++ (QueryAs k t ns bs ∷ []))
 
 -- is block b of no finished partition and of no output in progress
 abbrev pub unused : Probe → ℕ → Bool

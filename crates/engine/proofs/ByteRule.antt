@@ -22,7 +22,6 @@ use Rattle.flushes.specs.Flush.{next_free, flushed_card, flushing, flushing_if, 
 use Rattle.windows.specs.Calls.{fresh, start_of, unstarted, open_of, close_of}
 use Rattle.events.specs.Event.{event_of}
 use Rattle.queries.specs.Query.{query_of}
-use Rattle.badges.specs.Badge.{query_as_of}
 use Rattle.means.specs.Mean.{mean_of}
 use Rattle.forecasts.specs.Outlook.{forecast_of}
 use Rattle.removals.specs.Removal.{removing, remove_of}
@@ -30,7 +29,7 @@ use Rattle.batches.specs.Batch.{remove_all_of}
 use Rattle.plans.specs.Merging.{taking}
 use Rattle.plans.specs.Step.{step_formed, output_chain_on, written_on, stepping, step_of}
 use Rattle.merges.proofs.Filling.{step-moves, step-length}
-use Rattle.engine.specs.Calls.{Call, Open, Event, Close, Remove, RemoveAll, Flush, Step, Query, QueryAs, Mean, Forecast, store_in, with_store, with_state, no_hit, probe_call}
+use Rattle.engine.specs.Calls.{Call, Open, Event, Close, Remove, RemoveAll, Flush, Step, Query, Mean, Forecast, store_in, with_store, with_state, no_hit, probe_call}
 
 -- The rule ---------------------------------------------------------------------------------------------------------------
 
@@ -247,6 +246,5 @@ call-moved p small c = go c
     go Flush = after-carry P (with_store p) (store_in p) p (flush_of (store_in p)) same (filled-moved (flush-filled (store_in p) w))
     go Step = after-carry P (with_store p) (store_in p) p (step_of (store_in p)) same (step-moved (store_in p) w)
     go (Query k t ns) = after-carry P (λ (l : List Hit). p) (replicate k no_hit) p (query_of p t ns (replicate k no_hit)) same same
-    go (QueryAs k t ns bs) = after-carry P (λ (l : List Hit). p) (replicate k no_hit) p (query_as_of p t ns bs (replicate k no_hit)) same same
     go (Mean n) = after-carry P (λ (u : Unit {0}). p) tt p (mean_of p n) same same
     go (Forecast plan counts) = after-carry P (λ (u : Unit {0}). p) tt p (forecast_of p.state p.register plan counts) same same

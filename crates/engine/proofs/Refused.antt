@@ -11,8 +11,6 @@ use Rattle.windows.specs.Calls.{open_of, close_of}
 use Rattle.flushes.specs.Flush.{flush_of}
 use Rattle.queries.specs.Query.{query_of}
 use Rattle.queries.proofs.Refused.{query-unchanged}
-use Rattle.badges.specs.Badge.{query_as_of}
-use Rattle.badges.proofs.Refused.{query-as-unchanged}
 use Rattle.means.specs.Mean.{mean_of}
 use Rattle.means.proofs.Refused.{mean-unchanged}
 use Rattle.forecasts.specs.Outlook.{forecast_of}
@@ -23,7 +21,7 @@ use Rattle.batches.specs.Batch.{remove_all_of}
 use Rattle.batches.proofs.Refused.{batch-unchanged}
 use Rattle.plans.specs.Step.{step_of}
 use Rattle.merges.proofs.Refused.{step-unchanged}
-use Rattle.engine.specs.Calls.{Call, Open, Event, Close, Remove, RemoveAll, Flush, Step, Query, QueryAs, Mean, Forecast, store_in, with_store, with_state, no_hit, probe_call}
+use Rattle.engine.specs.Calls.{Call, Open, Event, Close, Remove, RemoveAll, Flush, Step, Query, Mean, Forecast, store_in, with_store, with_state, no_hit, probe_call}
 
 pub call-unchanged : (p : Probe) (c : Call) → Unchanged p (probe_call p c)
 unfolding probe_call
@@ -36,8 +34,6 @@ call-unchanged p Flush = unchanged-carry (with_store p) (store_in p) p (flush_of
 call-unchanged p Step = unchanged-carry (with_store p) (store_in p) p (step_of (store_in p)) refl (step-unchanged (store_in p))
 call-unchanged p (Query k t ns) =
     unchanged-carry (λ (l : List Hit). p) (replicate k no_hit) p (query_of p t ns (replicate k no_hit)) refl (query-unchanged p t ns (replicate k no_hit))
-call-unchanged p (QueryAs k t ns bs) =
-    unchanged-carry (λ (l : List Hit). p) (replicate k no_hit) p (query_as_of p t ns bs (replicate k no_hit)) refl (query-as-unchanged p t ns bs (replicate k no_hit))
 call-unchanged p (Mean n) = unchanged-carry (λ (u : Unit {0}). p) tt p (mean_of p n) refl (mean-unchanged p n)
 call-unchanged p (Forecast plan counts) =
     unchanged-carry (λ (u : Unit {0}). p) tt p (forecast_of p.state p.register plan counts) refl (forecast-unchanged p.state p.register plan counts)

@@ -1,7 +1,7 @@
 -- The engine's calls in one place, and runs of them.
 use Rattle.std.specs.Prelude.{List, [], ◌∷◌, length, replicate}
 use Rattle.answers.specs.Answers.{Answer, Outcome, answer_of, state_of, carry}
-pub use Rattle.answers.specs.Calls.{Call, Open, Event, Close, Remove, RemoveAll, Flush, Step, Query, QueryAs, Mean, Forecast}
+pub use Rattle.answers.specs.Calls.{Call, Open, Event, Close, Remove, RemoveAll, Flush, Step, Query, Mean, Forecast}
 use Rattle.answers.specs.declared.Hit.{Hit}
 use Rattle.state.specs.declared.Partition.{Partition}
 use Rattle.state.specs.declared.State.{State}
@@ -13,7 +13,6 @@ use Rattle.windows.specs.Calls.{open_of, close_of}
 use Rattle.events.specs.Event.{event_of}
 use Rattle.flushes.specs.Flush.{finished_blocks, flush_of}
 use Rattle.queries.specs.Query.{query_of}
-use Rattle.badges.specs.Badge.{query_as_of}
 pub use Rattle.ranking.specs.Top.{no_hit}
 use Rattle.removals.specs.Removal.{remove_of}
 use Rattle.batches.specs.Batch.{remove_all_of}
@@ -33,7 +32,7 @@ with_store p s = record { state = s.state; card = s.card; register = p.register 
 abbrev pub with_state : Probe → State → Probe
 with_state p s = record { state = s; card = p.card; register = p.register }
 
--- a call on a probe. Queries, mean and forecast leave the probe as it is
+-- a call on a probe. Query, mean and forecast leave the probe as it is
 unfoldable pub probe_call : Probe → Call → Outcome Probe
 probe_call p Open = carry (with_state p) (open_of p.state)
 probe_call p (Event n) = event_of p n
@@ -43,7 +42,6 @@ probe_call p (RemoveAll ws) = carry (with_store p) (remove_all_of (store_in p) w
 probe_call p Flush = carry (with_store p) (flush_of (store_in p))
 probe_call p Step = carry (with_store p) (step_of (store_in p))
 probe_call p (Query k t ns) = carry (λ (l : List Hit). p) (query_of p t ns (replicate k no_hit))
-probe_call p (QueryAs k t ns bs) = carry (λ (l : List Hit). p) (query_as_of p t ns bs (replicate k no_hit))
 probe_call p (Mean n) = carry (λ (u : Unit {0}). p) (mean_of p n)
 probe_call p (Forecast plan counts) = carry (λ (u : Unit {0}). p) (forecast_of p.state p.register plan counts)
 

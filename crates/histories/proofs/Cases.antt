@@ -13,7 +13,6 @@ use Rattle.forecasts.specs.Plan.{plan_calls}
 use Rattle.forecasts.specs.Course.{follow}
 use Rattle.ranking.specs.Hits.{frequency, score, matching, ranked}
 use Rattle.ranking.specs.Asked.{bad_query}
-use Rattle.ranking.specs.Sight.{visible, pairs_of, seen_in}
 use Rattle.averages.specs.Average.{total}
 use Rattle.engine.specs.Calls.{Call, run}
 use Rattle.accounts.specs.Account.{empty_account, taken_from, read_by, blocks_of, blocks_in, inputs_of, merged, blocks_ahead, completed, furthered, stepped_account, flushed_account, overflows, exceeds, added_to, stepping, flushing, flushing_if}
@@ -25,7 +24,7 @@ use Rattle.histories.proofs.Theorem.{same-answers}
 
 -- on ledger and account
 pub table-expected : TableHolds on_books
-unfolding TableHolds worked table on_books down rising largest sixteenths tf_weight idf_weight nonzero pairs refuse_if choose next after in_turn bad_length numbers_of names register_rule added recording_rule recorded plan_calls follow length_of frequency score matching ranked bad_query visible pairs_of seen_in total run empty_account taken_from blocks_of blocks_in inputs_of merged blocks_ahead completed furthered stepped_account flushed_account overflows exceeds added_to stepping flushing flushing_if empty_ledger live shown existing shown_within existing_within read_by lowest highest opens closes counts removes taken_back planned_in books expected
+unfolding TableHolds worked table on_books down rising largest sixteenths tf_weight idf_weight nonzero pairs refuse_if choose next after in_turn bad_length numbers_of names register_rule added recording_rule recorded plan_calls follow length_of frequency score matching ranked bad_query total run empty_account taken_from blocks_of blocks_in inputs_of merged blocks_ahead completed furthered stepped_account flushed_account overflows exceeds added_to stepping flushing flushing_if empty_ledger live shown existing shown_within existing_within read_by lowest highest opens closes counts removes taken_back planned_in books expected
 table-expected = refl
 
 -- the card of a case has a length within the limits

@@ -8,7 +8,7 @@ use Rattle.answers.specs.declared.Hit.{Hit}
 use Rattle.identifiers.specs.Names.{Name, bad_length, number_of}
 use Rattle.identifiers.specs.Register.{names, register_rule, added}
 use Rattle.stretches.specs.Reached.{whole}
-use Rattle.engine.specs.Calls.{Call, Open, Event, Close, Remove, RemoveAll, Flush, Step, Query, QueryAs, Mean, Forecast}
+use Rattle.engine.specs.Calls.{Call, Open, Event, Close, Remove, RemoveAll, Flush, Step, Query, Mean, Forecast}
 use Rattle.accounts.specs.Books.{expected}
 use Rattle.histories.specs.Statement.{answers}
 
@@ -62,10 +62,6 @@ from a b = record { first = a; last = b }
 
 abbrev pub between : ℕ → ℕ → Call
 between a b = Query 32 (from a b) (LUCKY ∷ TILT ∷ [])
-
--- the same under a badge
-abbrev pub shown_to : Stretch → List Name → Call
-shown_to t bs = QueryAs 32 t (LUCKY ∷ TILT ∷ []) bs
 
 -- the entries of a plan's identifiers
 abbrev pub plan_of : List Name → List ℕ
@@ -169,18 +165,6 @@ table =
     ∷ History 8 (Open ∷ Event LUCKY ∷ Event LUCKY ∷ Event LUCKY ∷ Event TILT ∷ Close ∷ Open ∷ Event LUCKY ∷ Close ∷ Flush ∷ Open ∷ Event TILT ∷ Event DOOR ∷ Close ∷ Flush ∷ Open ∷ Event TILT
     ∷ between 2 3 ∷ between 3 3 ∷ between 1 2 ∷ between 0 0 ∷ between 3 2 ∷ Query 32 (from 3 2) [] ∷ [])
     (hits (hit 3 256 ∷ hit 2 256 ∷ []) 5 ∷ hits (hit 3 0 ∷ []) 2 ∷ hits (hit 1 256 ∷ hit 2 0 ∷ []) 4 ∷ hits [] 1 ∷ refused 17 ∷ refused 14 ∷ [])
-    -- badges of the access identifiers AsB and AsC, where LUCKY, TILT and they are in: window 1, LUCKY twice, once before a flush and once after, and AsB; 2, LUCKY and AsC; 3, LUCKY and TILT; 4, TILT
-    -- and AsB; 5, under way, LUCKY, TILT and AsB. With S(1) = 0, S(2) = 16, S(3) = 25, S(4) = 32, a score is the sum of S(count + 1) × (S(N) - S(F)).
-    -- Without a badge N is 4, LUCKY is in 3 and TILT in 2: 3 has 16 × 7 + 16 × 16, 4 has 16 × 16, 1 has 25 × 7, 2 has 16 × 7; taken are 5 postings of LUCKY and 3 of TILT.
-    -- AsB sees 1 and 4: N is 2, each of the two is in one: 25 × 16 and 16 × 16, and 2 pairs are told. AsC, the second of a badge, adds 2: N is 3, LUCKY is in 2, TILT in 1: 4 has 16 × 25, 1 has
-    -- 25 × 9, 2 has 16 × 9, and 3 pairs are told; from 2 to 4 the badge sees 2 and 4, with 16 × 16 each. DOOR, which counts nowhere, sees nothing, and AsB eight times sees what it sees once.
-    -- A badge of no and one of nine access identifiers is refused with 18, but with 17 where the stretch is bad, too, and one with an empty access identifier with 4.
-    -- Once 5 is closed, AsB sees 1, 4 and 5: N is 3, LUCKY and TILT are in 2 each: 5 has 16 × 9 + 16 × 9, 1 has 25 × 9, 4 has 16 × 9, and 4 pairs are told
-    ∷ History 8 (Open ∷ Event LUCKY ∷ Event AsB ∷ Flush ∷ Event LUCKY ∷ Close ∷ Open ∷ Event LUCKY ∷ Event AsC ∷ Close ∷ Open ∷ Event LUCKY ∷ Event TILT ∷ Close ∷ Open ∷ Event TILT ∷ Event AsB ∷ Close
-    ∷ Open ∷ Event LUCKY ∷ Event TILT ∷ Event AsB ∷ asked ∷ shown_to whole (AsB ∷ []) ∷ shown_to whole (AsB ∷ AsC ∷ []) ∷ shown_to (from 2 4) (AsB ∷ AsC ∷ []) ∷ shown_to whole (DOOR ∷ [])
-    ∷ shown_to whole (replicate 8 AsB) ∷ shown_to whole [] ∷ shown_to whole (replicate 9 AsB) ∷ shown_to (from 3 2) [] ∷ shown_to (from 3 2) (AsB ∷ [] ∷ []) ∷ Close ∷ shown_to whole (AsB ∷ []) ∷ [])
-    (hits (hit 3 368 ∷ hit 4 256 ∷ hit 1 175 ∷ hit 2 112 ∷ []) 8 ∷ hits (hit 1 400 ∷ hit 4 256 ∷ []) 2 ∷ hits (hit 4 400 ∷ hit 1 225 ∷ hit 2 144 ∷ []) 3 ∷ hits (hit 4 256 ∷ hit 2 256 ∷ []) 2 ∷ hits [] 0
-    ∷ hits (hit 1 400 ∷ hit 4 256 ∷ []) 2 ∷ refused 18 ∷ refused 18 ∷ refused 17 ∷ refused 4 ∷ done ∷ hits (hit 5 288 ∷ hit 1 225 ∷ hit 4 144 ∷ []) 4 ∷ [])
     -- the command program's example
     ∷ History 16 (Open ∷ Event LUCKY ∷ Event LUCKY ∷ Event LUCKY ∷ Event TILT ∷ Close ∷ Open ∷ Event LUCKY ∷ Close ∷ Query 2 whole (LUCKY ∷ TILT ∷ []) ∷ [])
     (number 1 ∷ done ∷ done ∷ done ∷ done ∷ done ∷ number 2 ∷ done ∷ done ∷ hits (hit 1 256 ∷ hit 2 0 ∷ []) 3 ∷ [])

@@ -20,15 +20,6 @@ under_all t (g ∷ gs) =
     let b = top-all-from (larger t (topmost_from 0 g)) gs in
     (under-le (topmost_from 0 g) (top_all (larger t (topmost_from 0 g)) gs) g (omega arith) (under_top 0 g), under_all (larger t (topmost_from 0 g)) gs)
 
--- no head is above a bound of the greatest key
-pub under-bound : (t : ℕ) (gs : List Group) → top_all 0 gs ≤ t → AllOf (Under t) gs
-unfolding AllOf
-under-bound t gs h = all gs (under_all 0 gs)
-  where
-    all : (l : List Group) → AllOf (Under (top_all 0 gs)) l → AllOf (Under t) l
-    all [] u = tt
-    all (g ∷ l) u = (under-le (top_all 0 gs) t g h u.0, all l u.1)
-
 pub stepped-all : (m k : ℕ) (gs : List Group) → AllOf (Under (suc k)) gs → k < m → all_fall_all m gs ≡ true → AllOf (Stepped k) gs
 unfolding AllOf
 stepped-all m k [] u low e = tt
@@ -39,17 +30,17 @@ abbrev pub Zero : ℤ → Type 0
 Zero z = z ≡ pos 0
 
 module _ (k : ℕ) where
-  pub over-all : (j : ℕ) → k < j → (gs : List Group) → AllOf (Stepped k) gs → AllOf Zero (map (sums j) gs)
+  over-all : (j : ℕ) → k < j → (gs : List Group) → AllOf (Stepped k) gs → AllOf Zero (map (sums j) gs)
   unfolding AllOf
   over-all j h [] s = tt
   over-all j h (g ∷ gs) s = (s.0.over j h, over-all j h gs s.1)
 
-  pub here-all : (gs : List Group) → AllOf (Stepped k) gs → map (sums k) gs ≡ map (head_vals k) gs
+  here-all : (gs : List Group) → AllOf (Stepped k) gs → map (sums k) gs ≡ map (head_vals k) gs
   unfolding AllOf
   here-all [] s = refl
   here-all (g ∷ gs) s = rw (s.0.here, here-all gs s.1)
 
-  pub below_all : (j : ℕ) → j < k → (gs : List Group) → AllOf (Stepped k) gs → map (sums j) gs ≡ map (sums j) (move_all k gs)
+  below_all : (j : ℕ) → j < k → (gs : List Group) → AllOf (Stepped k) gs → map (sums j) gs ≡ map (sums j) (move_all k gs)
   unfolding AllOf
   below_all j h [] s = refl
   below_all j h (g ∷ gs) s = rw (s.0.below j h, below_all j h gs s.1)

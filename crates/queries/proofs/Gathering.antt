@@ -20,7 +20,7 @@ parts-put : (w n : ℕ) (H P : List ℕ) → w * n + w ≤ length H → length P
 unfolding parts
 parts-put w n H P h l = rw (add-one n, parts-front w n H _ (omega arith), put-here w H P n h l)
 
-module _ (W R : List ℕ) (s : State) (st : Stretch) (live most : ℕ) where
+module _ (W R : List ℕ) (s : State) (st : Stretch) (live : ℕ) where
   -- the numbers of a term
   abbrev size : ℕ
   size = 4 * (s.partitions.used + 1) + 4
@@ -30,18 +30,18 @@ module _ (W R : List ℕ) (s : State) (st : Stretch) (live most : ℕ) where
   served-more (j ∷ is) (u ∷ ts) i t (more v r) w = more v (served-more is ts i t r w)
 
   -- at first none
-  pub keeps-none : (k : Known) (H : List ℕ) → k.used ≡ 0 → k.taken ≡ 0 → Keeps W R s st live most [] k H
+  pub keeps-none : (k : Known) (H : List ℕ) → k.used ≡ 0 → k.taken ≡ 0 → Keeps W R s st live [] k H
   unfolding parts AllOf
-  keeps-none k H u t = let d : take {A = ℕ} most [] ≡ [] = take_all most [] (omega arith) in record { used = rw d u; kept = rw u tt; served = rw (d, u) none; taken = rw d t }
+  keeps-none k H u t = record { used = u; kept = rw u tt; served = rw u none; taken = t }
 
   -- one more where there is room
-  pub keeps-room : (k r : Known) (H P : List ℕ) (i : ℕ) (o : Counted) → k.used < most → size * k.used + size ≤ length H → CountedFor W R s st live i (s.partitions.used + 1) P o
-      → o.fine ≡ true → r.used ≡ k.used + 1 → r.taken ≡ k.taken + o.taken → (is : List ℕ) → Keeps W R s st live most is k H → Keeps W R s st live most (is ++ (i ∷ [])) r (put_in size H P k.used)
+  pub keeps-room : (k r : Known) (H P : List ℕ) (i : ℕ) (o : Counted) → k.used < 5 → size * k.used + size ≤ length H → CountedFor W R s st live i (s.partitions.used + 1) P o
+      → o.fine ≡ true → r.used ≡ k.used + 1 → r.taken ≡ k.taken + o.taken → (is : List ℕ) → Keeps W R s st live is k H → Keeps W R s st live (is ++ (i ∷ [])) r (put_in size H P k.used)
   keeps-room k r H P i o h fits q f nu nt is v =
       let len = v.used in
-      let a : length is < most = omega (arith, length-take most is) in
-      let b : take most is ≡ is = take_all most is (omega arith) in
-      let d : take most (is ++ (i ∷ [])) ≡ is ++ (i ∷ []) = take_all most (is ++ (i ∷ [])) (omega (arith, length-append is (i ∷ []))) in
+      let a : length is < 5 = omega (arith, length-take 5 is) in
+      let b : take 5 is ≡ is = take_all 5 is (omega arith) in
+      let d : take 5 (is ++ (i ∷ [])) ≡ is ++ (i ∷ []) = take_all 5 (is ++ (i ∷ [])) (omega (arith, length-append is (i ∷ []))) in
       let u : k.used ≡ length is = rw b at len in
       let g = q.kept f in
       let p : parts size r.used (put_in size H P k.used) ≡ parts size k.used H ++ (P ∷ []) = ap (λ (n : ℕ). parts size n (put_in size H P k.used)) nu ∙ parts-put size k.used H P fits g.long in
@@ -58,10 +58,10 @@ module _ (W R : List ℕ) (s : State) (st : Stretch) (live most : ℕ) where
       }
 
   -- and where there is none
-  pub keeps-full : (k r : Known) (H : List ℕ) (i : ℕ) → most ≤ k.used → r.used ≡ k.used → r.taken ≡ k.taken → (is : List ℕ) → Keeps W R s st live most is k H → Keeps W R s st live most (is ++ (i ∷ [])) r H
+  pub keeps-full : (k r : Known) (H : List ℕ) (i : ℕ) → 5 ≤ k.used → r.used ≡ k.used → r.taken ≡ k.taken → (is : List ℕ) → Keeps W R s st live is k H → Keeps W R s st live (is ++ (i ∷ [])) r H
   keeps-full k r H i h nu nt is v =
-      let a : most ≤ length is = omega (arith, length-take most is, v.used) in
-      let d : take most (is ++ (i ∷ [])) ≡ take most is = take-append-le most is (i ∷ []) a in
+      let a : 5 ≤ length is = omega (arith, length-take 5 is, v.used) in
+      let d : take 5 (is ++ (i ∷ [])) ≡ take 5 is = take-append-le 5 is (i ∷ []) a in
       record {
         used = rw d (nu ∙ v.used);
         kept = rw nu v.kept;
@@ -89,35 +89,35 @@ module _ (ms : List Name) where
   numbers-nil [] = refl
   numbers-nil (x ∷ l) = ap (λ (r : List ℕ). x ∷ r) (numbers-nil l)
 
-  pub numbers-append : (ns os : List Name) → numbers_of ms (ns ++ os) ≡ numbers_of ms ns ++ numbers_of ms os
+  numbers-append : (ns os : List Name) → numbers_of ms (ns ++ os) ≡ numbers_of ms ns ++ numbers_of ms os
   unfolding numbers_of
   numbers-append ns os = ap (keep (λ i. ltb i (length ms))) (map-append (number_of ms) ns os) ∙ keep_append (λ i. ltb i (length ms)) (map (number_of ms) ns) (map (number_of ms) os)
 
 -- i identifiers are gathered in k and H
-pub record Gathering (W R : List ℕ) (s : State) (st : Stretch) (live most : ℕ) (ms ns : List Name) (i : ℕ) (k : Known) (H : List ℕ) : Type 0 where
+pub record Gathering (W R : List ℕ) (s : State) (st : Stretch) (live : ℕ) (ms ns : List Name) (i : ℕ) (k : Known) (H : List ℕ) : Type 0 where
   pub within : i ≤ length ns
   pub fine : k.fine ≡ true
   pub left : every (identifier_formed W s) (numbers_of ms ns) ≡ every (identifier_formed W s) (numbers_of ms (drop i ns))
-  pub keeps : Keeps W R s st live most (numbers_of ms (take i ns)) k H
-  pub used : k.used ≤ most
+  pub keeps : Keeps W R s st live (numbers_of ms (take i ns)) k H
+  pub used : k.used ≤ 5
   pub few : k.taken ≤ 3407872 * k.used
 
-module _ (W R : List ℕ) (s : State) (st : Stretch) (live most : ℕ) (ms ns : List Name) where
+module _ (W R : List ℕ) (s : State) (st : Stretch) (live : ℕ) (ms ns : List Name) where
   -- at first none
-  pub gathering-none : (k : Known) (H : List ℕ) → k.fine ≡ true → k.used ≡ 0 → k.taken ≡ 0 → Gathering W R s st live most ms ns 0 k H
+  pub gathering-none : (k : Known) (H : List ℕ) → k.fine ≡ true → k.used ≡ 0 → k.taken ≡ 0 → Gathering W R s st live ms ns 0 k H
   unfolding numbers_of
-  gathering-none k H f u t = record { within = omega arith; fine = f; left = refl; keeps = keeps-none W R s st live most k H u t; used = omega arith; few = omega arith }
+  gathering-none k H f u t = record { within = omega arith; fine = f; left = refl; keeps = keeps-none W R s st live k H u t; used = omega arith; few = omega arith }
 
   -- at the end all
-  pub gathered-all : (i : ℕ) (k : Known) (H : List ℕ) → length ns ≤ i → Gathering W R s st live most ms ns i k H → Gathered W R s st live most (numbers_of ms ns) k H
+  pub gathered-all : (i : ℕ) (k : Known) (H : List ℕ) → length ns ≤ i → Gathering W R s st live ms ns i k H → Gathered W R s st live (numbers_of ms ns) k H
   unfolding numbers_of
   gathered-all i k H h v =
       let d : drop i ns ≡ [] = drop_of_length-le ns h in
       let t : take i ns ≡ ns = take_all i ns h in
       let e : every (identifier_formed W s) (numbers_of ms ns) ≡ true = v.left ∙ ap (λ (l : List Name). every (identifier_formed W s) (numbers_of ms l)) d in
-      record { fine = v.fine ∙ sym e; keeps = λ y. subst (λ (l : List Name). Keeps W R s st live most (numbers_of ms l) k H) t v.keeps }
+      record { fine = v.fine ∙ sym e; keeps = λ y. subst (λ (l : List Name). Keeps W R s st live (numbers_of ms l) k H) t v.keeps }
 
-  module _ (i : ℕ) (k : Known) (H : List ℕ) (h : i < length ns) (v : Gathering W R s st live most ms ns i k H) where
+  module _ (i : ℕ) (k : Known) (H : List ℕ) (h : i < length ns) (v : Gathering W R s st live ms ns i k H) where
     abbrev n : Name
     n = get_or ns i []
 
@@ -128,30 +128,30 @@ module _ (W R : List ℕ) (s : State) (st : Stretch) (live most : ℕ) (ms ns : 
     front = ap (λ (j : ℕ). numbers_of ms (take j ns)) (add-one i) ∙ ap (numbers_of ms) (take-suc ns i [] h) ∙ numbers-append ms (take i ns) (n ∷ [])
 
     -- an identifier that the register has not
-    pub gathering-unknown : length ms ≤ number_of ms n → Gathering W R s st live most ms ns (i + 1) k H
+    pub gathering-unknown : length ms ≤ number_of ms n → Gathering W R s st live ms ns (i + 1) k H
     gathering-unknown g =
         let e : numbers_of ms (take (i + 1) ns) ≡ numbers_of ms (take i ns) = front ∙ ap (λ (l : List ℕ). numbers_of ms (take i ns) ++ l) (number-out ms n [] g) ∙ numbers-nil ms (numbers_of ms (take i ns)) in
         record {
           within = omega arith;
           fine = v.fine;
           left = v.left ∙ ap (λ (l : List Name). every (identifier_formed W s) (numbers_of ms l)) rest ∙ ap (every (identifier_formed W s)) (number-out ms n (drop (i + 1) ns) g);
-          keeps = subst (λ (l : List ℕ). Keeps W R s st live most l k H) (sym e) v.keeps;
+          keeps = subst (λ (l : List ℕ). Keeps W R s st live l k H) (sym e) v.keeps;
           used = v.used;
           few = v.few;
         }
 
-    module _ (g : number_of ms n < length ms) (r : Known) (H' : List ℕ) (q : KeptOf W R s st live most k H (number_of ms n) r H') where
+    module _ (g : number_of ms n < length ms) (r : Known) (H' : List ℕ) (q : KeptOf W R s st live k H (number_of ms n) r H') where
       formed-on : every (identifier_formed W s) (numbers_of ms ns) ≡ (identifier_formed W s (number_of ms n) && every (identifier_formed W s) (numbers_of ms (drop (i + 1) ns)))
       formed-on = v.left ∙ ap (λ (l : List Name). every (identifier_formed W s) (numbers_of ms l)) rest ∙ ap (every (identifier_formed W s)) (number_in ms n (drop (i + 1) ns) g)
 
       -- one whose lists are malformed
-      pub gathered-fault : r.fine ≡ false → Gathered W R s st live most (numbers_of ms ns) r H'
+      pub gathered-fault : r.fine ≡ false → Gathered W R s st live (numbers_of ms ns) r H'
       gathered-fault f =
           let z : identifier_formed W s (number_of ms n) ≡ false = sym q.fine ∙ f in
           record { fine = f ∙ sym (formed-on ∙ rw z); keeps = λ y. never (sym f ∙ y) }
 
       -- one whose lists are well formed
-      pub gathering-more : r.fine ≡ true → Gathering W R s st live most ms ns (i + 1) r H'
+      pub gathering-more : r.fine ≡ true → Gathering W R s st live ms ns (i + 1) r H'
       gathering-more f =
           let e : numbers_of ms (take (i + 1) ns) ≡ numbers_of ms (take i ns) ++ (number_of ms n ∷ []) = front ∙ ap (λ (l : List ℕ). numbers_of ms (take i ns) ++ l) (number-alone ms n g) in
           let y : identifier_formed W s (number_of ms n) ≡ true = sym q.fine ∙ f in
@@ -159,7 +159,7 @@ module _ (W R : List ℕ) (s : State) (st : Stretch) (live most : ℕ) (ms ns : 
             within = omega arith;
             fine = f;
             left = formed-on ∙ rw y;
-            keeps = subst (λ (l : List ℕ). Keeps W R s st live most l r H') (sym e) (q.keeps f (numbers_of ms (take i ns)) v.keeps);
+            keeps = subst (λ (l : List ℕ). Keeps W R s st live l r H') (sym e) (q.keeps f (numbers_of ms (take i ns)) v.keeps);
             used = q.used;
             few = q.few;
           }

@@ -20,7 +20,7 @@ use Rattle.queries.specs.Walks.{found_at, found_by, found_in}
 use Rattle.queries.specs.Gathered.{Serving, none, more}
 
 -- a count of 0 weighs nothing
-pub weighed-or-none : (c x : ℕ) → tf_weight c * x ≡ cond (ltb 0 c) (tf_weight c * x) 0
+weighed-or-none : (c x : ℕ) → tf_weight c * x ≡ cond (ltb 0 c) (tf_weight c * x) 0
 weighed-or-none c x = by-test (ltb 0 c) (λ y. rw y) (λ n. let h = ltb-false 0 c n in let e : c ≡ 0 = omega arith in rw (n, e, tf-none) (omega arith))
 
 module _ (W : List ℕ) (s : State) (st : Stretch) (live : ℕ) where
@@ -36,7 +36,7 @@ module _ (W : List ℕ) (s : State) (st : Stretch) (live : ℕ) where
 
   -- ---- what they count and weigh
 
-  pub served-any : (w : ℕ) (is : List ℕ) (ts : List Term) → Serving W s st live is ts → any is_above (map (sums w) (groups_in ts)) ≡ any (λ i. ltb 0 (count_in W s i w)) is
+  served-any : (w : ℕ) (is : List ℕ) (ts : List Term) → Serving W s st live is ts → any is_above (map (sums w) (groups_in ts)) ≡ any (λ i. ltb 0 (count_in W s i w)) is
   unfolding count_in
   served-any w [] [] none = refl
   served-any w (i ∷ is) (t ∷ ts) (more v r) = ap₂ ◌||◌ (ap is_above (v.totals w)) (served-any w is ts r)
@@ -54,7 +54,7 @@ module _ (W : List ℕ) (s : State) (st : Stretch) (live : ℕ) where
   served-score w (i ∷ is) (t ∷ ts) (more v r) = ap₂ ◌+◌ (served-one w i t v) (served-score w is ts r)
 
   -- nothing is stored of window 0
-  pub served-none : (is : List ℕ) (ts : List Term) → Serving W s st live is ts → any (λ i. ltb 0 (count_in W s i 0)) is ≡ false
+  served-none : (is : List ℕ) (ts : List Term) → Serving W s st live is ts → any (λ i. ltb 0 (count_in W s i 0)) is ≡ false
   unfolding count_in
   served-none [] [] none = refl
   served-none (i ∷ is) (t ∷ ts) (more v r) = rw v.none (served-none is ts r)

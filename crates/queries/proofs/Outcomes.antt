@@ -165,7 +165,7 @@ proper k ns e =
 -- ---- the rest of a query on sound buffers
 
 module _ (s : State) (card register : List ℕ) (sound : Sound s card register) (st : Stretch) (live : ℕ) (ns : List Name) (k : ℕ)
-    (R H : List ℕ) (known : Known) (gathered : Gathered (words card) R s st live 5 (numbers register ns) known H) where
+    (R H : List ℕ) (known : Known) (gathered : Gathered (words card) R s st live (numbers register ns) known H) where
   abbrev outcome : Outcome (List Hit)
   outcome = rest_of (words card) s st live register ns (replicate k no_hit)
 
@@ -211,16 +211,16 @@ module _ (s : State) (card register : List ℕ) (sound : Sound s card register) 
         all-served = subst (λ (l : List ℕ). Serving (words card) s st live l terms) all-five (gathered.keeps f).served
 
         -- the terms can be merged
-        pub terms-walkable : (spare : ℕ) → Readied s card R 5 (length H) spare → Walkable (words card) R lists known.used H
+        pub terms-walkable : (spare : ℕ) → Readied s card R (length H) spare → Walkable (words card) R lists known.used H
         terms-walkable spare ready =
             let five : known.used ≤ 5 = omega (arith, (gathered.keeps f).used, ap length all-five, few-numbers) in
             let kept = (state-kept s sound.rule).partitions.used in
             let less = mul-le-mul_left {m = known.used} {n = 5} (4 * lists + 4) five in
             record {
               fits = omega (arith, ready.room);
-              short = ready.short;
+              short = ready.most;
               lists = omega arith;
-              terms = omega arith;
+              terms = five;
               kept = (gathered.keeps f).kept;
               falls = served-falls (words card) s st live (numbers register ns) terms all-served;
               ranges = λ w. served-ranges (words card) s st live w (numbers register ns) terms all-served;
@@ -291,7 +291,7 @@ module _ (s : State) (card register : List ℕ) (t : Stretch) (ns : List Name) (
 -- ---- a lent list
 
 -- every refusal leaves the list, and hits fill it
-pub fills-if : (places : List Hit) (t : Bool) (n : ℕ) (o : Outcome (List Hit)) → fill (hits_in (answer_of o)) places ≡ state_of places o
+fills-if : (places : List Hit) (t : Bool) (n : ℕ) (o : Outcome (List Hit)) → fill (hits_in (answer_of o)) places ≡ state_of places o
     → fill (hits_in (answer_of (refuse_if t n o))) places ≡ state_of places (refuse_if t n o)
 unfolding refuse_if
 fills-if places true n o e = refl
@@ -303,7 +303,7 @@ fills p t ns places =
     fills-if places _ 1 _ (fills-if places _ 2 _ (fills-if places _ 3 _ (fills-if places _ 4 _ (fills-if places _ 14 _ (fills-if places _ 17 _ refl)))))
 
 -- the answer looks at the list's length alone
-pub same_if : (t : Bool) (n : ℕ) (o q : Outcome (List Hit)) → answer_of o ≡ answer_of q → answer_of (refuse_if t n o) ≡ answer_of (refuse_if t n q)
+same_if : (t : Bool) (n : ℕ) (o q : Outcome (List Hit)) → answer_of o ≡ answer_of q → answer_of (refuse_if t n o) ≡ answer_of (refuse_if t n q)
 unfolding refuse_if
 same_if true n o q e = refl
 same_if false n o q e = e

@@ -24,15 +24,14 @@ pub record Sound (s : State) (cs rs : List ℕ) : Type 0 where
   pub names : register_rule rs ≡ true
   pub partitions : partitions_formed (words cs) (blocks s) (finished s.partitions) ≡ true
 
--- the run is packed, and there is room for the heads of so many terms, 8 at most, h numbers, and of one more to be judged
-pub record Readied (s : State) (cs R : List ℕ) (most h spare : ℕ) : Type 0 where
+-- the run is packed, and there is room for the heads of five terms, h numbers, and of one more to be judged
+pub record Readied (s : State) (cs R : List ℕ) (h spare : ℕ) : Type 0 where
   pub rule : state_rule s ≡ true
   pub long : length (words cs) ≡ 1024 * blocks s
   pub partitions : partitions_formed (words cs) (blocks s) (finished s.partitions) ≡ true
   pub packed : Packed s.buffer R
-  pub room : (4 * (s.partitions.used + 1) + 4) * most ≤ h
-  pub terms : most ≤ 8
-  pub short : h ≤ 65536
+  pub room : (4 * (s.partitions.used + 1) + 4) * 5 ≤ h
+  pub most : h ≤ 65536
   pub one : spare ≡ 4 * s.partitions.used + 4
 
 -- how many postings are stored under each, added up
@@ -44,21 +43,21 @@ pub data Serving (W : List ℕ) (s : State) (st : Stretch) (live : ℕ) : List �
   none : Serving W s st live [] []
   more : {i : ℕ} {is : List ℕ} {t : Term} {ts : List Term} → Serves W s st live i t → Serving W s st live is ts → Serving W s st live (i ∷ is) (t ∷ ts)
 
--- H has the terms of the first identifiers, as many as most, and k tells how many, and how many postings they have
-pub record Keeps (W R : List ℕ) (s : State) (st : Stretch) (live most : ℕ) (is : List ℕ) (k : Known) (H : List ℕ) : Type 0 where
-  pub used : k.used ≡ length (take most is)
+-- H has the terms of the first five of the identifiers, and k tells how many, and how many postings they have
+pub record Keeps (W R : List ℕ) (s : State) (st : Stretch) (live : ℕ) (is : List ℕ) (k : Known) (H : List ℕ) : Type 0 where
+  pub used : k.used ≡ length (take 5 is)
   pub kept : AllOf (KeptGroup W R (s.partitions.used + 1)) (parts (4 * (s.partitions.used + 1) + 4) k.used H)
-  pub served : Serving W s st live (take most is) (terms_of W R (s.partitions.used + 1) k.used H)
-  pub taken : k.taken ≡ stored_under W s (take most is)
+  pub served : Serving W s st live (take 5 is) (terms_of W R (s.partitions.used + 1) k.used H)
+  pub taken : k.taken ≡ stored_under W s (take 5 is)
 
 -- r tells whether what is read of the identifier i is well formed; if so, what was kept is kept with i as one identifier more
-pub record KeptOf (W R : List ℕ) (s : State) (st : Stretch) (live most : ℕ) (k : Known) (H : List ℕ) (i : ℕ) (r : Known) (H' : List ℕ) : Type 0 where
+pub record KeptOf (W R : List ℕ) (s : State) (st : Stretch) (live : ℕ) (k : Known) (H : List ℕ) (i : ℕ) (r : Known) (H' : List ℕ) : Type 0 where
   pub fine : r.fine ≡ identifier_formed W s i
-  pub keeps : r.fine ≡ true → (is : List ℕ) → Keeps W R s st live most is k H → Keeps W R s st live most (is ++ (i ∷ [])) r H'
-  pub used : r.used ≤ most
+  pub keeps : r.fine ≡ true → (is : List ℕ) → Keeps W R s st live is k H → Keeps W R s st live (is ++ (i ∷ [])) r H'
+  pub used : r.used ≤ 5
   pub few : r.taken ≤ 3407872 * r.used
 
--- r tells of the identifiers whether what is read of them is well formed, and if so H has the terms of the first
-pub record Gathered (W R : List ℕ) (s : State) (st : Stretch) (live most : ℕ) (is : List ℕ) (r : Known) (H : List ℕ) : Type 0 where
+-- r tells of the identifiers whether what is read of them is well formed, and if so H has the terms of the first five
+pub record Gathered (W R : List ℕ) (s : State) (st : Stretch) (live : ℕ) (is : List ℕ) (r : Known) (H : List ℕ) : Type 0 where
   pub fine : r.fine ≡ every (identifier_formed W s) is
-  pub keeps : r.fine ≡ true → Keeps W R s st live most is r H
+  pub keeps : r.fine ≡ true → Keeps W R s st live is r H

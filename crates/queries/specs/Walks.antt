@@ -31,7 +31,7 @@ pub record Walkable (W R : List ℕ) (m g : ℕ) (H : List ℕ) : Type 0 where
   pub fits : (4 * m + 4) * g ≤ length H
   pub short : length H ≤ 65536
   pub lists : m ≤ 52
-  pub terms : g ≤ 8
+  pub terms : g ≤ 5
   pub kept : AllOf (KeptGroup W R m) (parts (4 * m + 4) g H)
   pub falls : all_fall_all 65536 (groups_in (terms_of W R m g H)) ≡ true
   pub ranges : (w : ℕ) → every in_range (map (sums w) (groups_in (terms_of W R m g H))) ≡ true

@@ -7,7 +7,7 @@ ghost use Rattle.queries.specs.Gathered.{Sound, Readied, KeptOf, Gathered};
 use postings::Stretch;
 use state::State;
 
-// Whether what is read of the identifiers is well formed, how many of the first have a term, and how many postings these have.
+// Whether what is read of the identifiers is well formed, how many of the first five have a term, and how many postings these have.
 #[derive(Drop)]
 pub struct Known {
     pub fine: bool,
@@ -15,7 +15,7 @@ pub struct Known {
     pub taken: u32,
 }
 
-// One identifier more. A query of more than `most` is refused, so that no further one is kept: it is judged in the spare heads alone.
+// One identifier more. A query of more than five is refused, so that no further one is kept: it is judged in the spare heads alone.
 fn keep_one(
     s: State,
     card: &[u8],
@@ -26,12 +26,11 @@ fn keep_one(
     id: u16,
     t: Stretch,
     live: u16,
-    most: u16,
 ) -> Known
-    requires { Readied s card.now run.now most (length heads.old) (length spare.old) × (k.used ≤ most) × (k.taken ≤ 3407872 * k.used) }
-    ensures { KeptOf (words_of card.now) run.now s t live most k heads.old id result heads.new }
+    requires { Readied s card.now run.now (length heads.old) (length spare.old) × (k.used ≤ 5) × (k.taken ≤ 3407872 * k.used) }
+    ensures { KeptOf (words_of card.now) run.now s t live k heads.old id result heads.new }
 {
-    if k.used >= most {
+    if k.used >= 5 {
         let fine = scores::counting::judge_term(card, run, spare, s, id, t);
         return Known {
             fine: fine,
@@ -51,7 +50,7 @@ fn keep_one(
     }
 }
 
-// Looks up every identifier, judges what is read of it, and keeps the terms of the first, as many as `most`.
+// Looks up every identifier, judges what is read of it, and keeps the terms of the first five.
 pub fn gather(
     s: State,
     card: &[u8],
@@ -62,10 +61,9 @@ pub fn gather(
     spare: &mut [u32],
     t: Stretch,
     live: u16,
-    most: u16,
 ) -> Known
-    requires { Sound s card.now register.now × Readied s card.now run.now most (length heads.old) (length spare.old) }
-    ensures { Gathered (words_of card.now) run.now s t live most (numbers register.now (map (λ x. x.now) ids.now)) result heads.new }
+    requires { Sound s card.now register.now × Readied s card.now run.now (length heads.old) (length spare.old) }
+    ensures { Gathered (words_of card.now) run.now s t live (numbers register.now (map (λ x. x.now) ids.now)) result heads.new }
 {
     let used = identifiers::used_entries(register);
     let mut known = Known {
@@ -78,18 +76,7 @@ pub fn gather(
         let id = ids[i];
         let number = identifiers::find(register, id);
         if number < used {
-            known = keep_one(
-                s,
-                card,
-                run,
-                heads,
-                spare,
-                known,
-                number as u16,
-                t,
-                live,
-                most,
-            );
+            known = keep_one(s, card, run, heads, spare, known, number as u16, t, live);
             let fine = known.fine;
             if !fine {
                 return known;

@@ -23,7 +23,7 @@ pub struct Answered {
 }
 
 // A refusal: no hits.
-pub fn refuse(why: Refusal) -> Answered
+fn refuse(why: Refusal) -> Answered
     ensures { result ≡ record { answer = Found.Refused why; top = top_of [] } }
 {
     let top = ranking::no_hits();
@@ -47,10 +47,10 @@ fn search_with(
     t: Stretch,
     live: u16,
 ) -> Answered
-    requires { Sound s card.now register.now × Readied s card.now run.now 5 (length heads.old) (length spare.old) }
+    requires { Sound s card.now register.now × Readied s card.now run.now (length heads.old) (length spare.old) }
     ensures { AsksRest s card.now register.now t live (map (λ x. x.now) ids.now) places result }
 {
-    let k = judging::gather(s, card, register, ids, run, heads, spare, t, live, 5);
+    let k = judging::gather(s, card, register, ids, run, heads, spare, t, live);
     let fine = k.fine;
     if !fine {
         return refuse(Refusal::Malformed);

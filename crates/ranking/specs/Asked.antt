@@ -11,7 +11,3 @@ bad_query k ns = empty ns || (ltb 5 (length ns) || (not (distinct ns) || (eqb k 
 -- refusal 17: a stretch whose first window exceeds its last
 abbrev pub bad_stretch : Stretch → Bool
 bad_stretch t = ltb t.last t.first
-
--- refusal 18: a badge of no or more than 8 access identifiers
-abbrev pub bad_badge : List Name → Bool
-bad_badge bs = empty bs || ltb 8 (length bs)

@@ -1,4 +1,3 @@
 pub mod Hits
 pub mod Top
 pub mod Asked
-pub mod Sight

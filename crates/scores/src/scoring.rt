@@ -28,7 +28,7 @@ fn either(a: bool, b: bool) -> bool
 }
 
 // Takes the heads of a term that have the key. A term that is not at the key is passed over without a look at its heads.
-pub fn take_term(card: &[u8], run: &[u32], group: &mut [u32], m: usize, key: u32) -> Scored
+fn take_term(card: &[u8], run: &[u32], group: &mut [u32], m: usize, key: u32) -> Scored
     requires { KeptGroup (words_of card.now) run.now m group.old × (m ≤ 52) × (key < 65536)
         × (topmost_from 0 (views (words_of card.now) run.now m (drop 4 group.old)) ≤ key + 1)
         × (in_range (head_vals key (views (words_of card.now) run.now m (drop 4 group.old))) ≡ true) }
@@ -73,7 +73,7 @@ pub fn take_terms(
     m: usize,
     key: u32,
 ) -> Scored
-    requires { ((4 * m + 4) * g ≤ length heads.old) × (length heads.old ≤ 65536) × (m ≤ 52) × (g ≤ 8) × (key < 65536)
+    requires { ((4 * m + 4) * g ≤ length heads.old) × (length heads.old ≤ 65536) × (m ≤ 52) × (g ≤ 5) × (key < 65536)
         × AllOf (KeptGroup (words_of card.now) run.now m) (parts (4 * m + 4) g heads.old)
         × (top_all 0 (groups_in (terms_of (words_of card.now) run.now m g heads.old)) ≤ key + 1)
         × (every in_range (map (head_vals key) (groups_in (terms_of (words_of card.now) run.now m g heads.old))) ≡ true) }

@@ -173,58 +173,6 @@ fn stretches() {
     println!("nanoseconds a posting read: {}", told.join("; "));
 }
 
-/// Queries of one and of five identifiers over all windows, plain and under a badge, on cards of nine partitions and of 51. A badge of eight identifiers sees
-/// about a quarter of the windows, since a window has every 32nd of them.
-fn badges() {
-    title(
-        "a query under a badge, on 4,096 blocks",
-        "partitions, identifiers, badge",
-    );
-    let mut told = Vec::new();
-    for probe in [half_full(4_096, ENTRIES), half_full_of_most(4_096, ENTRIES)] {
-        let partitions = probe.state.partitions.used;
-        for count in [1, 5] {
-            let names: Vec<Vec<u8>> = (0..count).map(|place| name(20 * place + 3)).collect();
-            let case = |badge: &str| format!("{partitions}, {count}, {badge}");
-            let plain = ask_both(&probe, &names, Stretch::ALL, |_| case("none"));
-            for length in [1, 8] {
-                let badge: Vec<Vec<u8>> = (0..length).map(|place| name(17 * place + 3)).collect();
-                let case = case(&length.to_string());
-                let time = ask_both_as(&case, &probe, &names, &badge);
-                told.push(format!("{case}: {:.2}", time / plain));
-            }
-        }
-    }
-    println!("to the plain query: {}", told.join("; "));
-}
-
-/// Times a query under a badge over all windows, and tells the proved engine's time.
-fn ask_both_as(case: &str, probe: &Probe, names: &[Vec<u8>], badge: &[Vec<u8>]) -> f64 {
-    let [ids, badge] = [names, badge].map(|names| -> Vec<&[u8]> {
-        let slices = names.iter().map(|name| &name[..]);
-        slices.collect()
-    });
-    let [names, access] = [&ids, &badge].map(|ids| -> Vec<Identifier> {
-        let identifiers = ids.iter().map(|&id| id.into());
-        identifiers.collect()
-    });
-    let (mut listed, mut hits) = ([0; PLACES * HIT], [Hit::default(); PLACES]);
-    let (image, card, register) = (&probe.image, &probe.card, &probe.register);
-    let (all, every) = (Stretch::ALL, SecondStretch::ALL);
-    compare(
-        case,
-        || {
-            let found = bytes::query_as(image, card, register, &names, &access, all, &mut listed);
-            assert!(found.is_ok_and(|found| found.taken > 0));
-        },
-        || {
-            let state = &probe.state;
-            let found = engine::query_as(state, card, register, &ids, &badge, every, &mut hits);
-            assert!(found.is_ok_and(|found| found.taken > 0));
-        },
-    )
-}
-
 fn stretch_of(first: u16) -> Stretch {
     let last = first + COMPLAINT - 1;
     Stretch { first, last }
@@ -501,15 +449,6 @@ fn stacks() {
             assert!(bytes::query(image, card, register, &ids, stretch, &mut hits).is_ok());
         });
     }
-    let badge: Vec<Vec<u8>> = (0..8).map(name).collect();
-    let badge: Vec<Identifier> = badge.iter().map(|name| name[..].into()).collect();
-    stack("query_as", &probes, |probe| {
-        let mut hits = [0; PLACES * HIT];
-        let (image, card, register) = (&probe.image, &probe.card, &probe.register);
-        let all = Stretch::ALL;
-        let found = bytes::query_as(image, card, register, &ids, &badge, all, &mut hits);
-        assert!(found.is_ok_and(|found| found.taken > 0));
-    });
     stack("mean", &probes, |probe| {
         let (image, card, register) = (&probe.image, &probe.card, &probe.register);
         assert!(bytes::mean(image, card, register, &names[0]).is_ok());
@@ -533,7 +472,6 @@ fn main() {
     events();
     queries();
     stretches();
-    badges();
     means();
     forecasts();
     removals();

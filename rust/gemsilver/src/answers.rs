@@ -161,8 +161,7 @@ impl fmt::Debug for Entry {
 pub struct Found {
     /// How many places of the list are filled; the others are as they were.
     pub hits: usize,
-    /// How many stored postings were taken up: of the buffer, and of the partitions that the stretch does not pass over. Under a badge, how many pairs there are
-    /// of an identifier of the query and a visible window in which it counts, wherever that is stored.
+    /// How many stored postings were taken up: of the buffer, and of the partitions that the stretch does not pass over.
     pub taken: u64,
 }
 

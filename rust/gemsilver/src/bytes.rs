@@ -24,7 +24,7 @@ const REFUSED: u32 = 65_536;
 
 /// The refusal that a call told by its number.
 fn refusal(number: u32) -> Refusal {
-    Refusal::of_number(number).expect("the engine refuses with a number from 1 to 18")
+    Refusal::of_number(number).expect("the engine refuses with a number from 1 to 17")
 }
 
 /// Nothing, or the refusal.
@@ -189,47 +189,7 @@ pub fn query(
             hits.len(),
         )
     };
-    found(number)
-}
-
-/// Fills the list, as [`query`] does, with the windows visible to a badge that score highest on the identifiers: the closed ones of the stretch in which at
-/// least one identifier of the badge counts. N and F count these windows alone, and so do the postings taken, wherever they are stored.
-///
-/// The badge has 1 to 8 identifiers, of which one may be there twice; any other number of them is refused with 18, after all else.
-pub fn query_as(
-    image: &[u8],
-    card: &[u8],
-    register: &[u8],
-    identifiers: &[Identifier<'_>],
-    badge: &[Identifier<'_>],
-    stretch: Stretch,
-    hits: &mut [u8],
-) -> Result<Found, Refusal> {
-    // Sound: each pointer and length are those of one slice, those of the identifiers live as long as the call, and all but the
-    // list of hits, which overlaps nothing, are only read.
-    let number = unsafe {
-        exported::gemsilver_query_as(
-            image.as_ptr(),
-            image.len(),
-            card.as_ptr(),
-            card.len(),
-            register.as_ptr(),
-            register.len(),
-            identifiers.as_ptr(),
-            identifiers.len(),
-            badge.as_ptr(),
-            badge.len(),
-            stretch.first,
-            stretch.last,
-            hits.as_mut_ptr(),
-            hits.len(),
-        )
-    };
-    found(number)
-}
-
-/// What a query told: the refusal in the lowest byte, the hits in the next, the postings taken above.
-fn found(number: u64) -> Result<Found, Refusal> {
+    // The refusal in the lowest byte, the hits in the next, the postings taken above.
     done((number % 256) as u32)?;
     Ok(Found {
         hits: (number / 256 % 256) as usize,

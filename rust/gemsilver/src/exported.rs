@@ -65,22 +65,6 @@ unsafe extern "C" {
         hits: *mut u8,
         hits_length: usize,
     ) -> u64;
-    pub fn gemsilver_query_as(
-        image: *const u8,
-        image_length: usize,
-        card: *const u8,
-        card_length: usize,
-        register: *const u8,
-        register_length: usize,
-        identifiers: *const Identifier<'_>,
-        count: usize,
-        badge: *const Identifier<'_>,
-        badge_count: usize,
-        first: u16,
-        last: u16,
-        hits: *mut u8,
-        hits_length: usize,
-    ) -> u64;
     pub fn gemsilver_mean(
         image: *const u8,
         image_length: usize,

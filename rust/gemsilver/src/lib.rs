@@ -1,7 +1,7 @@
 //! Gemsilver, the proved search engine of a probe, for Rust.
 //!
 //! A [`Probe`] counts events by identifier in windows of play, keeps the counts on a card, and tells which closed windows match a set of
-//! identifiers best, of all or of those that a badge sees. It owns or borrows three buffers: the state's image, the card and the register. Each call is one exported function of
+//! identifiers best. It owns or borrows three buffers: the state's image, the card and the register. Each call is one exported function of
 //! the proved crates, whose contract asks nothing of its caller: it ends, stays inside the buffers, and either does its work or gives a
 //! [`Refusal`] and changes nothing; a refused start alone leaves an image of zeros. What this crate adds is not proved: it hands slices on and takes numbers apart.
 //!

@@ -6,7 +6,7 @@ use core::fmt;
 /// A probe: the state's image, the card and the register, which belong together.
 ///
 /// `B` is what holds the bytes: a `Vec<u8>` or an array's `Box` owns them, `&mut [u8]` borrows them, and with `&[u8]` there are only the calls
-/// that read. The answers of [`query`](Probe::query), [`query_as`](Probe::query_as) and [`mean`](Probe::mean) are those of a plain ledger of live windows after every history of
+/// that read. The answers of [`query`](Probe::query) and [`mean`](Probe::mean) are those of a plain ledger of live windows after every history of
 /// calls from [`start`](Probe::start), wherever flushes and merge steps fall, and those of [`forecast`](Probe::forecast) are what the planned calls would
 /// then come to: that is proved of the functions called.
 #[derive(Clone, PartialEq, Eq)]
@@ -125,48 +125,6 @@ impl<B: AsRef<[u8]>> Probe<B> {
             self.card(),
             self.register(),
             identifiers,
-            stretch,
-            hits,
-        )
-    }
-
-    /// Fills the list as [`query`](Probe::query) does, with windows that a badge sees alone: a closed window is visible to it where at least one of its
-    /// identifiers counts. N, F and the postings taken are of the visible windows of the stretch, so that nothing tells of the others, nor of flushes and merges.
-    ///
-    /// A badge has 1 to 8 identifiers, of which one may be there twice.
-    ///
-    /// ```
-    /// # use gemsilver::{Hit, IMAGE, Probe, Refusal, Stretch};
-    /// # let mut probe = Probe::start(vec![0; IMAGE], vec![0; 4 * 4096], vec![0; 3 * 65])?;
-    /// for events in [&["ACME", "TILT"][..], &["BELL", "TILT"], &["ACME"]] {
-    ///     probe.open()?;
-    ///     for event in events {
-    ///         probe.event(event)?;
-    ///     }
-    ///     probe.close()?;
-    /// }
-    /// let mut hits = [Hit::default(); 32];
-    /// let found = probe.query_as(&["TILT".into()], &["ACME".into()], Stretch::ALL, &mut hits)?;
-    /// assert_eq!((found.hits, found.taken), (1, 1)); // window 2 is hidden
-    /// assert_eq!(hits[0], Hit { window: 1, score: 256 }); // one of two windows has it
-    /// let refused = probe.query_as(&["TILT".into()], &[], Stretch::ALL, &mut hits);
-    /// assert_eq!(refused, Err(Refusal::BadBadge));
-    /// # Ok::<(), Refusal>(())
-    /// ```
-    pub fn query_as(
-        &self,
-        identifiers: &[Identifier<'_>],
-        badge: &[Identifier<'_>],
-        stretch: Stretch,
-        hits: &mut [Hit],
-    ) -> Result<Found, Refusal> {
-        let hits = Hit::bytes_of(hits);
-        bytes::query_as(
-            self.image(),
-            self.card(),
-            self.register(),
-            identifiers,
-            badge,
             stretch,
             hits,
         )

@@ -48,13 +48,11 @@ pub enum Refusal {
     BadList = 16,
     /// A stretch whose first window exceeds its last.
     BadStretch = 17,
-    /// A badge of no or more than 8 identifiers.
-    BadBadge = 18,
 }
 
 impl Refusal {
     /// All of them, by number.
-    pub const ALL: [Refusal; 18] = [
+    pub const ALL: [Refusal; 17] = [
         Refusal::BrokenState,
         Refusal::WrongLength,
         Refusal::Malformed,
@@ -72,7 +70,6 @@ impl Refusal {
         Refusal::Uncounted,
         Refusal::BadList,
         Refusal::BadStretch,
-        Refusal::BadBadge,
     ];
 
     /// The number by which the refusal is known.
@@ -111,7 +108,6 @@ impl Refusal {
             Refusal::Uncounted => "the identifier counts in no closed window",
             Refusal::BadList => "a list of windows is empty, has more than 32, or names one twice",
             Refusal::BadStretch => "a stretch whose first window exceeds its last",
-            Refusal::BadBadge => "a badge of no or more than 8 identifiers",
         }
     }
 }

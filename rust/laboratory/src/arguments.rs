@@ -2,7 +2,6 @@
 
 use crate::engines::Sizes;
 use crate::failure::Failure;
-use crate::lines::Scope;
 use crate::looks::Look;
 use crate::session::Name;
 use crate::text;
@@ -20,8 +19,6 @@ pub struct Arguments {
     pub against: Option<Fault>,
     /// The windows that queries are asked over, where they are said.
     pub stretch: Option<Stretch>,
-    /// The access identifiers of the badge that they are asked under, where one is said.
-    pub badge: Option<Vec<Vec<u8>>>,
     pub wants_help: bool,
 }
 
@@ -33,7 +30,6 @@ impl Arguments {
             sizes: Sizes::default(),
             against: None,
             stretch: None,
-            badge: None,
             wants_help: false,
         };
         let mut others = Vec::new();
@@ -45,10 +41,6 @@ impl Arguments {
                 b"--against" => arguments.against = Some(fault(words.next().as_deref())?),
                 b"--from" => arguments.edges().first = window_number("--from", words.next())?,
                 b"--to" => arguments.edges().last = window_number("--to", words.next())?,
-                b"--badge" => {
-                    let access = access_identifier(words.next())?;
-                    arguments.badge.get_or_insert_default().push(access);
-                }
                 b"--help" | b"-h" => arguments.wants_help = true,
                 b"--" => others.extend(words.by_ref()),
                 option if option.starts_with(b"--") => {
@@ -67,24 +59,8 @@ impl Arguments {
     }
 
     /// The windows that queries are asked over: all of them where nothing is said.
-    pub fn scope(&self) -> Scope {
-        Scope {
-            stretch: self.stretch.unwrap_or(Stretch::ALL),
-            badge: self.badge.clone(),
-        }
-    }
-
-    /// What is said of these windows above the answers, where they are said.
-    pub fn scope_line(&self) -> Option<String> {
-        let over = self
-            .stretch
-            .map(|stretch| format!(" over {}", text::windows(stretch)));
-        let under = self
-            .badge
-            .as_ref()
-            .map(|badge| format!(" under {}", text::badge(badge)));
-        let said: String = over.into_iter().chain(under).collect();
-        (!said.is_empty()).then(|| format!("# queries are asked{said}"))
+    pub fn stretch(&self) -> Stretch {
+        self.stretch.unwrap_or(Stretch::ALL)
     }
 
     /// The next word.
@@ -202,12 +178,6 @@ fn window_number(option: &str, word: Option<OsString>) -> Result<u16, Failure> {
     let number: u32 = value(option, word)?;
     let range = || Failure::Usage(format!("{option} is 0 to 65535, not {number}"));
     number.try_into().map_err(|_| range())
-}
-
-/// One of a badge's identifiers. Only the engine refuses one of a wrong length, and too many of them.
-fn access_identifier(word: Option<OsString>) -> Result<Vec<u8>, Failure> {
-    let missing = || Failure::Usage("--badge takes an identifier".to_string());
-    identifier(word.ok_or_else(missing)?.as_bytes())
 }
 
 /// The identifier that is written as it is shown.

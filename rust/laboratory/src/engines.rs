@@ -20,7 +20,7 @@ pub enum Answer {
     Found {
         /// Window and score of each hit.
         hits: Vec<(u32, u32)>,
-        /// Stored postings taken up; under a badge, the counts of the query's identifiers that show.
+        /// Stored postings taken up.
         taken: u64,
     },
     Refused(u32),
@@ -192,21 +192,18 @@ pub fn found_by<B: AsRef<[u8]>>(
     probe: &Probe<B>,
     query: &Query,
 ) -> Result<(Vec<(u32, u32)>, u64), u32> {
-    let ids = identifiers(&query.identifiers);
-    let stretch = query.scope.stretch;
+    let identifiers: Vec<Identifier> = query
+        .identifiers
+        .iter()
+        .map(|bytes| bytes[..].into())
+        .collect();
     let mut hits = vec![Hit::default(); query.places];
-    let found = match &query.scope.badge {
-        Some(badge) => probe.query_as(&ids, &identifiers(badge), stretch, &mut hits),
-        None => probe.query(&ids, stretch, &mut hits),
-    }
-    .map_err(Refusal::number)?;
+    let found = probe
+        .query(&identifiers, query.stretch, &mut hits)
+        .map_err(Refusal::number)?;
     let listed = hits[..found.hits].iter();
     let listed = listed.map(|hit| (hit.window, hit.score)).collect();
     Ok((listed, found.taken))
-}
-
-fn identifiers(named: &[Vec<u8>]) -> Vec<Identifier<'_>> {
-    named.iter().map(|bytes| bytes[..].into()).collect()
 }
 
 impl Engine for Ledger {
@@ -235,14 +232,11 @@ impl Engine for Ledger {
     }
 
     fn find(&self, query: &Query) -> Result<(Vec<(u32, u32)>, u64), u32> {
-        let ids = slices(&query.identifiers);
-        let Stretch { first, last } = query.scope.stretch;
+        let identifiers = slices(&query.identifiers);
+        let Stretch { first, last } = query.stretch;
         let windows = first.into()..=last.into();
-        let reply = match &query.scope.badge {
-            Some(badge) => self.query_as(&ids, &slices(badge), windows, query.places),
-            None => self.query(&ids, windows, query.places),
-        }
-        .map_err(u32::from)?;
+        let reply = self.query(&identifiers, windows, query.places);
+        let reply = reply.map_err(u32::from)?;
         Ok((reply.hits, reply.taken as u64))
     }
 }
@@ -313,22 +307,13 @@ impl Engine for Second {
 
     fn find(&self, query: &Query) -> Result<(Vec<(u32, u32)>, u64), u32> {
         let ids = slices(&query.identifiers);
-        let badge = query.scope.badge.as_deref().map(slices);
-        let Stretch { first, last } = query.scope.stretch;
+        let Stretch { first, last } = query.stretch;
         let stretch = second::stretch::Stretch { first, last };
         let mut hits = vec![second::state::Hit::default(); query.places];
         let (state, card, register) = (&self.state, &self.card, &self.register);
-        let found = match (self.fault, &badge) {
-            (Some(fault), None) => {
-                wrong::query(fault, state, card, register, &ids, stretch, &mut hits)
-            }
-            (Some(fault), Some(badge)) => wrong::query_as(
-                fault, state, card, register, &ids, badge, stretch, &mut hits,
-            ),
-            (None, None) => engine::query(state, card, register, &ids, stretch, &mut hits),
-            (None, Some(badge)) => {
-                engine::query_as(state, card, register, &ids, badge, stretch, &mut hits)
-            }
+        let found = match self.fault {
+            Some(fault) => wrong::query(fault, state, card, register, &ids, stretch, &mut hits),
+            None => engine::query(state, card, register, &ids, stretch, &mut hits),
         }
         .map_err(number)?;
         let listed = hits[..usize::from(found.hits)].iter();

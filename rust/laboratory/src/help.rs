@@ -26,9 +26,6 @@ IDENTIFIERs are written as they are shown: \\xNN for a byte that does not print,
   --entries N    entries of the register, 1 to 1024; 64 if not said
   --from N       where a command asks queries: the first and the last window that
   --to N         they are asked over, 0 to 65535; 1 and 65535 if not said
-  --badge IDENTIFIER
-                 where a command asks queries: an access identifier of the badge
-                 that they are asked under, said again for each more, up to 8
   --help         after a command: more of it, with an example
 
 Exit status: 0; 1 where the command found something wrong, as its help says;

@@ -55,10 +55,6 @@ pub fn obey(
         );
         return Err(Failure::Usage(why));
     }
-    if arguments.badge.is_some() && !command.asks {
-        let why = format!("{} asks no query: it takes no --badge", command.name);
-        return Err(Failure::Usage(why));
-    }
     (command.obey)(&mut arguments, out)
 }
 

@@ -31,39 +31,14 @@ pub enum Command {
 pub struct Query {
     pub places: usize,
     pub identifiers: Vec<Vec<u8>>,
-    pub scope: Scope,
-}
-
-/// The windows that a query is asked over: those of a stretch, and of these, under a badge, the ones that it sees.
-#[derive(Clone, PartialEq, Eq, Debug)]
-pub struct Scope {
     pub stretch: Stretch,
-    /// The access identifiers of the badge, if there is one.
-    pub badge: Option<Vec<Vec<u8>>>,
-}
-
-impl Scope {
-    /// All windows, under no badge.
-    pub const ALL: Scope = Scope {
-        stretch: Stretch::ALL,
-        badge: None,
-    };
-
-    /// Whether a window is inside the stretch.
-    pub fn is_inside(&self, window: u32) -> bool {
-        let Stretch { first, last } = self.stretch;
-        (u32::from(first)..=u32::from(last)).contains(&window)
-    }
 }
 
 impl Command {
-    /// The same command; a query is asked over these windows.
-    pub fn over(self, scope: &Scope) -> Command {
+    /// The same command; a query is asked over a stretch.
+    pub fn over(self, stretch: Stretch) -> Command {
         match self {
-            Command::Query(query) => Command::Query(Query {
-                scope: scope.clone(),
-                ..query
-            }),
+            Command::Query(query) => Command::Query(Query { stretch, ..query }),
             other => other,
         }
     }
@@ -137,7 +112,7 @@ fn command(line: &[u8]) -> Result<Command, &'static str> {
         [b"Q", places, ref identifiers @ ..] => Ok(Command::Query(Query {
             places: number(places)? as usize,
             identifiers: identifiers.iter().map(|field| field.to_vec()).collect(),
-            scope: Scope::ALL,
+            stretch: Stretch::ALL,
         })),
         [b"O" | b"C" | b"F" | b"M", ..] => Err("this command stands alone"),
         [b"E", ..] => Err("E takes one identifier"),

@@ -1,18 +1,18 @@
 //! How a score comes about, reckoned step by step from what is read for display.
 
-use crate::lines::Scope;
 use crate::view::{Sums, View};
+use gemsilver::Stretch;
 use second::weights::{count_weight, rarity_weight, sixteenths};
 use std::cmp::Reverse;
 use std::collections::BTreeSet;
 
-/// An identifier of a query: how many of its windows have it, and what that weighs.
+/// An identifier of a query: how many closed windows of its stretch have it, and what that weighs.
 #[derive(Clone, PartialEq, Eq, Debug)]
 pub struct Rarity {
     pub identifier: Vec<u8>,
     /// Its number, if the register has it.
     pub id: Option<usize>,
-    /// F: in how many of the query's windows its count is above 0.
+    /// F: in how many closed windows of the stretch its count is above 0.
     pub windows: u32,
     /// S(F), 0 where F is 0.
     pub sixteenths: u32,
@@ -31,14 +31,12 @@ pub struct Product {
 /// What a query's scores are reckoned from.
 #[derive(Clone, PartialEq, Eq, Debug)]
 pub struct Reckoning {
-    /// N, how many live windows the query has, and S(N), 0 where N is 0.
+    /// N, how many closed windows of the stretch are live, and S(N), 0 where N is 0.
     pub live: u32,
     pub sixteenths: u32,
     pub rarities: Vec<Rarity>,
     /// The count of each pair.
     sums: Sums,
-    /// The query's windows: the closed ones of its stretch, under a badge those that it sees.
-    windows: BTreeSet<u32>,
 }
 
 /// S of a number of windows, 0 for none.
@@ -50,25 +48,19 @@ fn logarithm(number: u32) -> u32 {
 }
 
 impl Reckoning {
-    /// Reckons the weights of a query's identifiers over its windows. What partitions hold that the stretch passes over is of windows outside, so
-    /// that the sums need not leave it out.
-    pub fn of(view: &View, identifiers: &[Vec<u8>], scope: &Scope) -> Reckoning {
+    /// Reckons the weights of a query's identifiers over a stretch. What partitions hold that it passes over is of windows outside, so that the
+    /// sums need not leave it out.
+    pub fn of(view: &View, identifiers: &[Vec<u8>], stretch: Stretch) -> Reckoning {
+        let inside = u32::from(stretch.first)..=u32::from(stretch.last);
         let sums = view.sums();
         let mut counts = sums.clone();
         counts.retain(|(_, Reverse(window)), sum| {
-            *window != view.open && scope.is_inside(*window) && *sum > 0
+            *window != view.open && inside.contains(window) && *sum > 0
         });
-        let number = |identifier: &Vec<u8>| view.names.iter().position(|name| name == identifier);
-        if let Some(badge) = &scope.badge {
-            let access: BTreeSet<usize> = badge.iter().filter_map(number).collect();
-            let of_badge = counts.keys().filter(|pair| access.contains(&pair.0));
-            let visible: BTreeSet<u32> = of_badge.map(|pair| pair.1.0).collect();
-            counts.retain(|(_, Reverse(window)), _| visible.contains(window));
-        }
         let windows: BTreeSet<u32> = counts.keys().map(|pair| pair.1.0).collect();
         let live = windows.len() as u32;
         let rarity = |identifier: &Vec<u8>| {
-            let id = number(identifier);
+            let id = view.names.iter().position(|name| name == identifier);
             let windows = id.map_or(0, |id| windows_with(&counts, id));
             Rarity {
                 identifier: identifier.clone(),
@@ -83,13 +75,7 @@ impl Reckoning {
             sixteenths: logarithm(live),
             rarities: identifiers.iter().map(rarity).collect(),
             sums,
-            windows,
         }
-    }
-
-    /// Whether a window is one of the query's.
-    pub fn has(&self, window: u32) -> bool {
-        self.windows.contains(&window)
     }
 
     /// The products of a window, one for each identifier that counts in it.

@@ -2,9 +2,9 @@
 
 use crate::engines::{Answer, Engine, Sizes, proved, refused};
 use crate::failure::Failure;
-use crate::lines::{self, Command, Line, Scope};
+use crate::lines::{self, Command, Line};
 use crate::progress::Progress;
-use gemsilver::{Probe, Refusal, Snapshot};
+use gemsilver::{Probe, Refusal, Snapshot, Stretch};
 use second::ledger::Ledger;
 use std::ffi::OsStr;
 use std::fs;
@@ -65,10 +65,10 @@ impl Session {
         }
     }
 
-    /// Obeys the command of a line, a query over these windows; other lines have none.
-    pub fn obey_line(&mut self, line: &[u8], scope: &Scope) -> Option<Told> {
+    /// Obeys the command of a line, a query over a stretch; other lines have none.
+    pub fn obey_line(&mut self, line: &[u8], stretch: Stretch) -> Option<Told> {
         match Line::of(line) {
-            Line::Command(command) => Some(self.obey(&command.over(scope))),
+            Line::Command(command) => Some(self.obey(&command.over(stretch))),
             _ => None,
         }
     }
@@ -160,7 +160,7 @@ fn after(file: &Path, line: Option<usize>, sizes: Sizes) -> Result<Moment, Failu
     let mut session = Session::new(sizes)?;
     let mut progress = Progress::new("line", count);
     for (number, line) in (1..).zip(&lines[..count]) {
-        session.obey_line(line, &Scope::ALL);
+        session.obey_line(line, Stretch::ALL);
         progress.tell(number);
     }
     drop(progress);

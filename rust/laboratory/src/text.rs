@@ -61,13 +61,6 @@ pub fn windows(stretch: Stretch) -> String {
     format!("windows {} to {}", stretch.first, stretch.last)
 }
 
-/// A badge in words: `the badge ACME NOVA`.
-pub fn badge(identifiers: &[Vec<u8>]) -> String {
-    let names = identifiers.iter().map(|name| identifier(name));
-    let names: String = names.map(|name| format!(" {name}")).collect();
-    format!("the badge{names}")
-}
-
 /// A signed count: `+3`, `-3`, `0`.
 pub fn signed(count: i32) -> String {
     if count == 0 {

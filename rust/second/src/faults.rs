@@ -33,15 +33,11 @@ pub enum Fault {
     LiveOutside,
     /// F counts the windows outside the stretch as well.
     FrequencyOutside,
-    /// Under a badge, F counts hidden windows as well.
-    HiddenFrequency,
-    /// Under a badge, postings taken are all that are stored.
-    StoredTaken,
 }
 
 impl Fault {
     /// All faults.
-    pub const ALL: [Fault; 15] = [
+    pub const ALL: [Fault; 13] = [
         Fault::CutIdentifiers,
         Fault::AddedFrequencies,
         Fault::MendedNeighbours,
@@ -55,8 +51,6 @@ impl Fault {
         Fault::TakenOutside,
         Fault::LiveOutside,
         Fault::FrequencyOutside,
-        Fault::HiddenFrequency,
-        Fault::StoredTaken,
     ];
 
     /// Whether the fault shows only where a query is asked over a part of the windows, on
@@ -75,15 +69,8 @@ impl Fault {
             | Fault::FilledFirst
             | Fault::RoundedQuotient
             | Fault::ReadOutput
-            | Fault::ForgottenBuffer
-            | Fault::HiddenFrequency
-            | Fault::StoredTaken => false,
+            | Fault::ForgottenBuffer => false,
         }
-    }
-
-    /// Whether the fault shows only where a query is asked under a badge.
-    pub fn needs_badge(self) -> bool {
-        matches!(self, Fault::HiddenFrequency | Fault::StoredTaken)
     }
 
     /// The name by which the fault is chosen.
@@ -102,8 +89,6 @@ impl Fault {
             Fault::TakenOutside => "taken-outside",
             Fault::LiveOutside => "live-outside",
             Fault::FrequencyOutside => "frequency-outside",
-            Fault::HiddenFrequency => "hidden-frequency",
-            Fault::StoredTaken => "stored-taken",
         }
     }
 
@@ -133,10 +118,6 @@ impl Fault {
             Fault::TakenOutside => "postings taken count those of partitions passed over",
             Fault::LiveOutside => "N counts the windows outside the stretch, too",
             Fault::FrequencyOutside => "F counts the windows outside the stretch, too",
-            Fault::HiddenFrequency => "F counts the windows that the badge does not see, too",
-            Fault::StoredTaken => {
-                "postings taken under a badge are all that are stored, which tells of merges and hidden windows"
-            }
         }
     }
 

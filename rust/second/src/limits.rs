@@ -32,8 +32,6 @@ pub const LAST_FAN_IN: usize = 3;
 pub const STEP: usize = 16;
 /// The most identifiers of a query.
 pub const QUERY_IDENTIFIERS: usize = 5;
-/// The most identifiers of a badge.
-pub const BADGE_IDENTIFIERS: usize = 8;
 /// The most places in a list of hits.
 pub const HITS: usize = 32;
 /// The most windows that are removed together.

@@ -39,8 +39,6 @@ pub enum Refusal {
     BadList = 16,
     /// A stretch of windows has its first above its last.
     BadStretch = 17,
-    /// A badge has no identifiers, or too many.
-    BadBadge = 18,
 }
 
 impl Refusal {

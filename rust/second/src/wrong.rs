@@ -3,7 +3,7 @@
 //! These are the calls that a fault can change. A wrong engine has its other
 //! calls from [`engine`].
 
-use crate::engine::{self, Asked, Found, query_with, step_with};
+use crate::engine::{self, Found, query_with, step_with};
 use crate::faults::Fault;
 use crate::refusal::Refusal;
 use crate::register::is_identifier;
@@ -39,38 +39,8 @@ pub fn query(
     stretch: Stretch,
     hits: &mut [Hit],
 ) -> Result<Found, Refusal> {
-    let asked = Asked {
-        ids: &all_kept(fault, ids),
-        badge: None,
-        stretch,
-    };
-    query_with(Some(fault), state, card, register, &asked, hits)
-}
-
-/// Fills the list with the windows visible to the badge that score highest on the identifiers.
-#[allow(clippy::too_many_arguments)] // those of the right engine's call, and the fault
-pub fn query_as(
-    fault: Fault,
-    state: &State,
-    card: &[u8],
-    register: &[u8],
-    ids: &[&[u8]],
-    badge: &[&[u8]],
-    stretch: Stretch,
-    hits: &mut [Hit],
-) -> Result<Found, Refusal> {
-    let badge = all_kept(fault, badge);
-    let asked = Asked {
-        ids: &all_kept(fault, ids),
-        badge: Some(&badge),
-        stretch,
-    };
-    query_with(Some(fault), state, card, register, &asked, hits)
-}
-
-/// What the engine keeps of identifiers.
-fn all_kept<'a>(fault: Fault, ids: &[&'a [u8]]) -> Vec<&'a [u8]> {
-    ids.iter().map(|id| kept(fault, id)).collect()
+    let ids: Vec<&[u8]> = ids.iter().map(|id| kept(fault, id)).collect();
+    query_with(Some(fault), state, card, register, &ids, stretch, hits)
 }
 
 /// What the engine keeps of an identifier. One that is too long stays as it is,

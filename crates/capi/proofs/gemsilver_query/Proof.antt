@@ -21,7 +21,7 @@ returns-2 c =
     let read = c.before.before.before.before.before.before.read-state.ensures in
     let r = c.before.before.before.before.before.search in
     let w = c.before.before.before.put-hits.ensures in
-    let g = on-query s.hits.now (λ i. omega (arith, c.before.before.before.before.before.before.before.before.before.slice-known.given i)) r.result.answer r.result.top w.1 (probe_of (state_on s.image.now) s.card.now s.register.now) (record { first = s.first; last = s.last }) (map (λ x. x.now) s.ids.now) (rw read at r.ensures) in
+    let g = on-query (probe_of (state_on s.image.now) s.card.now s.register.now) (record { first = s.first; last = s.last }) (map (λ x. x.now) s.ids.now) s.hits.now (λ i. omega (arith, c.before.before.before.before.before.before.before.before.before.slice-known.given i)) r.result.answer r.result.top w.1 (rw read at r.ensures) in
     tells-passed _ _ 1 _ _ _ (ap not (sym c.before.before.before.before.before.before.before.before.image-ok.ensures) ∙ c.before.before.before.before.before.before.before.if1.false)
     (rw (c.found_number.ensures, w.0) g)
 

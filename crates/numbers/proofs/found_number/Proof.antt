@@ -3,9 +3,6 @@ use borrow.Author.Rules.{rules}
 use Rattle.numbers.proofs.found_number.Statement.{statement}
 use Rattle.numbers.proofs.found_number.Tie as tie
 
-returns : tie.Need-returns
-returns c = rw c.before.before.answer.given.1 c.number_of_lem.ensures
-
 returns-2 : tie.Need-returns-2
 returns-2 c = rw c.before.answer2.given.1
 
@@ -22,5 +19,5 @@ found-number-spec =
     (λ c. search rules)
     (λ c. search rules)
     (λ c. search rules)
-    returns
+    (λ c. search rules)
     returns-2)

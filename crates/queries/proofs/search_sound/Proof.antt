@@ -33,8 +33,7 @@ search-with-requires c κs =
         partitions = s.requires.partitions;
         packed = c.before.before.before.before.before.pack-run.ensures;
         room = omega arith;
-        terms = omega arith;
-        short = omega arith;
+        most = omega arith;
         one = length-take-le (4 * s.args.s.partitions.used + 4) (replicate 208 0) (omega arith);
       },
     )

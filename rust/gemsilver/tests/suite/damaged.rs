@@ -2,7 +2,7 @@
 
 use crate::damage::{any_call, damage, damage_merge, spoil};
 use crate::engines::{Call, Probe};
-use crate::history::{History, Odds, Plan, any_list, any_plan, any_query_as};
+use crate::history::{History, Odds, Plan, any_list, any_plan};
 use crate::pair::Pair;
 use crate::parts::{BLOCK, CONTENT, Mix, advance, build, mix};
 use crate::rng::Rng;
@@ -32,7 +32,7 @@ const PLAN: Plan = Plan {
 fn both_engines_bear_damage_alike() {
     let mut tally = Tally::default();
     let mut on_the_way = Tally::default();
-    let (mut lists, mut plans, mut badges) = (Rng(500), Rng(502), Rng(504));
+    let (mut lists, mut plans) = (Rng(500), Rng(502));
     for (seed, blocks) in [40, 24, 64, 36, 28, 40, 48, 32].into_iter().enumerate() {
         let plan = Plan { blocks, ..PLAN };
         let mut history = History::new(&plan, seed as u64, &mut on_the_way);
@@ -50,10 +50,6 @@ fn both_engines_bear_damage_alike() {
             }
             if plans.one_in(6) {
                 let call = any_plan(&mut plans, plan.names);
-                let _ = Pair::of(probe.clone()).make(&call, &mut tally);
-            }
-            if badges.one_in(3) {
-                let call = any_query_as(&mut badges, plan.names, last as u32);
                 let _ = Pair::of(probe.clone()).make(&call, &mut tally);
             }
             let mut pair = Pair::of(probe);
@@ -74,7 +70,7 @@ fn both_engines_bear_damage_alike() {
 fn both_engines_take_foreign_probes_alike() {
     let mut tally = Tally::default();
     let mut rng = Rng(2_024);
-    let (mut lists, mut plans, mut badges) = (Rng(501), Rng(503), Rng(505));
+    let (mut lists, mut plans) = (Rng(501), Rng(503));
     for _ in 0..9_500 {
         let mix = mix(&mut rng);
         let mut probe = build(&mix, &mut rng);
@@ -94,10 +90,6 @@ fn both_engines_take_foreign_probes_alike() {
         }
         if plans.one_in(6) {
             let call = any_plan(&mut plans, mix.entries + 2);
-            let _ = Pair::of(probe.clone()).make(&call, &mut tally);
-        }
-        if badges.one_in(2) {
-            let call = any_query_as(&mut badges, mix.entries + 2, mix.windows.into());
             let _ = Pair::of(probe.clone()).make(&call, &mut tally);
         }
         let mut pair = Pair::of(probe);
@@ -204,8 +196,6 @@ fn expect_all(tally: &Tally, times: usize) {
     tally.expect("remove", &[0, 1, 2, 3, 5, 7], times);
     tally.expect("step", &[0, 1, 2, 3, 12, 13], times);
     tally.expect("query", &[0, 1, 2, 3, 4, 14, 17], times);
-    tally.expect("query_as", &[0, 1, 2, 3, 4, 14, 17, 18], times);
-    tally.expect_badges(times / 2);
     tally.expect("mean", &[0, 1, 2, 3, 4, 15], times);
     tally.expect("remove_all", &[0, 1, 2, 3, 5, 7, 16], times);
     tally.expect("forecast", &[0, 1, 2, 3], times);

@@ -28,8 +28,6 @@ pub enum Call {
     Step,
     /// The identifiers, the stretch, and what the list of hits holds before.
     Query(Vec<Vec<u8>>, Stretch, Vec<u8>),
-    /// The identifiers, the badge's identifiers, the stretch, and what the list of hits holds before.
-    QueryAs(Vec<Vec<u8>>, Vec<Vec<u8>>, Stretch, Vec<u8>),
     Mean(Vec<u8>),
     /// The entries of a plan, and how many each window has.
     Forecast(Vec<u8>, Vec<u32>),
@@ -47,7 +45,6 @@ impl Call {
             Call::RemoveAll(_) => "remove_all",
             Call::Step => "step",
             Call::Query(..) => "query",
-            Call::QueryAs(..) => "query_as",
             Call::Mean(_) => "mean",
             Call::Forecast(..) => "forecast",
         }
@@ -56,7 +53,7 @@ impl Call {
     /// What the list of hits holds before the call.
     pub fn list(&self) -> Vec<u8> {
         match self {
-            Call::Query(_, _, list) | Call::QueryAs(_, _, _, list) => list.clone(),
+            Call::Query(_, _, list) => list.clone(),
             _ => Vec::new(),
         }
     }
@@ -95,24 +92,6 @@ fn slices(names: &[Vec<u8>]) -> Vec<&[u8]> {
     names.iter().map(|name| &name[..]).collect()
 }
 
-fn identifiers(names: &[Vec<u8>]) -> Vec<Identifier<'_>> {
-    names.iter().map(|name| name[..].into()).collect()
-}
-
-/// A stretch as it is lent to the proved engine.
-fn lent(stretch: Stretch) -> Lent {
-    let Stretch { first, last } = stretch;
-    Lent { first, last }
-}
-
-/// Puts the hits that the second engine has listed where the proved one puts them.
-fn put_hits(hits: &mut [u8], list: &[Hit]) {
-    for (place, hit) in hits.chunks_exact_mut(8).zip(list) {
-        put(place, 0, hit.window.into());
-        put(place, 1, hit.score);
-    }
-}
-
 /// Makes a call of the proved engine.
 pub fn proved(probe: &mut Probe, call: &Call, hits: &mut [u8]) -> Answer {
     let Probe {
@@ -129,14 +108,13 @@ pub fn proved(probe: &mut Probe, call: &Call, hits: &mut [u8]) -> Answer {
         Call::Remove(window) => bytes::remove(image, card, *window).map(|()| NOTHING),
         Call::RemoveAll(windows) => bytes::remove_all(image, card, windows).map(|()| NOTHING),
         Call::Step => bytes::step(image, card).map(|()| NOTHING),
-        Call::Query(names, stretch, _) => {
-            let (names, stretch) = (identifiers(names), lent(*stretch));
-            bytes::query(image, card, register, &names, stretch, hits)
-                .map(|answer| found(answer.hits as u64, answer.taken))
-        }
-        Call::QueryAs(names, badge, stretch, _) => {
-            let (names, badge) = (identifiers(names), identifiers(badge));
-            bytes::query_as(image, card, register, &names, &badge, lent(*stretch), hits)
+        Call::Query(names, Stretch { first, last }, _) => {
+            let identifiers: Vec<Identifier> = names.iter().map(|name| name[..].into()).collect();
+            let stretch = Lent {
+                first: *first,
+                last: *last,
+            };
+            bytes::query(image, card, register, &identifiers, stretch, hits)
                 .map(|answer| found(answer.hits as u64, answer.taken))
         }
         Call::Mean(name) => bytes::mean(image, card, register, name)
@@ -195,15 +173,11 @@ fn on_state(
             let mut list = vec![Hit::default(); hits.len() / 8];
             let names = slices(names);
             let answer = engine::query(state, card, register, &names, *stretch, &mut list)?;
-            put_hits(hits, &list[..usize::from(answer.hits)]);
-            Ok(found(answer.hits, answer.taken))
-        }
-        Call::QueryAs(names, badge, stretch, _) => {
-            let mut list = vec![Hit::default(); hits.len() / 8];
-            let (names, badge) = (slices(names), slices(badge));
-            let answer =
-                engine::query_as(state, card, register, &names, &badge, *stretch, &mut list)?;
-            put_hits(hits, &list[..usize::from(answer.hits)]);
+            let listed = usize::from(answer.hits);
+            for (place, hit) in hits.chunks_exact_mut(8).zip(&list[..listed]) {
+                put(place, 0, hit.window.into());
+                put(place, 1, hit.score);
+            }
             Ok(found(answer.hits, answer.taken))
         }
         Call::Mean(name) => engine::mean(state, card, register, name)

@@ -1,6 +1,6 @@
 //! Random histories from a start: after every call both engines have answered and left the same bytes.
 
-use crate::history::{History, Odds, Plan, any_query_as};
+use crate::history::{History, Odds, Plan};
 use crate::rng::Rng;
 use crate::tally::Tally;
 use crate::words::{at, word};
@@ -170,18 +170,13 @@ fn plans_of_lists() -> Vec<Plan> {
 
 fn run(plan: &Plan, seed: u64, tally: &mut Tally) {
     let mut history = History::new(plan, seed, tally);
-    let (mut plans, mut badges) = (Rng(seed + 300), Rng(seed + 600));
+    let mut plans = Rng(seed + 300);
     for _ in 0..plan.calls {
         history.act(plan, tally);
         // An open window stops every plan.
         let is_open = word(&history.pair.probe().image, at::OPEN) > 0;
         if plans.one_in(if is_open { 500 } else { 20 }) {
             history.forecast(&mut plans, plan, tally);
-        }
-        if badges.one_in(12) {
-            let last = word(&history.pair.probe().image, at::LAST);
-            let call = any_query_as(&mut badges, plan.names + 2, last);
-            let _ = history.pair.make(&call, tally);
         }
     }
 }
@@ -203,8 +198,6 @@ fn both_engines_go_through_histories_alike() {
     tally.expect("step", &[0, 13], 1_000);
     tally.expect("query", &[0, 4, 14, 17], 100);
     tally.expect_stretches(50);
-    tally.expect("query_as", &[0, 4, 14, 17, 18], 100);
-    tally.expect_badges(50);
     tally.expect("mean", &[0, 15], 1_000);
     tally.expect("mean", &[4], 100);
     tally.expect("forecast", &[0], 500);

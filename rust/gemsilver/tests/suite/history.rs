@@ -84,20 +84,6 @@ pub fn any_query(rng: &mut Rng, names: usize, last: u32) -> Call {
     Call::Query(ids, any_stretch(&mut Rng(rng.0), last), list)
 }
 
-/// A query under a badge of up to 8 identifiers, some twice; now and then of none or of more.
-pub fn any_query_as(rng: &mut Rng, names: usize, last: u32) -> Call {
-    let Call::Query(ids, stretch, list) = any_query(rng, names, last) else {
-        unreachable!("a query was made")
-    };
-    let length = rng.pick(&[1, 1, 1, 2, 2, 3, 5, 8, 8, 8, 0, 9, 20]);
-    let mut badge: Vec<Vec<u8>> = (0..length).map(|_| any_name(rng, names)).collect();
-    if rng.one_in(8) && length > 0 {
-        let (from, to) = (rng.below(length), rng.below(length));
-        badge[to] = badge[from].clone();
-    }
-    Call::QueryAs(ids, badge, stretch, list)
-}
-
 /// A stretch of the windows up to a last one: all, one, those from or up to one, or some; now and then an empty one or one whose first
 /// exceeds its last.
 pub fn any_stretch(rng: &mut Rng, last: u32) -> Stretch {

@@ -1,6 +1,5 @@
 //! The proved engine held against the second one, and its snapshots read back.
 
-mod badges;
 mod closing;
 mod damage;
 mod damaged;

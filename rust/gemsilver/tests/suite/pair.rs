@@ -18,9 +18,6 @@ pub const UNCOUNTED: u32 = 15;
 /// The refusal of a list of windows that is empty, too long, or names one twice.
 pub const BAD_LIST: u32 = 16;
 
-/// The refusal of a badge of no or more than 8 identifiers.
-pub const BAD_BADGE: u32 = 18;
-
 pub struct Pair {
     proved: Probe,
     second: Probe,
@@ -81,15 +78,10 @@ impl Pair {
             assert_eq!(answer, expected, "the calls of {call:?}");
             see_plan(&self.before, counts, answer, tally);
         }
-        if let Call::QueryAs(..) = call {
-            self.compare_plain(call, answer, tally);
-        }
         if is_answered(call, &answer) && leaves_out(&self.before, call) {
             tally.leave_out(call.name());
         }
-        if let (Call::Query(_, stretch, _) | Call::QueryAs(_, _, stretch, _), Ok([hits, ..])) =
-            (call, answer)
-        {
+        if let (Call::Query(_, stretch, _), Ok([hits, ..])) = (call, answer) {
             see_stretch(&self.before, *stretch, hits > 0, tally);
         }
         // A start refused for a length leaves a state of zeros.
@@ -136,43 +128,6 @@ impl Pair {
             told,
             tally,
         );
-    }
-
-    /// Compares how a query under a badge was refused with plain queries of the proved engine: with 1 to 4 as one of its identifiers and the
-    /// badge's together, else with 14 and 17 as one of its identifiers alone, and only then with 18. Notes what the badge hides.
-    fn compare_plain(&self, call: &Call, answer: Answer, tally: &mut Tally) {
-        let Call::QueryAs(names, badge, stretch, list) = call else {
-            return;
-        };
-        let mut probe = self.before.clone();
-        let mut plain = |names: Vec<Vec<u8>>| {
-            let call = Call::Query(names, *stretch, list.clone());
-            proved(&mut probe, &call, &mut list.clone())
-        };
-        let both = plain([&names[..], badge].concat());
-        let own = plain(names.clone());
-        let expected = match (both.err(), own.err(), badge.len()) {
-            (Some(number @ 1..=4), _, _) => Some(number),
-            (_, None, 1..=8) => None,
-            (_, None, _) => Some(BAD_BADGE),
-            (_, refusal, _) => refusal,
-        };
-        assert_eq!(answer.err(), expected, "plain queries: {call:?}");
-        let (Ok([hits, taken, ..]), Ok([all, stored, ..])) = (answer, own) else {
-            return;
-        };
-        assert!(hits <= all && taken <= stored, "{call:?}");
-        for (sight, is_seen) in [
-            ("that show hits", hits > 0),
-            ("that show every hit", hits > 0 && hits == all),
-            ("that hide some hits", hits > 0 && hits < all),
-            ("that hide all hits", hits == 0 && all > 0),
-            ("with fewer postings taken than stored", taken < stored),
-        ] {
-            if is_seen {
-                tally.see_badge(sight);
-            }
-        }
     }
 
     /// Keeps what is there now for the next call.
@@ -322,7 +277,7 @@ fn see_plan(before: &Probe, counts: &[u32], answer: Answer, tally: &mut Tally) {
 /// Whether a query or a mean was answered from counts; of a mean, that no closed window has the identifier is such an answer.
 fn is_answered(call: &Call, answer: &Answer) -> bool {
     match call {
-        Call::Query(..) | Call::QueryAs(..) => answer.is_ok(),
+        Call::Query(..) => answer.is_ok(),
         Call::Mean(_) => answer.is_ok() || *answer == Err(UNCOUNTED),
         _ => false,
     }

@@ -9,11 +9,10 @@ use crate::tally::Tally;
 use crate::words::{at, put, word};
 use second::image;
 use second::state::{Partition, Posting, State, Windows};
-use second::stretch::Stretch;
 use std::collections::BTreeMap;
 
-/// Judges a state by calls that read nothing else, and by a mean, a query under no badge, an empty list of windows and an empty plan, which come no
-/// further than the lengths.
+/// Judges a state by calls that read nothing else, and by a mean, an empty list of windows and an empty plan, which come no further than the
+/// lengths.
 fn judge(image: &[u8], tally: &mut Tally) {
     let mut pair = Pair::of(Probe {
         image: image.to_vec(),
@@ -21,8 +20,6 @@ fn judge(image: &[u8], tally: &mut Tally) {
         register: Vec::new(),
     });
     let _ = pair.make(&Call::Mean(b"A".to_vec()), tally);
-    let no_badge = Call::QueryAs(Vec::new(), Vec::new(), Stretch::ALL, Vec::new());
-    let _ = pair.make(&no_badge, tally);
     let _ = pair.make(&Call::RemoveAll(Vec::new()), tally);
     let _ = pair.make(&Call::Forecast(Vec::new(), Vec::new()), tally);
     let _ = pair.make(&Call::Open, tally);
@@ -88,7 +85,6 @@ fn both_engines_judge_every_number_alike() {
     tally.expect("open", &[0, 1, 5], 1_000);
     tally.expect("close", &[0, 1], 1_000);
     tally.expect("mean", &[1, 2], 1_000);
-    tally.expect("query_as", &[1, 2], 1_000);
     tally.expect("remove_all", &[1, 2], 1_000);
     tally.expect("forecast", &[1, 2], 1_000);
 }

@@ -237,7 +237,7 @@ fn edges(probe: &Probe, rng: &mut Rng) -> Stretch {
 #[test]
 fn both_engines_answer_stretches_alike() {
     let mut tally = Tally::default();
-    let (mut rng, mut badges) = (Rng(808), Rng(809));
+    let mut rng = Rng(808);
     for _ in 0..4_000 {
         let mix = mix(&mut rng);
         let mut probe = build(&mix, &mut rng);
@@ -257,18 +257,10 @@ fn both_engines_answer_stretches_alike() {
             let list = vec![7; (1 + rng.below(32)) * HIT];
             let call = Call::Query(names, edges(&probe, &mut rng), list);
             let _ = pair.make(&call, &mut tally);
-            let Call::Query(names, stretch, list) = call else {
-                unreachable!("a query was made")
-            };
-            let badge = (0..1 + badges.below(4)).map(|_| any_name(&mut badges, mix.entries + 1));
-            let call = Call::QueryAs(names, badge.collect(), stretch, list);
-            let _ = pair.make(&call, &mut tally);
         }
     }
     tally.print("stretches");
     tally.expect("query", &[0, 1, 3, 4, 14, BAD_STRETCH], 50);
-    tally.expect("query_as", &[0, 1, 3, 4, 14, BAD_STRETCH], 50);
     tally.expect("mean", &[0, 3, 15], 50);
     tally.expect_stretches(50);
-    tally.expect_badges(50);
 }

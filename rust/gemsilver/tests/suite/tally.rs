@@ -14,8 +14,6 @@ pub struct Tally {
     plans: BTreeMap<String, usize>,
     /// What stretches of queries passed over.
     stretches: BTreeMap<&'static str, usize>,
-    /// What badges saw and hid.
-    badges: BTreeMap<&'static str, usize>,
 }
 
 impl Tally {
@@ -41,11 +39,6 @@ impl Tally {
     /// Notes something of a query's stretch.
     pub fn see_stretch(&mut self, sight: &'static str) {
         *self.stretches.entry(sight).or_default() += 1;
-    }
-
-    /// Notes something of a query's badge.
-    pub fn see_badge(&mut self, sight: &'static str) {
-        *self.badges.entry(sight).or_default() += 1;
     }
 
     /// Prints what was compared, a line a call and one for all.
@@ -75,9 +68,6 @@ impl Tally {
         }
         for (sight, count) in &self.stretches {
             println!("  stretches {sight}: {count}");
-        }
-        for (sight, count) in &self.badges {
-            println!("  badges {sight}: {count}");
         }
     }
 
@@ -112,20 +102,6 @@ impl Tally {
         ] {
             let seen = self.stretches.get(sight).copied().unwrap_or(0);
             assert!(seen >= times, "stretches {sight}: seen {seen} times");
-        }
-    }
-
-    /// So many queries must have been seen under such badges.
-    pub fn expect_badges(&self, times: usize) {
-        for sight in [
-            "that show hits",
-            "that show every hit",
-            "that hide some hits",
-            "that hide all hits",
-            "with fewer postings taken than stored",
-        ] {
-            let seen = self.badges.get(sight).copied().unwrap_or(0);
-            assert!(seen >= times, "badges {sight}: seen {seen} times");
         }
     }
 

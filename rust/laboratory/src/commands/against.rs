@@ -4,16 +4,17 @@ use super::{Command, Outcome};
 use crate::arguments::Arguments;
 use crate::engines::{Answer, Engine, Second, Sizes, proved};
 use crate::failure::Failure;
-use crate::lines::{self, Line, Scope};
+use crate::lines::{self, Line};
 use crate::progress::Progress;
 use crate::session::Session;
 use crate::text;
+use gemsilver::Stretch;
 use second::faults::Fault;
 use std::io::Write;
 
 pub const COMMAND: Command = Command {
     name: "against",
-    usage: "against NAME|all FILE [--from N] [--to N] [--badge IDENTIFIER]..",
+    usage: "against NAME|all FILE [--from N] [--to N]",
     summary: "whether the lines tell a wrong engine from ours",
     help: "
 Gives the lines to the proved engine and to a wrong one, and tells the first line
@@ -23,10 +24,8 @@ engine is the second engine with one change; a row `unchanged` has none, and no
 lines tell that one apart.
 
 With --from and --to every query is asked over the windows from one number to the
-other. The five engines from lowest-alone on can be told apart by nothing else,
-so that `all` tries them only then. With --badge every query is asked under a
-badge of these access identifiers. The last two engines are wrong under a badge
-alone, so that `all` tries them only with one.
+other. The last five engines can be told apart by nothing else, so that `all`
+tries them only then.
 
   cut-identifiers     identifiers are cut at sixteen bytes
   added-frequencies   F is added up per partition
@@ -41,8 +40,6 @@ alone, so that `all` tries them only with one.
   taken-outside       postings of partitions passed over are taken up
   live-outside        N counts windows outside, too
   frequency-outside   F counts windows outside, too
-  hidden-frequency    under a badge, F counts hidden windows, too
-  stored-taken        under a badge, all stored postings are taken up
 
 Exit status 0 where the wrong engine, or each of them, is told apart; else 1.",
     example: "against read-output lessons/4-between-merge-steps/lines.txt --blocks 64",
@@ -67,10 +64,11 @@ fn obey(arguments: &mut Arguments, out: &mut dyn Write) -> Result<Outcome, Failu
     let trial = Trial {
         lines: &lines,
         sizes: arguments.sizes,
-        scope: arguments.scope(),
+        stretch: arguments.stretch(),
     };
-    if let Some(line) = arguments.scope_line() {
-        writeln!(out, "{line}")?;
+    if arguments.stretch.is_some() {
+        let windows = text::windows(trial.stretch);
+        writeln!(out, "# queries are asked over {windows}")?;
     }
     match fault {
         Some(fault) => one(fault, &trial, out),
@@ -82,7 +80,7 @@ fn obey(arguments: &mut Arguments, out: &mut dyn Write) -> Result<Outcome, Failu
 struct Trial<'a> {
     lines: &'a [Vec<u8>],
     sizes: Sizes,
-    scope: Scope,
+    stretch: Stretch,
 }
 
 fn one(fault: Fault, trial: &Trial, out: &mut dyn Write) -> Result<Outcome, Failure> {
@@ -104,14 +102,12 @@ fn one(fault: Fault, trial: &Trial, out: &mut dyn Write) -> Result<Outcome, Fail
     Ok(Outcome::Good)
 }
 
-/// The engines that need a stretch or a badge to be told apart are tried where there is one.
+/// The engines that need a stretch to be told apart are tried where there is one.
 fn all(trial: &Trial, has_stretch: bool, out: &mut dyn Write) -> Result<Outcome, Failure> {
     let lines = trial.lines;
-    let has_badge = trial.scope.badge.is_some();
     let faults = Fault::ALL.into_iter();
     let faults: Vec<Fault> = faults
         .filter(|fault| has_stretch || !fault.needs_stretch())
-        .filter(|fault| has_badge || !fault.needs_badge())
         .collect();
     let mut told = 0;
     for &fault in &faults {
@@ -152,7 +148,7 @@ impl Trial<'_> {
             let Line::Command(command) = Line::of(bytes) else {
                 continue;
             };
-            let command = command.over(&self.scope);
+            let command = command.over(self.stretch);
             let (ours, wrong) = (right.obey(&command), wrong.obey(&command));
             if ours != wrong {
                 return Ok(Some(Difference { line, ours, wrong }));

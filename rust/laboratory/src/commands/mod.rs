@@ -31,7 +31,7 @@ impl Outcome {
     }
 }
 
-/// A command: its name, what it is called with, what it does, an example, whether it asks queries, which a stretch and a badge are for, and the work.
+/// A command: its name, what it is called with, what it does, an example, whether it asks queries, which a stretch is for, and the work.
 pub struct Command {
     pub name: &'static str,
     pub usage: &'static str,

@@ -14,7 +14,7 @@ use std::io::Write;
 
 pub const COMMAND: Command = Command {
     name: "moments",
-    usage: "moments FILE QUERY [--against NAME] [--from N] [--to N] [--badge IDENTIFIER]..",
+    usage: "moments FILE QUERY [--against NAME] [--from N] [--to N]",
     summary: "one query asked after every line and between all merge steps",
     help: "
 Asks the query, a line as Q 5 LUCKY, on a fresh card, after every line, and, at
@@ -26,9 +26,7 @@ lag behind, that takes minutes.
 
 With --against the wrong engine of that name is asked too, and where its hits are
 not ours is printed. With --from and --to the query is asked over the windows from
-one number to the other. With --badge it is asked under a badge of these access
-identifiers; the postings taken may not change with the card then either, so that
-in place of the hits whole answers are compared.
+one number to the other.
 
 Exit status 1 where an answer is not the ledger's, a merge step changed the hits,
 or, with --against, the wrong engine's hits are ours at every line.",
@@ -50,7 +48,7 @@ fn obey(arguments: &mut Arguments, out: &mut dyn Write) -> Result<Outcome, Failu
             .iter()
             .map(|shown| identifier(shown))
             .collect::<Result<_, _>>()?,
-        scope: arguments.scope(),
+        stretch: arguments.stretch(),
         ..query
     };
     let lines = lines::read(&file)?;
@@ -58,14 +56,11 @@ fn obey(arguments: &mut Arguments, out: &mut dyn Write) -> Result<Outcome, Failu
     let mut wrong = arguments
         .against
         .map(|fault| Second::new(Some(fault), arguments.sizes));
-    let mut asked = Asked {
-        has_badge: arguments.badge.is_some(),
-        ..Asked::default()
-    };
+    let mut asked = Asked::default();
     let mut progress = Progress::new("line", lines.len());
     asked.ask(0, &session, wrong.as_ref(), &query, false);
     for (number, line) in (1..).zip(&lines) {
-        session.obey_line(line, &query.scope);
+        session.obey_line(line, query.stretch);
         let Line::Command(command) = Line::of(line) else {
             asked.ask(number, &session, wrong.as_ref(), &query, false);
             continue;
@@ -87,11 +82,11 @@ fn obey(arguments: &mut Arguments, out: &mut dyn Write) -> Result<Outcome, Failu
     Ok(Outcome::good_if(asked.is_good() && is_told))
 }
 
-/// The lines from one to another, with the same hits, under a badge with the same answer.
+/// The lines from one to another, with the same hits.
 struct Run {
     first: usize,
     last: usize,
-    kept: Answer,
+    hits: Answer,
     /// The least and the most postings taken.
     taken: (u64, u64),
 }
@@ -99,8 +94,6 @@ struct Run {
 /// What was answered where.
 #[derive(Default)]
 struct Asked {
-    /// Whether it is asked under a badge.
-    has_badge: bool,
     runs: Vec<Run>,
     /// The lines at which the wrong engine's hits were others, and its answers.
     wrong: Vec<(usize, Answer)>,
@@ -113,22 +106,6 @@ struct Asked {
 }
 
 impl Asked {
-    /// What of an answer no merge step may change: the hits, and under a badge all of it.
-    fn kept(&self, answer: &Answer) -> Answer {
-        match self.has_badge {
-            false => answer.listing(),
-            true => answer.clone(),
-        }
-    }
-
-    /// That in words.
-    fn what(&self) -> &'static str {
-        match self.has_badge {
-            false => "hits",
-            true => "answer",
-        }
-    }
-
     /// Asks after a line.
     fn ask(
         &mut self,
@@ -145,7 +122,7 @@ impl Asked {
         }
         if let Some(wrong) = wrong {
             let other = wrong.ask(query);
-            if self.kept(&other) != self.kept(&answer) {
+            if other.listing() != answer.listing() {
                 self.wrong.push((line, other));
             }
         }
@@ -155,7 +132,7 @@ impl Asked {
         self.note(line, &answer);
     }
 
-    /// Whether what must be kept stays the same between all merge steps that can follow.
+    /// Whether the hits stay the same between all merge steps that can follow.
     fn is_kept_by_steps(&mut self, session: &Session, query: &Query, answer: &Answer) -> bool {
         if !View::is_due(session.probe.image()) {
             return true;
@@ -163,7 +140,7 @@ impl Asked {
         let mut probe = session.probe.clone();
         while probe.step().is_ok() {
             self.steps += 1;
-            if self.kept(&probe.ask(query)) != self.kept(answer) {
+            if probe.ask(query).listing() != answer.listing() {
                 return false;
             }
         }
@@ -175,16 +152,16 @@ impl Asked {
             Answer::Found { taken, .. } => *taken,
             _ => 0,
         };
-        let kept = self.kept(answer);
+        let hits = answer.listing();
         match self.runs.last_mut() {
-            Some(run) if run.kept == kept => {
+            Some(run) if run.hits == hits => {
                 run.last = line;
                 run.taken = (run.taken.0.min(taken), run.taken.1.max(taken));
             }
             _ => self.runs.push(Run {
                 first: line,
                 last: line,
-                kept,
+                hits,
                 taken: (taken, taken),
             }),
         }
@@ -198,20 +175,17 @@ impl Asked {
         let Query {
             places,
             identifiers,
-            scope,
+            stretch,
         } = query;
-        let over = match scope.stretch {
+        let over = match *stretch {
             Stretch::ALL => String::new(),
             part => format!(" over {}", text::windows(part)),
         };
-        let under = scope.badge.as_ref().map_or(String::new(), |badge| {
-            format!(" under {}", text::badge(badge))
-        });
         let names = identifiers.iter().map(|name| text::identifier(name));
         let names: String = names.map(|name| format!(" {name}")).collect();
         writeln!(
             out,
-            "Q {places}{names}{over}{under}: asked {} times, on a fresh card and after every line, and {} times between merge steps{passed}",
+            "Q {places}{names}{over}: asked {} times, on a fresh card and after every line, and {} times between merge steps{passed}",
             self.lines, self.steps
         )?;
         let lines: Vec<String> = self.runs.iter().map(Run::lines).collect();
@@ -219,10 +193,9 @@ impl Asked {
         for (lines, run) in lines.iter().zip(&self.runs) {
             writeln!(out, "{lines:width$}  {}", run.words())?;
         }
-        let what = self.what();
         match &self.changed[..] {
-            [] => writeln!(out, "no merge step changed the {what}")?,
-            lines => writeln!(out, "merge steps CHANGED the {what} at {}", spans(lines))?,
+            [] => writeln!(out, "no merge step changed the hits")?,
+            lines => writeln!(out, "merge steps CHANGED the hits at {}", spans(lines))?,
         }
         match &self.unlike_ledger[..] {
             [] => writeln!(out, "ledger: same after every line")?,
@@ -232,29 +205,21 @@ impl Asked {
     }
 
     fn tell_wrong(&self, name: &str, out: &mut dyn Write) -> Result<(), Failure> {
-        let what = self.what();
         if self.wrong.is_empty() {
-            writeln!(out, "{name}: the same {what} after every line")?;
+            writeln!(out, "{name}: the same hits after every line")?;
         }
         for same in self
             .wrong
-            .chunk_by(|one, next| one.0 + 1 == next.0 && self.kept(&one.1) == self.kept(&next.1))
+            .chunk_by(|one, next| one.0 + 1 == next.0 && one.1.listing() == next.1.listing())
         {
             let (Some(first), Some(last)) = (same.first(), same.last()) else {
                 continue;
             };
             let (span, hits) = (span(first.0, last.0), listed(&first.1));
-            match (self.has_badge, &first.1) {
-                (false, _) => writeln!(out, "{name}: other hits, {span}  {hits}")?,
-                (true, Answer::Found { taken, .. }) => {
-                    let taken = text::count(*taken, "posting");
-                    writeln!(out, "{name}: another answer, {span}  {hits}; {taken} taken")?;
-                }
-                (true, _) => writeln!(out, "{name}: another answer, {span}  {hits}")?,
-            }
+            writeln!(out, "{name}: other hits, {span}  {hits}")?;
         }
         let same = self.lines - self.wrong.len();
-        writeln!(out, "{name}: our {what} {same} times of {}", self.lines)?;
+        writeln!(out, "{name}: our hits {same} times of {}", self.lines)?;
         Ok(())
     }
 }
@@ -265,8 +230,8 @@ impl Run {
     }
 
     fn words(&self) -> String {
-        let hits = listed(&self.kept);
-        match (&self.kept, self.taken) {
+        let hits = listed(&self.hits);
+        match (&self.hits, self.taken) {
             (Answer::Found { .. }, (least, most)) if least == most => {
                 format!("{hits}; {} taken", text::count(least, "posting"))
             }

@@ -5,12 +5,13 @@ use crate::arguments::Arguments;
 use crate::engines::{Answer, Engine};
 use crate::failure::Failure;
 use crate::json::{list, object, string};
-use crate::lines::{self, Line, Query, Scope};
+use crate::lines::{self, Line, Query};
 use crate::progress::Progress;
 use crate::reckoning::{Product, Rarity, Reckoning};
 use crate::session::{Session, Told};
 use crate::text;
 use crate::view::{Merge, Owner, Partition, Posting, View, span};
+use gemsilver::Stretch;
 use second::ledger::Ledger;
 use std::collections::BTreeMap;
 use std::io::Write;
@@ -26,7 +27,7 @@ answer with its reckoning, and a window picked by a click, shown wherever its
 counts lie. The answers on it are the proved engine's; the rest is display and
 not proved. It can be printed. With --from and --to every query is asked over the
 windows from one number to the other, and partitions that are passed over for
-that are marked. A page shows every window, and no badge is taken.",
+that are marked.",
     example: "page lessons/4-between-merge-steps/lines.txt --blocks 64 > lesson.html",
     asks: true,
     obey,
@@ -38,20 +39,16 @@ const TEMPLATE: &str = include_str!("../page.html");
 const PLACE: &str = "/*DATA*/null";
 
 fn obey(arguments: &mut Arguments, out: &mut dyn Write) -> Result<Outcome, Failure> {
-    if arguments.badge.is_some() {
-        let why = "page shows every window: it takes no --badge";
-        return Err(Failure::Usage(why.to_string()));
-    }
     let file = arguments.file("FILE")?;
     arguments.end()?;
     let lines = lines::read(&file)?;
     let mut session = Session::new(arguments.sizes)?;
-    let scope = arguments.scope();
-    let mut recorder = Recorder::new(&lines, &scope);
+    let stretch = arguments.stretch();
+    let mut recorder = Recorder::new(&lines, stretch);
     let mut progress = Progress::new("line", lines.len());
     let mut moments = vec![recorder.moment(&session, None, None)?];
     for (number, line) in (1..).zip(&lines) {
-        let told = session.obey_line(line, &scope);
+        let told = session.obey_line(line, stretch);
         moments.push(recorder.moment(&session, Some(line), told.as_ref())?);
         progress.tell(number);
     }
@@ -111,15 +108,14 @@ struct Recorder {
 }
 
 impl Recorder {
-    fn new(lines: &[Vec<u8>], scope: &Scope) -> Self {
+    fn new(lines: &[Vec<u8>], stretch: Stretch) -> Self {
         let mut queries: Vec<(String, Query)> = Vec::new();
         for line in lines {
             let shown = text::line(line);
             if let Line::Command(lines::Command::Query(query)) = Line::of(line)
                 && !queries.iter().any(|(other, _)| *other == shown)
             {
-                let scope = scope.clone();
-                queries.push((shown, Query { scope, ..query }));
+                queries.push((shown, Query { stretch, ..query }));
             }
         }
         Recorder {
@@ -382,7 +378,7 @@ fn reckoned(answer: &Answer, view: &View, query: &Query) -> Vec<(&'static str, S
         let none = || list::<String>([]);
         return vec![("ids", none()), ("hits", none())];
     };
-    let reckoning = Reckoning::of(view, &query.identifiers, &query.scope);
+    let reckoning = Reckoning::of(view, &query.identifiers, query.stretch);
     let hit = |&(window, score): &(u32, u32)| {
         let products = reckoning.products(window).into_iter().map(product);
         object([

@@ -12,7 +12,7 @@ use std::io::Write;
 
 pub const COMMAND: Command = Command {
     name: "query",
-    usage: "query FILE:LINE PLACES IDENTIFIER.. [--from N] [--to N] [--badge IDENTIFIER]..",
+    usage: "query FILE:LINE PLACES IDENTIFIER.. [--from N] [--to N]",
     summary: "a query asked at a moment, with the ledger's answer beside it",
     help: "
 Asks the proved engine at that moment: the windows that match the identifiers
@@ -23,11 +23,6 @@ With --from and --to the query is asked over the windows from one number to the
 other: only they are hits, and only they are counted in N and F. Partitions whose
 windows all lie outside are passed over, and their postings are not taken up;
 which ones these are is displayed below the hits.
-
-With --badge, once for each of 1 to 8 access identifiers, it is asked as by
-somebody who sees those windows alone in which one of these counts: only they are
-hits, and only they are counted in N, F and postings taken, wherever they are
-stored. Of partitions nothing is displayed then.
 
 Exit status 1 where the ledger's answer differs. A snapshot that the proved engine
 refuses as a whole is an error.",
@@ -45,7 +40,7 @@ fn obey(arguments: &mut Arguments, out: &mut dyn Write) -> Result<Outcome, Failu
     let query = Query {
         places,
         identifiers: arguments.identifiers()?,
-        scope: arguments.scope(),
+        stretch: arguments.stretch(),
     };
     let view = view(&moment)?;
     moment.begin(out)?;
@@ -61,9 +56,7 @@ fn obey(arguments: &mut Arguments, out: &mut dyn Write) -> Result<Outcome, Failu
     for hit in ours.hits() {
         writeln!(out, "  {hit}")?;
     }
-    if let (Some(stretch), None, Answer::Found { .. }) =
-        (arguments.stretch, &arguments.badge, &ours)
-    {
+    if let (Some(stretch), Answer::Found { .. }) = (arguments.stretch, &ours) {
         writeln!(out, "{LABEL}\n{}", view.passed_over_line(stretch))?;
     }
     Ok(Outcome::good_if(told.is_none_or(|told| told.is_same())))

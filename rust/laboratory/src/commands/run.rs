@@ -12,15 +12,14 @@ use std::io::Write;
 
 pub const COMMAND: Command = Command {
     name: "run",
-    usage: "run FILE [--blocks N] [--entries N] [--from N] [--to N] [--badge IDENTIFIER]..",
+    usage: "run FILE [--blocks N] [--entries N] [--from N] [--to N]",
     summary: "every line with its answer, and the plain ledger's beside it",
     help: "
 Gives the lines to the proved engine and to a plain ledger of live windows (not
 proved), on a fresh card. Each line is printed with its number, the engine's
 answer in words, and `same` or the ledger's answer where that differs. Warns of
 bytes that do not show: a carriage return, a byte order mark, a tab. With --from
-and --to every query is asked over the windows from one number to the other, with
---badge under a badge of these access identifiers.
+and --to every query is asked over the windows from one number to the other.
 
 Exit status 0 only where every line was understood and every answer is the
 ledger's; else 1.",
@@ -52,9 +51,9 @@ fn obey(arguments: &mut Arguments, out: &mut dyn Write) -> Result<Outcome, Failu
     };
     let mut progress = Progress::new("line", lines.len());
     writeln!(out, "{LABEL}")?;
-    let scope = arguments.scope();
-    if let Some(line) = arguments.scope_line() {
-        writeln!(out, "{line}")?;
+    let stretch = arguments.stretch();
+    if arguments.stretch.is_some() {
+        writeln!(out, "# queries are asked over {}", text::windows(stretch))?;
     }
     for (number, line) in (1..).zip(&lines) {
         write!(out, "{number:4}  {}", text::line(line))?;
@@ -64,7 +63,7 @@ fn obey(arguments: &mut Arguments, out: &mut dyn Write) -> Result<Outcome, Failu
                 run.unknown += 1;
                 writeln!(out, " -> ? not understood: {why}")?;
             }
-            Line::Command(command) => run.obey(&command.over(&scope), out)?,
+            Line::Command(command) => run.obey(&command.over(stretch), out)?,
         }
         for warning in lines::warnings(line) {
             writeln!(out, "      warning: {warning}")?;

@@ -13,7 +13,7 @@ use std::io::Write;
 
 pub const COMMAND: Command = Command {
     name: "why",
-    usage: "why FILE:LINE WINDOW IDENTIFIER.. [--from N] [--to N] [--badge IDENTIFIER]..",
+    usage: "why FILE:LINE WINDOW IDENTIFIER.. [--from N] [--to N]",
     summary: "how a window's score comes about, held against the query's",
     help: "
 Reckons the window's score for these identifiers: for each its count and what
@@ -22,8 +22,7 @@ product; and the total. S(n) is the binary logarithm of n in sixteenths, rounded
 down. The proved engine is then asked, and its score must be equal.
 
 With --from and --to it is the score of a query over the windows from one number
-to the other: N and F count only these. With --badge it is that of a query under a
-badge of these access identifiers: N and F count only windows that it sees.
+to the other: N and F count only these.
 
 Exit status 1 where it is not, or where the query is refused.",
     example: "why lessons/1-full-length/lines.txt:14 1 DOOR-OPEN-LOGIC-BOX COIN",
@@ -40,29 +39,25 @@ fn obey(arguments: &mut Arguments, out: &mut dyn Write) -> Result<Outcome, Failu
     let identifiers = arguments.identifiers()?;
     let view = view(&moment)?;
     moment.begin(out)?;
-    let scope = arguments.scope();
-    let reckoning = Reckoning::of(&view, &identifiers, &scope);
+    let stretch = arguments.stretch();
+    let reckoning = Reckoning::of(&view, &identifiers, stretch);
     writeln!(out, "# reckoned for display, not proved")?;
-    if arguments.stretch.is_some() && scope.badge.is_none() {
-        writeln!(out, "{}", view.passed_over_line(scope.stretch))?;
+    if arguments.stretch.is_some() {
+        writeln!(out, "{}", view.passed_over_line(stretch))?;
     }
     writeln!(out, "N {}, S(N) {}", reckoning.live, reckoning.sixteenths)?;
     let products = reckoning.products(window);
     for (rarity, product) in reckoning.rarities.iter().zip(&products) {
         writeln!(out, "{}", line(&reckoning, rarity, product.as_ref()))?;
     }
-    let is_inside = scope.is_inside(window);
-    let is_hidden = scope.badge.is_some() && !reckoning.has(window);
-    let total = total(&products).filter(|_| is_inside && !is_hidden && window != view.open);
+    let is_inside = (u32::from(stretch.first)..=u32::from(stretch.last)).contains(&window);
+    let total = total(&products).filter(|_| is_inside && window != view.open);
     match total {
         Some(total) => writeln!(out, "total {total}")?,
         None if window == view.open => writeln!(out, "window {window} is open: no result yet")?,
         None if !is_inside => {
-            let windows = windows(scope.stretch);
+            let windows = windows(stretch);
             writeln!(out, "window {window} is none of {windows}: no hit")?;
-        }
-        None if is_hidden => {
-            writeln!(out, "window {window} is not visible to the badge: no hit")?;
         }
         None => writeln!(out, "none of them counts in window {window}: no hit")?,
     }
@@ -70,7 +65,7 @@ fn obey(arguments: &mut Arguments, out: &mut dyn Write) -> Result<Outcome, Failu
     let query = Query {
         places: PLACES,
         identifiers,
-        scope,
+        stretch,
     };
     compare(&moment, window, &query, total, out)
 }

@@ -91,22 +91,14 @@ struct Reckoned {
     unlisted: usize,
     left_out: usize,
     open: usize,
-    /// Windows that the badge does not see.
-    hidden: usize,
 }
 
 impl Reckoned {
-    /// Every hit of a query, and some windows that are none; under a badge of one or two identifiers, or under none.
-    fn ask(&mut self, written: &Written, line: usize, rng: &mut Rng, has_badge: bool) {
+    /// Every hit of a query, and some windows that are none.
+    fn ask(&mut self, written: &Written, line: usize, rng: &mut Rng) {
         let names = written.identifiers(rng);
         let mut names: Vec<&str> = names.iter().map(|name| &name[..]).collect();
-        let mut options = stretch(written, line, rng);
-        if has_badge {
-            for _ in 0..=rng.below(2) {
-                let access = shown(&rng.pick(&written.history.names));
-                options.extend(["--badge".into(), access]);
-            }
-        }
+        let options = stretch(written, line, rng);
         names.extend(options.iter().map(|word| &word[..]));
         let query = [&["32"][..], &names].concat();
         let listed = hits(&written.at("query", line, &query));
@@ -144,7 +136,6 @@ impl Reckoned {
             self.left_out += usize::from(is_left_out);
             self.open += usize::from(text.contains(" is open: no result yet\n"));
             self.outside += usize::from(text.contains(" is none of windows "));
-            self.hidden += usize::from(text.contains(" is not visible to the badge: "));
             self.unlisted += 1;
         }
     }
@@ -164,7 +155,7 @@ fn every_score_is_reckoned() {
                 written.history.lines.len(),
             ];
             for line in lines {
-                reckoned.ask(&written, line, &mut rng, false);
+                reckoned.ask(&written, line, &mut rng);
             }
         }
     }
@@ -175,25 +166,6 @@ fn every_score_is_reckoned() {
     assert!(reckoned.unlisted >= 100, "{reckoned:?}");
     assert!(reckoned.left_out >= 3, "{reckoned:?}");
     assert!(reckoned.open >= 3, "{reckoned:?}");
-}
-
-#[test]
-fn every_score_under_a_badge_is_reckoned() {
-    let mut reckoned = Reckoned::default();
-    let mut rng = Rng(80);
-    for (seed, plan) in [SMALL, MANY, FULL].iter().enumerate() {
-        let written = Written::new(plan, 25 + seed as u64);
-        let [steps, events] = [&b"M"[..], b"E"].map(|letters| written.history.lines_of(letters));
-        for _ in 0..5 {
-            for line in [rng.pick(&steps), rng.pick(&events)] {
-                reckoned.ask(&written, line, &mut rng, true);
-            }
-        }
-    }
-    println!("{reckoned:?}");
-    assert!(reckoned.hits >= 100, "{reckoned:?}");
-    assert!(reckoned.hidden >= 50, "{reckoned:?}");
-    assert!(reckoned.outside >= 10, "{reckoned:?}");
 }
 
 /// The ledger agrees wherever it is asked: `good` looks at the outcome, and the text says so.
@@ -364,35 +336,6 @@ fn no_merge_step_changes_the_hits() {
     }
     println!("{steps} times between merge steps");
     assert!(steps >= 1_000, "{steps}");
-}
-
-/// Nor the postings taken, where it is asked under a badge.
-#[test]
-fn no_merge_step_changes_an_answer_under_a_badge() {
-    for (seed, plan) in [SMALL, MANY].iter().enumerate() {
-        let written = Written::new(plan, 45 + seed as u64);
-        let [asked, access] = [0, 1].map(|place| shown(&written.history.names[place]));
-        let text = good(&[
-            "moments",
-            &written.file,
-            &format!("Q 9 {asked}"),
-            "--blocks",
-            &written.history.blocks,
-            "--badge",
-            &access,
-        ]);
-        assert!(
-            text.contains("\nno merge step changed the answer\nledger: same after every line\n")
-        );
-        let taken = text.lines().filter_map(|line| line.split_once("; "));
-        let taken: Vec<&str> = taken.map(|(_, taken)| taken).collect();
-        assert!(taken.len() >= 5, "{text}");
-        assert!(taken.iter().all(|taken| !taken.contains(" to ")), "{text}");
-        assert!(
-            !text.contains(", and 0 times between merge steps"),
-            "{text}"
-        );
-    }
 }
 
 /// What `run` must print for a line, by what the second command program prints.

@@ -52,7 +52,7 @@ fn run(block: &str, folder: &Path) -> usize {
 #[test]
 fn every_page_shows_what_its_commands_print() {
     let folders = folders();
-    assert!(folders.len() >= 5, "{folders:?}");
+    assert!(folders.len() >= 4, "{folders:?}");
     for folder in folders {
         let page = fs::read_to_string(folder.join("README.md")).expect("the lesson's page");
         let calls: usize = blocks(&page)

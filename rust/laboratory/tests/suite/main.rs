@@ -1,7 +1,6 @@
 //! The laboratory's command: held against independent programs, by exact cases, and under damage.
 
 mod answers;
-mod badges;
 mod calls;
 mod commands;
 mod damage;

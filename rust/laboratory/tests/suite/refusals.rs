@@ -13,7 +13,7 @@ const LINES: &str = "O\nE A\nC\nQ 1 A\n";
 const PLAN: &str = "# a window\nO\nE A\nC\n";
 
 /// Words of a call, parted by spaces, and what is said of it.
-const REFUSED: [(&str, &str); 83] = [
+const REFUSED: [(&str, &str); 78] = [
     (
         "dance",
         "no such command: dance; gemsilver --help tells more",
@@ -40,23 +40,6 @@ const REFUSED: [(&str, &str); 83] = [
     (
         "at lines.txt:1 --to 3",
         "at asks no query: it takes no --from and --to; ",
-    ),
-    ("run lines.txt --badge", "--badge takes an identifier; "),
-    (
-        "query lines.txt 1 A --badge \\x4",
-        "identifier \\x4: a backslash is written \\\\, ",
-    ),
-    (
-        "mean lines.txt A --badge A",
-        "mean asks no query: it takes no --badge; ",
-    ),
-    (
-        "at lines.txt:1 --badge A",
-        "at asks no query: it takes no --badge; ",
-    ),
-    (
-        "page lines.txt --badge A",
-        "page shows every window: it takes no --badge; ",
     ),
     (
         "open old.snapshot",
@@ -276,12 +259,6 @@ fn the_exit_status_tells_what_was_found() {
         ("query lines.txt 1 A --from 1 --to 1", 0),
         ("query lines.txt 1 A --from 2 --to 1", 0),
         ("why lines.txt 1 A --from 2 --to 1", 1),
-        ("query lines.txt 1 A --badge A", 0),
-        ("why lines.txt 1 A --badge A", 0),
-        ("why lines.txt 1 A --badge B", 0),
-        ("moments lines.txt Q 1 A --badge A", 0),
-        ("against all lines.txt --badge A", 1),
-        ("against stored-taken lines.txt --badge B", 0),
         ("forecast lines.txt plan.txt", 0),
         ("forecast lines.txt:1 plan.txt", 1),
     ];
@@ -296,7 +273,7 @@ fn the_exit_status_tells_what_was_found() {
 }
 
 /// A call of each command.
-const CALLS: [&str; 19] = [
+const CALLS: [&str; 14] = [
     "run lines.txt",
     "at lines.txt:2",
     "at lines.txt:2 look merge",
@@ -308,11 +285,6 @@ const CALLS: [&str; 19] = [
     "moments lines.txt",
     "against all lines.txt",
     "against read-output lines.txt",
-    "run lines.txt --badge A",
-    "why lines.txt 1 A --badge B",
-    "query lines.txt 1 A --badge A",
-    "moments lines.txt --against stored-taken --badge B",
-    "against all lines.txt --badge A",
     "page lines.txt",
     "save lines.txt out.snapshot",
     "--help",

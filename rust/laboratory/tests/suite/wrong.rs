@@ -1,6 +1,6 @@
 //! Wrong engines: the lessons tell each of them apart, and nothing tells the unchanged one apart.
 
-use crate::calls::{bad, call, good, of_repository, shown};
+use crate::calls::{bad, call, good, of_repository};
 use crate::folder::Folder;
 use crate::history::{History, LARGE, MANY, SMALL};
 use laboratory::Outcome;
@@ -9,12 +9,11 @@ use std::collections::BTreeSet;
 
 const UNTOLD: &str = "these lines do not tell it apart";
 
-const FILES: [&str; 6] = [
+const FILES: [&str; 5] = [
     "lessons/1-full-length/lines.txt",
     "lessons/2-removed-is-not-gone/lines.txt",
     "lessons/3-several-partitions/lines.txt",
     "lessons/4-between-merge-steps/lines.txt",
-    "lessons/5-under-a-badge/lines.txt",
     "rust/second/samples/lucky.txt",
 ];
 
@@ -29,14 +28,12 @@ fn row<'a>(table: &'a str, name: &str) -> &'a str {
     verdict.trim_start()
 }
 
-/// The engines that a file tells apart, by the table and by a call for each. Those that need a stretch or a badge are in the table where there is
-/// one.
+/// The engines that a file tells apart, by the table and by a call for each. Those that need a stretch are in the table where there is one.
 fn told_apart(file: &str, options: &[&str]) -> BTreeSet<&'static str> {
-    let [has_stretch, has_badge] = ["--from", "--badge"].map(|option| options.contains(&option));
+    let has_stretch = options.contains(&"--from");
     let faults = Fault::ALL.into_iter();
     let faults: Vec<Fault> = faults
         .filter(|fault| has_stretch || !fault.needs_stretch())
-        .filter(|fault| has_badge || !fault.needs_badge())
         .collect();
     let table = call(&[&["against", "all", file][..], options].concat());
     assert_eq!(row(&table.text, "unchanged"), UNTOLD, "{file}");
@@ -71,7 +68,7 @@ fn every_wrong_engine_is_told_apart_by_a_lesson() {
     let all = |needs_stretch: bool| -> BTreeSet<&str> {
         let faults = Fault::ALL
             .iter()
-            .filter(|it| it.needs_stretch() <= needs_stretch && !it.needs_badge());
+            .filter(|it| it.needs_stretch() <= needs_stretch);
         faults.map(|fault| fault.name()).collect()
     };
     assert_eq!(told, all(false));
@@ -84,47 +81,6 @@ fn every_wrong_engine_is_told_apart_by_a_lesson() {
         told.extend(told_apart(file, &options));
     }
     assert_eq!(told, all(true));
-    told.extend(told_apart(&files[4], &["--badge", "ACME"]));
-    assert_eq!(told.len(), Fault::ALL.len(), "{told:?}");
-}
-
-/// Of three windows one is hidden, and L is in it and in one other.
-#[test]
-fn a_badge_tells_engines_apart_that_nothing_else_does() {
-    let folder = Folder::new();
-    let two = BTreeSet::from(["hidden-frequency", "stored-taken"]);
-    let told = |lines: &str, options: &[&str]| -> BTreeSet<&str> {
-        let file = folder.write("lines.txt", lines);
-        let told = told_apart(&file, options);
-        told.intersection(&two).copied().collect()
-    };
-    let seen = "O\nE A\nE L\nC\nO\nE A\nC\n";
-    let hidden = "O\nE B\nE L\nC\n";
-    let both = format!("{seen}{hidden}Q 3 L\n");
-    assert_eq!(told(&both, &["--badge", "A"]), two);
-    assert_eq!(
-        told(&both, &["--badge", "A", "--from", "1", "--to", "3"]),
-        two
-    );
-    // The hidden window lies outside, or is visible as well.
-    assert_eq!(
-        told(&both, &["--badge", "A", "--from", "1", "--to", "2"]),
-        BTreeSet::from(["stored-taken"])
-    );
-    assert_eq!(
-        told(&both, &["--badge", "A", "--badge", "B"]),
-        BTreeSet::new()
-    );
-    assert_eq!(
-        told(&format!("{seen}Q 3 L\n"), &["--badge", "A"]),
-        BTreeSet::new()
-    );
-    // A flush in the midst of a window shows where nothing is hidden.
-    let split = "O\nE A\nE L\nF\nE L\nC\nQ 1 L\n";
-    assert_eq!(
-        told(split, &["--badge", "A"]),
-        BTreeSet::from(["stored-taken"])
-    );
 }
 
 /// Three partitions: LUCKY in windows 1 and 2, LUCKY in 3, TILT in 4 and 5 and LUCKY in 4; one more of LUCKY in 7 and of TILT in 6, whose list is the
@@ -183,27 +139,6 @@ fn nothing_tells_the_unchanged_engine_apart() {
         told.extend(told_apart(&file, &["--blocks", &history.blocks]));
     }
     // Random lines are no worse a test than the lessons, or these histories would have nothing in them.
-    assert!(told.len() >= 6, "{told:?}");
-}
-
-#[test]
-fn nothing_tells_the_unchanged_engine_apart_under_a_badge() {
-    let folder = Folder::new();
-    let mut told = BTreeSet::new();
-    for (seed, plan) in [SMALL, MANY, SMALL].iter().enumerate() {
-        let history = History::new(plan, 95 + seed as u64);
-        let file = folder.write("lines.txt", history.text());
-        let [one, other] = [0, 1].map(|place| shown(&history.names[place]));
-        let badge = ["--badge", &one, "--badge", &other];
-        told.extend(told_apart(
-            &file,
-            &[&["--blocks", &history.blocks][..], &badge].concat(),
-        ));
-    }
-    assert!(
-        told.contains("hidden-frequency") && told.contains("stored-taken"),
-        "{told:?}"
-    );
     assert!(told.len() >= 6, "{told:?}");
 }
 

@@ -1,6 +1,6 @@
 //! Tell the mean count of an identifier.
 
-use super::query::{Asked, read_places};
+use super::query::read_places;
 use crate::refusal::Refusal;
 use crate::state::State;
 use crate::stretch::Stretch;
@@ -25,12 +25,7 @@ pub fn mean(
     register: &[u8],
     identifier: &[u8],
 ) -> Result<Mean, Refusal> {
-    let asked = Asked {
-        ids: &[identifier],
-        badge: None,
-        stretch: Stretch::ALL,
-    };
-    let reading = read_places(state, card, register, &asked)?;
+    let reading = read_places(state, card, register, &[identifier], Stretch::ALL)?;
     let counts = reading.counts(&state.windows, Stretch::ALL);
     if counts.is_empty() {
         return Err(Refusal::Uncounted);

@@ -3,11 +3,11 @@
 //! A wrong engine goes another way at one step; `wrong_ways` has these.
 
 use super::wrong_ways::{
-    added_frequency, by_last_lists, by_lowest_windows, filled_first, hidden_too, live_outside,
-    mended_frequency, quotient_weight, taken_outside, with_output, without_buffer,
+    added_frequency, by_last_lists, by_lowest_windows, filled_first, mended_frequency,
+    quotient_weight, taken_outside, with_output, without_buffer,
 };
 use crate::faults::Fault;
-use crate::limits::{BADGE_IDENTIFIERS, HITS, QUERY_IDENTIFIERS};
+use crate::limits::{HITS, QUERY_IDENTIFIERS};
 use crate::partition::{Stored, read_all};
 use crate::postings::{Sums, add, is_count};
 use crate::refusal::Refusal;
@@ -24,19 +24,8 @@ use std::collections::{BTreeMap, BTreeSet};
 pub struct Found {
     /// How many places of the list are filled.
     pub hits: u16,
-    /// How many stored postings were taken up. Under a badge, how many counts of the
-    /// query's identifiers the visible windows have, wherever they are stored.
+    /// How many stored postings were taken up.
     pub taken: u32,
-}
-
-/// What a query asks for.
-pub(crate) struct Asked<'a> {
-    /// The identifiers.
-    pub ids: &'a [&'a [u8]],
-    /// The badge's identifiers, if it is asked under one.
-    pub badge: Option<&'a [&'a [u8]]>,
-    /// The windows that it is asked over.
-    pub stretch: Stretch,
 }
 
 /// Fills the list with the closed windows of the stretch that score highest on the
@@ -50,12 +39,7 @@ pub fn query(
     stretch: Stretch,
     hits: &mut [Hit],
 ) -> Result<Found, Refusal> {
-    let asked = Asked {
-        ids,
-        badge: None,
-        stretch,
-    };
-    query_with(None, state, card, register, &asked, hits)
+    query_with(None, state, card, register, ids, stretch, hits)
 }
 
 /// The query of the right engine, or of the one with a fault.
@@ -64,19 +48,16 @@ pub(crate) fn query_with(
     state: &State,
     card: &[u8],
     register: &[u8],
-    asked: &Asked,
+    ids: &[&[u8]],
+    stretch: Stretch,
     hits: &mut [Hit],
 ) -> Result<Found, Refusal> {
-    let stretch = asked.stretch;
-    let reading = read_places(state, card, register, asked)?;
-    if !is_query(asked.ids, hits) {
+    let reading = read_places(state, card, register, ids, stretch)?;
+    if !is_query(ids, hits) {
         return Err(Refusal::BadQuery);
     }
     if stretch.first > stretch.last {
         return Err(Refusal::BadStretch);
-    }
-    if !asked.badge.is_none_or(is_badge) {
-        return Err(Refusal::BadBadge);
     }
     let reading = match fault {
         Some(Fault::ReadOutput) => with_output(state, card, reading),
@@ -96,15 +77,13 @@ pub(crate) fn query_with(
     };
     let listed = ranked.len().min(hits.len());
     hits[..listed].copy_from_slice(&ranked[..listed]);
-    let taken = reading.taken(&counts);
-    let taken = match fault {
-        Some(Fault::TakenOutside) => taken + taken_outside(state, card, stretch, &reading),
-        Some(Fault::StoredTaken) => reading.stored(),
-        _ => taken,
+    let outside = match fault {
+        Some(Fault::TakenOutside) => taken_outside(state, card, stretch, &reading),
+        _ => 0,
     };
     Ok(Found {
         hits: listed as u16,
-        taken,
+        taken: reading.taken() + outside,
     })
 }
 
@@ -115,8 +94,6 @@ type Pair = (u16, Reverse<u16>);
 pub(super) struct Reading {
     /// The numbers of its identifiers.
     pub numbers: BTreeSet<u16>,
-    /// The numbers of the badge's identifiers, if it is asked under one.
-    pub badge: Option<BTreeSet<u16>>,
     /// All postings by place, of every identifier: in the partitions that are not passed
     /// over, the oldest first, then in the buffer.
     pub places: Vec<Vec<Posting>>,
@@ -125,44 +102,20 @@ pub(super) struct Reading {
 }
 
 impl Reading {
-    /// Postings taken: all that are stored. Under a badge that number would tell of
-    /// merges and of hidden windows, so there it is that of the counts that show.
-    fn taken(&self, counts: &Sums) -> u32 {
-        match self.badge {
-            None => self.stored(),
-            Some(_) => counts.len() as u32,
-        }
-    }
-
     /// How many stored postings of the query's identifiers there are.
-    fn stored(&self) -> u32 {
+    fn taken(&self) -> u32 {
         let postings = self.places.iter().flatten();
-        let stored = postings.filter(|posting| self.numbers.contains(&posting.id));
-        stored.count() as u32
+        let taken = postings.filter(|posting| self.numbers.contains(&posting.id));
+        taken.count() as u32
     }
 
     /// The sums above 0 in closed windows of the stretch, of every identifier. Every
     /// window but the open one is closed, even above the last number given.
-    pub fn closed(&self, windows: &Windows, stretch: Stretch) -> impl Iterator<Item = (Pair, i32)> {
+    fn shown(&self, windows: &Windows, stretch: Stretch) -> impl Iterator<Item = (Pair, i32)> {
         let open = windows.open;
         let sums = self.sums.iter().map(|(&pair, &sum)| (pair, sum));
         sums.filter(move |&((_, Reverse(window)), sum)| {
             window != open && stretch.has(window) && sum > 0
-        })
-    }
-
-    /// Of these, the sums in visible windows. Without a badge all are; with one, those in
-    /// which an identifier of the badge counts.
-    fn shown(&self, windows: &Windows, stretch: Stretch) -> impl Iterator<Item = (Pair, i32)> {
-        let visible: Option<BTreeSet<u16>> = self.badge.as_ref().map(|badge| {
-            let closed = self.closed(windows, stretch);
-            let of_badge = closed.filter(|((id, _), _)| badge.contains(id));
-            of_badge.map(|((_, window), _)| window.0).collect()
-        });
-        let closed = self.closed(windows, stretch);
-        closed.filter(move |((_, window), _)| {
-            let visible = visible.as_ref();
-            visible.is_none_or(|visible| visible.contains(&window.0))
         })
     }
 
@@ -174,43 +127,39 @@ impl Reading {
             .collect()
     }
 
-    /// N: how many windows have a sum that shows.
-    pub fn live(&self, windows: &Windows, stretch: Stretch) -> u16 {
+    /// N: how many closed windows of the stretch have a count of any identifier.
+    fn live(&self, windows: &Windows, stretch: Stretch) -> u16 {
         let shown = self.shown(windows, stretch);
         let different: BTreeSet<u16> = shown.map(|((_, window), _)| window.0).collect();
         different.len() as u16
     }
 }
 
-/// Reads and judges what card, register and buffer hold for a query, and then judges its
-/// identifiers: refusals 1 to 4 of every call that reads counts by identifier. The badge's
-/// identifiers are read and judged as the query's are, however many they be.
+/// Reads and judges what card, register and buffer hold for a query over a stretch, and
+/// then judges its identifiers: refusals 1 to 4 of every call that reads counts by
+/// identifier.
 pub(super) fn read_places(
     state: &State,
     card: &[u8],
     register: &[u8],
-    asked: &Asked,
+    ids: &[&[u8]],
+    stretch: Stretch,
 ) -> Result<Reading, Refusal> {
     check_state(state)?;
     check_card(state, card)?;
     check_register(state, register)?;
     let names = read(register).ok_or(Refusal::Malformed)?;
     let stored = read_all(&state.partitions.to_list(), card).ok_or(Refusal::Malformed)?;
-    let numbers_of = |ids: &[&[u8]]| -> BTreeSet<u16> {
-        let numbers = ids.iter().filter_map(|id| number_of(&names, id));
-        numbers.collect()
-    };
-    let all_ids = [asked.ids, asked.badge.unwrap_or_default()].concat();
-    let mut places = lists_of(&stored, asked.stretch).ok_or(Refusal::Malformed)?;
+    let numbers: BTreeSet<u16> = ids.iter().filter_map(|id| number_of(&names, id)).collect();
+    let mut places = lists_of(&stored, stretch).ok_or(Refusal::Malformed)?;
     let buffered = state.buffer.to_list();
-    let sums = sums_of(&places, &buffered, &numbers_of(&all_ids)).ok_or(Refusal::Malformed)?;
-    if !all_ids.iter().all(|id| is_identifier(id)) {
+    let sums = sums_of(&places, &buffered, &numbers).ok_or(Refusal::Malformed)?;
+    if !ids.iter().all(|id| is_identifier(id)) {
         return Err(Refusal::BadIdentifier);
     }
     places.push(buffered);
     Ok(Reading {
-        numbers: numbers_of(asked.ids),
-        badge: asked.badge.map(numbers_of),
+        numbers,
         places,
         sums,
     })
@@ -220,10 +169,6 @@ fn is_query(ids: &[&[u8]], hits: &[Hit]) -> bool {
     (1..=QUERY_IDENTIFIERS).contains(&ids.len())
         && (1..=HITS).contains(&hits.len())
         && all_differ(ids)
-}
-
-fn is_badge(badge: &[&[u8]]) -> bool {
-    (1..=BADGE_IDENTIFIERS).contains(&badge.len())
 }
 
 /// All postings of each partition that is not passed over, or `None` if a list is
@@ -267,12 +212,11 @@ fn rarities(
     reading: &Reading,
 ) -> BTreeMap<u16, u32> {
     let live = match fault {
-        Some(Fault::LiveOutside) => live_outside(state, reading),
+        Some(Fault::LiveOutside) => state.windows.live,
         _ => reading.live(&state.windows, stretch),
     };
     let counts = match fault {
         Some(Fault::FrequencyOutside) => reading.counts(&state.windows, Stretch::ALL),
-        Some(Fault::HiddenFrequency) => hidden_too(state, stretch, reading),
         _ => reading.counts(&state.windows, stretch),
     };
     let rarity = |&id: &u16| {

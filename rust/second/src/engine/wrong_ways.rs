@@ -11,22 +11,25 @@ use crate::weights::sixteenths;
 use std::cmp::Reverse;
 use std::collections::{BTreeMap, BTreeSet};
 
-/// What is read if the sums are those of the places as they are now. They need be no
-/// counts, and are cut to them.
-fn summed(reading: Reading) -> Reading {
+/// What is read if these are the places. Their sums need be no counts, and are cut to them.
+fn reading_of(numbers: BTreeSet<u16>, places: Vec<Vec<Posting>>) -> Reading {
     let mut sums = Sums::new();
-    for place in &reading.places {
+    for place in &places {
         add(&mut sums, place);
     }
     cut_to_counts(&mut sums);
-    Reading { sums, ..reading }
+    Reading {
+        numbers,
+        places,
+        sums,
+    }
 }
 
 /// What is read if the output in progress is read beside its inputs.
 pub fn with_output(state: &State, card: &[u8], mut reading: Reading) -> Reading {
     let output = output_so_far(state, card).unwrap_or_default();
     reading.places.push(output);
-    summed(reading)
+    reading_of(reading.numbers, reading.places)
 }
 
 /// The postings that the steps done must have written, or `None` if nothing is due
@@ -41,7 +44,7 @@ fn output_so_far(state: &State, card: &[u8]) -> Option<Vec<Posting>> {
 /// What is read if the buffer, the last of the places, is not.
 pub fn without_buffer(mut reading: Reading) -> Reading {
     reading.places.pop();
-    summed(reading)
+    reading_of(reading.numbers, reading.places)
 }
 
 /// What is read if a partition is passed over wherever its lowest window is outside the stretch.
@@ -65,7 +68,7 @@ fn without_partitions(mut reading: Reading, is_read: impl Fn(&[Posting]) -> bool
     let buffer = reading.places.pop();
     reading.places.retain(|postings| is_read(postings));
     reading.places.extend(buffer);
-    summed(reading)
+    reading_of(reading.numbers, reading.places)
 }
 
 /// How many postings of the query's identifiers the partitions have that are passed over.
@@ -79,24 +82,6 @@ pub fn taken_outside(state: &State, card: &[u8], stretch: Stretch, reading: &Rea
         numbers.map(|&id| partition.list_length(id))
     });
     taken.sum::<usize>() as u32
-}
-
-/// N of all windows: the state's. It has none for a badge, whose windows are counted as
-/// far as they are read.
-pub fn live_outside(state: &State, reading: &Reading) -> u16 {
-    match reading.badge {
-        None => state.windows.live,
-        Some(_) => reading.live(&state.windows, Stretch::ALL),
-    }
-}
-
-/// The counts of the query's identifiers in closed windows of the stretch, of which a
-/// badge does not see all.
-pub fn hidden_too(state: &State, stretch: Stretch, reading: &Reading) -> Sums {
-    let closed = reading.closed(&state.windows, stretch);
-    closed
-        .filter(|((id, _), _)| reading.numbers.contains(id))
-        .collect()
 }
 
 /// F added up over the places: a window counts in each that holds it.
@@ -151,12 +136,8 @@ pub fn filled_first(
     room: usize,
 ) -> Vec<Hit> {
     let above_0 = |place: &Vec<Posting>| place.iter().copied().filter(|p| p.count > 0).collect();
-    let above_0 = summed(Reading {
-        numbers: reading.numbers.clone(),
-        badge: reading.badge.clone(),
-        places: reading.places.iter().map(above_0).collect(),
-        sums: Sums::new(),
-    });
+    let places = reading.places.iter().map(above_0).collect();
+    let above_0 = reading_of(reading.numbers.clone(), places);
     let counts = above_0.counts(&state.windows, stretch);
     let mut filled = ranked(&scores(&counts, rarities));
     filled.truncate(room);

@@ -2,8 +2,7 @@
 //!
 //! The ledger has the counts of every live window, and answers queries and
 //! means from those of the closed ones alone: the open one shows from its close.
-//! A query is answered from the ledger cut down to the windows of its stretch, and
-//! one under a badge from those of them that the badge sees.
+//! A query is answered from the ledger cut down to the windows of its stretch.
 //! Beside it runs an account of the card: how many postings lie where, which
 //! decides when there is no room and what a query takes up. A forecast makes
 //! the planned calls on a copy of both. Neither uses any code or type of the
@@ -23,13 +22,9 @@ pub type Answer<T> = Result<T, u8>;
 pub struct Reply {
     /// Window and score of each hit.
     pub hits: Vec<(u32, u32)>,
-    /// Stored postings taken up. Under a badge, how many of the identifiers count in
-    /// each visible window, added up.
+    /// Stored postings taken up.
     pub taken: usize,
 }
-
-/// The counts of windows, by identifier.
-type Windows<'a> = BTreeMap<u32, &'a BTreeMap<Vec<u8>, u32>>;
 
 /// What a mean answers.
 #[derive(Clone, PartialEq, Eq, Debug)]
@@ -210,35 +205,23 @@ impl Ledger {
         if !ids.iter().all(|id| is_identifier(id)) {
             return Err(4);
         }
-        check_query(ids, &stretch, places)?;
+        let different: BTreeSet<&[u8]> = ids.iter().copied().collect();
+        if ids.is_empty() || ids.len() > 5 || different.len() < ids.len() {
+            return Err(14);
+        }
+        if places == 0 || places > 32 {
+            return Err(14);
+        }
+        if stretch.start() > stretch.end() {
+            return Err(17);
+        }
         let numbers: Vec<usize> = ids.iter().filter_map(|id| self.number(id)).collect();
+        let mut hits = self.scores(ids, &stretch);
+        hits.sort_by(|a, b| b.1.cmp(&a.1).then(b.0.cmp(&a.0)));
+        hits.truncate(places);
         Ok(Reply {
-            hits: best(ids, &self.inside(&stretch), places),
+            hits,
             taken: self.account.stored(&numbers, &stretch),
-        })
-    }
-
-    /// The best windows of a stretch that a badge sees, for the identifiers. The account
-    /// of the card has no part in it.
-    pub fn query_as(
-        &self,
-        ids: &[&[u8]],
-        badge: &[&[u8]],
-        stretch: RangeInclusive<u32>,
-        places: usize,
-    ) -> Answer<Reply> {
-        if !ids.iter().chain(badge).all(|id| is_identifier(id)) {
-            return Err(4);
-        }
-        check_query(ids, &stretch, places)?;
-        if badge.is_empty() || badge.len() > 8 {
-            return Err(18);
-        }
-        let mut visible = self.inside(&stretch);
-        visible.retain(|_, counts| badge.iter().any(|&id| counts.contains_key(id)));
-        Ok(Reply {
-            hits: best(ids, &visible, places),
-            taken: ids.iter().map(|id| with(id, &visible)).sum(),
         })
     }
 
@@ -308,10 +291,31 @@ impl Ledger {
         self.known.iter().position(|known| known == identifier)
     }
 
-    /// The closed windows of a stretch.
-    fn inside(&self, stretch: &RangeInclusive<u32>) -> Windows<'_> {
+    /// Every closed window of a stretch with one of the identifiers, and its score.
+    fn scores(&self, ids: &[&[u8]], stretch: &RangeInclusive<u32>) -> Vec<(u32, u32)> {
         let inside = self.closed().filter(|(window, _)| stretch.contains(window));
-        inside.map(|(&window, counts)| (window, counts)).collect()
+        let inside: Vec<(&u32, &BTreeMap<Vec<u8>, u32>)> = inside.collect();
+        let with = |id: &[u8]| {
+            inside
+                .iter()
+                .filter(|entry| entry.1.contains_key(id))
+                .count()
+        };
+        let rarities: Vec<u32> = ids
+            .iter()
+            .map(|&id| rarity_weight(inside.len() as u32, with(id) as u32))
+            .collect();
+        let mut scores = Vec::new();
+        for &(&window, counts) in &inside {
+            let found = ids.iter().zip(&rarities);
+            let products: Vec<u32> = found
+                .filter_map(|(&id, rarity)| Some(count_weight(*counts.get(id)?) * rarity))
+                .collect();
+            if !products.is_empty() {
+                scores.push((window, products.iter().sum()));
+            }
+        }
+        scores
     }
 
     /// The identifier's count in each closed window that has it.
@@ -319,55 +323,6 @@ impl Ledger {
         self.closed()
             .filter_map(move |(_, counts)| counts.get(id).copied())
     }
-}
-
-/// Refuses too few, too many or equal identifiers, a wrong number of places, and a stretch
-/// whose first window exceeds its last.
-fn check_query(ids: &[&[u8]], stretch: &RangeInclusive<u32>, places: usize) -> Answer<()> {
-    let different: BTreeSet<&[u8]> = ids.iter().copied().collect();
-    if ids.is_empty() || ids.len() > 5 || different.len() < ids.len() {
-        return Err(14);
-    }
-    if places == 0 || places > 32 {
-        return Err(14);
-    }
-    if stretch.start() > stretch.end() {
-        return Err(17);
-    }
-    Ok(())
-}
-
-/// The best of these windows for the identifiers, at most so many.
-fn best(ids: &[&[u8]], windows: &Windows, places: usize) -> Vec<(u32, u32)> {
-    let mut hits = scores(ids, windows);
-    hits.sort_by(|a, b| b.1.cmp(&a.1).then(b.0.cmp(&a.0)));
-    hits.truncate(places);
-    hits
-}
-
-/// Each of these windows with one of the identifiers, and its score among them.
-fn scores(ids: &[&[u8]], windows: &Windows) -> Vec<(u32, u32)> {
-    let rarities: Vec<u32> = ids
-        .iter()
-        .map(|id| rarity_weight(windows.len() as u32, with(id, windows) as u32))
-        .collect();
-    let mut scores = Vec::new();
-    for (&window, counts) in windows {
-        let found = ids.iter().zip(&rarities);
-        let products: Vec<u32> = found
-            .filter_map(|(&id, rarity)| Some(count_weight(*counts.get(id)?) * rarity))
-            .collect();
-        if !products.is_empty() {
-            scores.push((window, products.iter().sum()));
-        }
-    }
-    scores
-}
-
-/// How many of these windows have the identifier.
-fn with(id: &[u8], windows: &Windows) -> usize {
-    let with = windows.values().filter(|counts| counts.contains_key(id));
-    with.count()
 }
 
 fn is_identifier(bytes: &[u8]) -> bool {

@@ -4,7 +4,7 @@ use crate::made::{expected, told};
 use crate::planned::laid_out;
 use crate::twin::check_byte_rule;
 use second::commands::Probe;
-use second::engine::{self, Forecast, Found, Mean};
+use second::engine::{self, Forecast, Mean};
 use second::refusal::Refusal;
 use second::state::Hit;
 use second::stretch::Stretch;
@@ -21,8 +21,6 @@ pub enum Call {
     Step,
     /// Identifiers, a stretch, and the places in the list.
     Query(Vec<Vec<u8>>, Stretch, usize),
-    /// Identifiers, a badge's identifiers, a stretch, and the places in the list.
-    QueryAs(Vec<Vec<u8>>, Vec<Vec<u8>>, Stretch, usize),
     Mean(Vec<u8>),
     /// The entries of a plan, and how many each window has.
     Forecast(Vec<u8>, Vec<u32>),
@@ -55,69 +53,20 @@ fn call_engine(probe: &mut Probe, call: &Call) -> Result<(), Refusal> {
         Call::Flush => engine::flush(state, card),
         Call::Step => engine::step(state, card),
         Call::Query(names, stretch, places) => {
-            let ids = slices(names);
-            find(*places, |hits| {
-                engine::query(state, card, register, &ids, *stretch, hits)
-            })
-            .map(drop)
-        }
-        Call::QueryAs(names, badge, stretch, places) => {
-            query_as_of(probe, &slices(names), &slices(badge), *stretch, *places).map(drop)
+            let ids: Vec<&[u8]> = names.iter().map(|name| &name[..]).collect();
+            let untouched = Hit {
+                window: 0xabcd,
+                score: 0xdead_beef,
+            };
+            let mut hits = vec![untouched; *places];
+            let found = engine::query(state, card, register, &ids, *stretch, &mut hits);
+            let listed = found.map_or(0, |found| usize::from(found.hits));
+            assert!(hits[listed..].iter().all(|hit| *hit == untouched));
+            found.map(drop)
         }
         Call::Mean(name) => mean_of(probe, name).map(drop),
         Call::Forecast(plan, counts) => forecast_of(probe, plan, counts).map(drop),
     }
-}
-
-fn slices(names: &[Vec<u8>]) -> Vec<&[u8]> {
-    names.iter().map(|name| &name[..]).collect()
-}
-
-/// Fills a list of so many places, of which those past the last hit must stay, and gives the hits and the postings taken.
-fn find(
-    places: usize,
-    ask: impl FnOnce(&mut [Hit]) -> Result<Found, Refusal>,
-) -> Result<(Vec<Hit>, u32), Refusal> {
-    let untouched = Hit {
-        window: 0xabcd,
-        score: 0xdead_beef,
-    };
-    let mut hits = vec![untouched; places];
-    let found = ask(&mut hits);
-    let listed = found.map_or(0, |found| usize::from(found.hits));
-    assert!(hits[listed..].iter().all(|hit| *hit == untouched));
-    hits.truncate(listed);
-    found.map(|found| (hits, found.taken))
-}
-
-/// The hits that a badge sees and the postings taken. It must be refused as plain queries are: with 1 to 4 as one of its
-/// identifiers and the badge's together, else with 14 and 17 as one of its identifiers alone, and only then with 18.
-pub fn query_as_of(
-    probe: &Probe,
-    ids: &[&[u8]],
-    badge: &[&[u8]],
-    stretch: Stretch,
-    places: usize,
-) -> Result<(Vec<Hit>, u32), Refusal> {
-    let (state, card, register) = (&probe.state, &probe.card, &probe.register);
-    let plain = |ids: &[&[u8]]| {
-        let found = find(places, |hits| {
-            engine::query(state, card, register, ids, stretch, hits)
-        });
-        found.err().map_or(0, Refusal::number)
-    };
-    let expected = match (plain(&[ids, badge].concat()), plain(ids), badge.len()) {
-        (number @ 1..=4, _, _) => number,
-        (_, 0, 1..=8) => 0,
-        (_, 0, _) => 18,
-        (_, number, _) => number,
-    };
-    let answer = find(places, |hits| {
-        engine::query_as(state, card, register, ids, badge, stretch, hits)
-    });
-    let number = answer.as_ref().err().map_or(0, |refusal| refusal.number());
-    assert_eq!(number, expected, "{ids:?} as {badge:?} over {stretch:?}");
-    answer
 }
 
 /// Removes windows together, which must come to what single removals come to.
@@ -194,11 +143,6 @@ pub fn query(names: &[&[u8]]) -> Call {
 pub fn query_in(names: &[&[u8]], stretch: Stretch) -> Call {
     let names = names.iter().map(|name| name.to_vec()).collect();
     Call::Query(names, stretch, 4)
-}
-
-pub fn query_as(names: &[&[u8]], badge: &[&[u8]], stretch: Stretch) -> Call {
-    let [names, badge] = [names, badge].map(|ids| ids.iter().map(|id| id.to_vec()).collect());
-    Call::QueryAs(names, badge, stretch, 4)
 }
 
 pub fn mean(name: &[u8]) -> Call {

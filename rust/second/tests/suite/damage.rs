@@ -2,7 +2,7 @@
 //! panics, and a refusal changes nothing.
 
 use crate::calls::{Call, forecast, make, outcome};
-use crate::history::{Odds, Plan, act, any_badge, any_list, any_stretch, name};
+use crate::history::{Odds, Plan, act, any_list, any_stretch, name};
 use crate::planned::{any_windows, damage_plan};
 use crate::rng::Rng;
 use crate::tally::Tally;
@@ -180,7 +180,6 @@ fn kind(call: &Call) -> &'static str {
         Call::Flush => "flush",
         Call::Step => "step",
         Call::Query(..) => "query",
-        Call::QueryAs(..) => "query_as",
         Call::Mean(_) => "mean",
         Call::Forecast(..) => "forecast",
     }
@@ -189,9 +188,9 @@ fn kind(call: &Call) -> &'static str {
 #[test]
 fn damage_is_refused_or_borne() {
     let (mut tally, mut together) = (Tally::default(), Tally::default());
-    let (mut planned, mut badged) = (Tally::default(), Tally::default());
+    let mut planned = Tally::default();
     let mut rng = Rng(2024);
-    let (mut lists, mut plans, mut badges) = (Rng(2025), Rng(2026), Rng(2027));
+    let (mut lists, mut plans) = (Rng(2025), Rng(2026));
     for _ in 0..8 {
         let mut twin = Twin::new(PLAN.blocks, PLAN.entries);
         for _ in 0..1500 {
@@ -209,11 +208,6 @@ fn damage_is_refused_or_borne() {
                 let call = any_plan(&mut plans);
                 let refusal = Some(outcome(&probe, &call)).filter(|&number| number > 0);
                 planned.record(kind(&call), refusal);
-            }
-            if badges.one_in(3) {
-                let call = any_query_as(&mut badges, probe.state.windows.last);
-                let refusal = Some(outcome(&probe, &call)).filter(|&number| number > 0);
-                badged.record(kind(&call), refusal);
             }
             for _ in 0..2 {
                 let call = random_call(&mut rng, probe.state.windows.last);
@@ -242,20 +236,6 @@ fn damage_is_refused_or_borne() {
     for number in [1, 2, 3] {
         planned.expect_refused(number, 50);
     }
-    badged.print("Queries under a badge on these:");
-    badged.expect_done("query_as", 300);
-    for number in [1, 2, 3, 4, 14, 17, 18] {
-        badged.expect_refused(number, 50);
-    }
-}
-
-/// A query under a badge, now and then one that is refused.
-fn any_query_as(rng: &mut Rng, last: u16) -> Call {
-    let names = (0..rng.pick(&[0, 1, 1, 1, 2, 2, 3, 5, 6])).map(|_| any_name(rng));
-    let names = names.collect();
-    let badge = any_badge(rng, PLAN.names);
-    let places = rng.pick(&[0, 1, 2, 5, 8, 16, 32, 33]);
-    Call::QueryAs(names, badge, any_stretch(rng, last), places)
 }
 
 /// A forecast of a plan, now and then of a damaged one.
@@ -274,7 +254,7 @@ fn any_plan(rng: &mut Rng) -> Call {
 #[test]
 fn random_states_are_refused_or_borne() {
     let mut rng = Rng(99);
-    let (mut lists, mut plans, mut badges) = (Rng(100), Rng(101), Rng(102));
+    let (mut lists, mut plans) = (Rng(100), Rng(101));
     for _ in 0..20_000 {
         let mut state = State::default();
         state.lengths.card = rng.pick(&[0, 16_384, 20_480, 16_383]);
@@ -299,7 +279,6 @@ fn random_states_are_refused_or_borne() {
         let windows = (0..lists.below(4)).map(|_| number(&mut lists)).collect();
         let _ = outcome(&probe, &Call::RemoveAll(windows));
         let _ = outcome(&probe, &any_plan(&mut plans));
-        let _ = outcome(&probe, &any_query_as(&mut badges, 9));
         let _ = make(&mut probe, &random_call(&mut rng, 9));
     }
 }

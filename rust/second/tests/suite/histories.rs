@@ -202,19 +202,7 @@ fn sweep(seed: u64) -> Twin {
 }
 
 /// What must have been seen, or a test would be empty.
-const SIGHTS: [&str; 54] = [
-    "badges that do not see the window under way",
-    "badges that hide a hit",
-    "badges that see a window by an eighth identifier alone",
-    "badges that see every window",
-    "badges that see no window",
-    "badges that see some windows",
-    "badges with an identifier twice",
-    "badges with an unknown identifier",
-    "badges with hits",
-    "badges with hits during a merge",
-    "badges with hits past a partition",
-    "badges with other postings taken",
+const SIGHTS: [&str; 42] = [
     "blocks taken round the end",
     "closes that bring the first mean",
     "closes that change an answer",
@@ -272,13 +260,11 @@ fn engine_and_ledger_agree_at_every_call() {
     for sight in SIGHTS {
         assert!(tally.sights.contains_key(sight), "never seen: {sight}");
     }
-    for number in [4, 5, 7, 8, 9, 10, 11, 13, 14, 15, 17, 18] {
+    for number in [4, 5, 7, 8, 9, 10, 11, 13, 14, 15, 17] {
         assert!(tally.refusals.contains_key(&number), "never met: {number}");
     }
     tally.expect_done("mean", 10_000);
     tally.expect_refused(15, 1_000);
-    tally.expect_done("query_as", 2_000);
-    tally.expect_refused(18, 500);
     // The room that refusal 11 keeps is enough for every merge: an output is no
     // longer than its inputs.
     assert!(!tally.refusals.contains_key(&12));

@@ -163,8 +163,8 @@ fn step(twin: &mut Twin, rng: &mut Rng, _: &Plan) -> bool {
 /// A stretch whose first window exceeds its last.
 const BACKWARD: Stretch = Stretch { first: 2, last: 1 };
 
-/// A query, the mean of each of its identifiers, and the same query under a badge. Stretch and badge are drawn from
-/// a copy of the generator, so that they move nothing else of a history.
+/// A query, and the mean of each of its identifiers. The stretch is drawn from a copy of the generator, so that it
+/// moves nothing else of a history.
 fn query(twin: &mut Twin, rng: &mut Rng, plan: &Plan) -> bool {
     let names: Vec<Vec<u8>> = (0..1 + rng.below(5))
         .map(|_| name(rng.below(plan.names + 2)))
@@ -174,28 +174,8 @@ fn query(twin: &mut Twin, rng: &mut Rng, plan: &Plan) -> bool {
         let _ = twin.mean(name);
     }
     let ids: Vec<&[u8]> = names.iter().map(|name| &name[..]).collect();
-    let mut copy = Rng(rng.0);
-    let stretch = any_stretch(&mut copy, twin.state.windows.last);
-    let badge = any_badge(&mut copy, plan.names + 2);
-    let badge: Vec<&[u8]> = badge.iter().map(|name| &name[..]).collect();
-    let places = 1 + rng.below(32);
-    // A badge that is none is met often.
-    let _ = twin.query_as(&ids, &badge, stretch, places);
-    twin.query_in(&ids, stretch, places).is_ok()
-}
-
-/// A badge of some of so many identifiers; now and then with one twice or one that is none, or with too few or too many.
-pub fn any_badge(rng: &mut Rng, names: usize) -> Vec<Vec<u8>> {
-    let length = rng.pick(&[1, 1, 1, 2, 2, 3, 4, 8, 8, 8, 0, 9, 20]);
-    let mut badge: Vec<Vec<u8>> = (0..length).map(|_| name(rng.below(names))).collect();
-    if rng.one_in(8) && !badge.is_empty() {
-        let (from, to) = (rng.below(length), rng.below(length));
-        badge[to] = badge[from].clone();
-    }
-    if rng.one_in(20) && !badge.is_empty() {
-        badge[rng.below(length)] = vec![b'X'; rng.pick(&[0, 64, 65, 300])];
-    }
-    badge
+    let stretch = any_stretch(&mut Rng(rng.0), twin.state.windows.last);
+    twin.query_in(&ids, stretch, 1 + rng.below(32)).is_ok()
 }
 
 /// A stretch of the windows up to a last one: all, one, those from or up to one, or some; now and then an empty

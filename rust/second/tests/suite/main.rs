@@ -1,6 +1,5 @@
 //! The tests of the second engine, a file for each subject.
 
-mod badges;
 mod build;
 mod calls;
 mod capacity;

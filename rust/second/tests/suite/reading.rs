@@ -1,9 +1,9 @@
 //! Queries, means and removals, of one window and of several together, on damaged
 //! cards that are still well-formed, held against a plain reading of the bytes.
 
-use crate::calls::{mean_of, query_as_of};
+use crate::calls::mean_of;
 use crate::damage::{PLAN, any_name, damage};
-use crate::history::{act, any_badge, any_list, any_stretch};
+use crate::history::{act, any_list, any_stretch};
 use crate::image::{decode, walk};
 use crate::rng::Rng;
 use crate::together;
@@ -110,32 +110,9 @@ fn plain_query(
     let numbers = numbers(probe, ids);
     let entries = read_entries(probe, stretch);
     let sums = shown_sums(probe, &entries, stretch);
-    let taken = entries.iter().filter(|entry| numbers.contains(&entry.0));
-    (ranked(&sums, &numbers), taken.count())
-}
-
-/// The ranked visible windows of a stretch, and how many counts they have of the identifiers.
-fn plain_query_as(
-    probe: &Probe,
-    ids: &BTreeSet<Vec<u8>>,
-    badge: &[Vec<u8>],
-    stretch: Stretch,
-) -> (Vec<(u32, u32)>, usize) {
-    let badge = numbers(probe, &badge.iter().cloned().collect());
-    let mut sums = shown_sums(probe, &read_entries(probe, stretch), stretch);
-    let of_badge = sums.keys().filter(|pair| badge.contains(&pair.0));
-    let visible: BTreeSet<u32> = of_badge.map(|pair| pair.1.0).collect();
-    sums.retain(|pair, _| visible.contains(&pair.1.0));
-    let numbers = numbers(probe, ids);
-    let taken = sums.keys().filter(|pair| numbers.contains(&pair.0));
-    (ranked(&sums, &numbers), taken.count())
-}
-
-/// The windows of these sums with one of the identifiers, by score among them.
-fn ranked(sums: &Sums, numbers: &[usize]) -> Vec<(u32, u32)> {
     let live: BTreeSet<u32> = sums.keys().map(|pair| pair.1.0).collect();
     let mut scores: BTreeMap<u32, u32> = BTreeMap::new();
-    for (&(id, Reverse(window)), &count) in sums {
+    for (&(id, Reverse(window)), &count) in &sums {
         if numbers.contains(&id) {
             let with = sums.keys().filter(|pair| pair.0 == id).count();
             let rarity = rarity_weight(live.len() as u32, with as u32);
@@ -144,7 +121,8 @@ fn ranked(sums: &Sums, numbers: &[usize]) -> Vec<(u32, u32)> {
     }
     let mut ranked: Vec<(u32, u32)> = scores.into_iter().collect();
     ranked.sort_by_key(|&(window, score)| Reverse((score, window)));
-    ranked
+    let taken = entries.iter().filter(|entry| numbers.contains(&entry.0));
+    (ranked, taken.count())
 }
 
 /// The buffer after windows are taken out in their order, and how many
@@ -177,9 +155,6 @@ struct Done {
     passing: usize,
     /// Queries while partitions held postings of the open window.
     of_open: usize,
-    /// Queries under a badge that sees some windows, and those of them that leave out others.
-    badges: usize,
-    hiding: usize,
     means: usize,
     /// Means that were refused because no closed window has the identifier.
     uncounted: usize,
@@ -202,33 +177,6 @@ fn compare_mean(probe: &Probe, id: &[u8], done: &mut Done) {
     }
 }
 
-/// A query under a badge, which is drawn from a copy of the generator.
-fn compare_badge(
-    probe: &Probe,
-    names: &BTreeSet<Vec<u8>>,
-    stretch: Stretch,
-    mut rng: Rng,
-    done: &mut Done,
-) {
-    let badge = any_badge(&mut rng, PLAN.names);
-    let ids: Vec<&[u8]> = names.iter().map(|name| &name[..]).collect();
-    let slices: Vec<&[u8]> = badge.iter().map(|name| &name[..]).collect();
-    let places = 1 + rng.below(32);
-    let Ok((hits, taken)) = query_as_of(probe, &ids, &slices, stretch, places) else {
-        return;
-    };
-    let (mut ranked, expected) = plain_query_as(probe, names, &badge, stretch);
-    let is_hiding = ranked.len() < plain_query(probe, names, stretch).0.len();
-    ranked.truncate(places);
-    let hits: Vec<(u32, u32)> = hits
-        .iter()
-        .map(|hit| (hit.window.into(), hit.score))
-        .collect();
-    assert_eq!((hits, taken as usize), (ranked, expected));
-    done.badges += usize::from(expected > 0);
-    done.hiding += usize::from(expected > 0 && is_hiding);
-}
-
 /// Makes the calls and counts those that were done.
 fn compare(probe: &Probe, rng: &mut Rng, done: &mut Done) {
     let names: BTreeSet<Vec<u8>> = (0..1 + rng.below(4)).map(|_| any_name(rng)).collect();
@@ -249,7 +197,6 @@ fn compare(probe: &Probe, rng: &mut Rng, done: &mut Done) {
         done.passing += usize::from(is_passing);
         done.of_open += usize::from(open_on_card(probe, &names));
     }
-    compare_badge(probe, &names, stretch, Rng(rng.0), done);
     for id in ids {
         compare_mean(probe, id, done);
     }
@@ -283,16 +230,13 @@ fn well_formed_damage_is_read_as_it_stands() {
         queries,
         passing,
         of_open,
-        badges,
-        hiding,
         means,
         uncounted,
         removals,
     } = done;
     println!(
-        "Well-formed damage: {queries} queries, {passing} past a partition, {of_open} of an open window on the card, {badges} with something to see under a badge, {hiding} of them with something hidden, {means} means, {uncounted} of none, {removals} removals"
+        "Well-formed damage: {queries} queries, {passing} past a partition, {of_open} of an open window on the card, {means} means, {uncounted} of none, {removals} removals"
     );
-    assert!(badges > 300 && hiding > 100);
     assert!(queries > 1000 && passing > 300 && of_open > 200 && removals > 200);
     assert!(means > 1000 && uncounted > 200);
 }

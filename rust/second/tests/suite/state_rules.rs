@@ -1,10 +1,9 @@
 //! Each rule of the state, broken and kept to its limit.
 
-use crate::calls::{Call, event, forecast, mean, outcome, query, query_as};
+use crate::calls::{Call, event, forecast, mean, outcome, query};
 use crate::twin::Twin;
 use second::commands::Probe;
 use second::state::{MergeJob, Partition, Posting, State};
-use second::stretch::Stretch;
 
 type Change = (&'static str, fn(&mut State));
 
@@ -35,7 +34,7 @@ fn probe() -> Probe {
     }
 }
 
-fn all_calls() -> [Call; 15] {
+fn all_calls() -> [Call; 14] {
     [
         Call::Open,
         event(b"A"),
@@ -47,7 +46,6 @@ fn all_calls() -> [Call; 15] {
         Call::Flush,
         Call::Step,
         query(&[b"A"]),
-        query_as(&[b"A"], &[b"B"], Stretch::ALL),
         mean(b"A"),
         forecast(&[]),
         forecast(&[vec![b"A".to_vec()], Vec::new()]),
@@ -342,7 +340,7 @@ fn buffers_must_have_the_lengths_of_the_start() {
                 Call::Open | Call::Close => false,
                 Call::Remove(_) | Call::RemoveAll(_) => card_is_wrong,
                 Call::Flush | Call::Step => card_is_wrong,
-                Call::Event(_) | Call::Query(..) | Call::QueryAs(..) | Call::Mean(_) => true,
+                Call::Event(_) | Call::Query(..) | Call::Mean(_) => true,
                 Call::Forecast(..) => register != 8,
             };
             assert_eq!(outcome(&probe, &call) == 2, refused, "{call:?}");

@@ -14,7 +14,6 @@ use second::state::{Hit, MergeJob, Partition, State};
 use second::stretch::Stretch;
 use std::collections::{BTreeMap, BTreeSet};
 use std::fmt::Debug;
-use std::ops::RangeInclusive;
 
 pub struct Twin {
     pub state: State,
@@ -44,24 +43,6 @@ fn marker(place: usize) -> Hit {
         window: 0xabcd,
         score: place as u32 + 0xdead_0000,
     }
-}
-
-/// The hits that an engine has listed, and the postings taken. Places beyond the last hit must stay.
-fn listed(
-    found: Result<engine::Found, Refusal>,
-    hits: &[Hit],
-) -> Result<(Vec<(u32, u32)>, usize), Refusal> {
-    let listed = found.map_or(0, |found| usize::from(found.hits));
-    let kept = (listed..hits.len()).all(|place| hits[place] == marker(place));
-    assert!(kept, "places beyond the last hit");
-    let list = hits[..listed].iter();
-    let list = list.map(|hit| (hit.window.into(), hit.score)).collect();
-    found.map(|found| (list, found.taken as usize))
-}
-
-/// A stretch as the ledger has it.
-fn windows_of(stretch: Stretch) -> RangeInclusive<u32> {
-    stretch.first.into()..=stretch.last.into()
 }
 
 impl Twin {
@@ -169,8 +150,16 @@ impl Twin {
             stretch,
             &mut hits,
         );
-        let engine = listed(engine, &hits);
-        let ledger = self.ledger.query(ids, windows_of(stretch), places);
+        let listed = engine.map_or(0, |found| usize::from(found.hits));
+        let kept = (listed..places).all(|place| hits[place] == marker(place));
+        assert!(kept, "places beyond the last hit");
+        let list: Vec<(u32, u32)> = hits[..listed]
+            .iter()
+            .map(|hit| (hit.window.into(), hit.score))
+            .collect();
+        let engine = engine.map(|found| (list, found.taken as usize));
+        let windows = u32::from(stretch.first)..=u32::from(stretch.last);
+        let ledger = self.ledger.query(ids, windows, places);
         let ledger = ledger.map(|reply| (reply.hits, reply.taken));
         if let Ok((hits, _)) = &ledger {
             self.see_reading("queries", ids);
@@ -181,35 +170,6 @@ impl Twin {
             }
         }
         self.compare("query", engine, ledger)
-    }
-
-    /// Answers the hits of a stretch that a badge sees, and the postings taken.
-    pub fn query_as(
-        &mut self,
-        ids: &[&[u8]],
-        badge: &[&[u8]],
-        stretch: Stretch,
-        places: usize,
-    ) -> Found {
-        let mut hits: Vec<Hit> = (0..places).map(marker).collect();
-        let engine = engine::query_as(
-            &self.state,
-            &self.card,
-            &self.register,
-            ids,
-            badge,
-            stretch,
-            &mut hits,
-        );
-        let engine = listed(engine, &hits);
-        let ledger = self
-            .ledger
-            .query_as(ids, badge, windows_of(stretch), places);
-        let ledger = ledger.map(|reply| (reply.hits, reply.taken));
-        if let Ok(answer) = &ledger {
-            self.see_badge(ids, badge, stretch, answer);
-        }
-        self.compare("query_as", engine, ledger)
     }
 
     /// Answers quotient, remainder and windows.
@@ -255,7 +215,7 @@ impl Twin {
         let engine = engine.map_err(Refusal::number);
         assert_eq!(engine, ledger, "{call}");
         self.tally.record(call, ledger.as_ref().err().copied());
-        if ledger.is_err() || matches!(call, "query" | "query_as" | "mean" | "forecast") {
+        if ledger.is_err() || matches!(call, "query" | "mean" | "forecast") {
             assert!(self.state == self.before.state, "{call} changed the state");
             assert!(self.card == self.before.card, "{call} changed the card");
             let same = self.register == self.before.register;
@@ -466,63 +426,6 @@ impl Twin {
         for (sight, is_seen) in sights {
             if is_seen {
                 self.tally.see(&format!("stretches {sight}"));
-            }
-        }
-    }
-
-    /// Notes what a badge sees and what it does not.
-    fn see_badge(
-        &mut self,
-        ids: &[&[u8]],
-        badge: &[&[u8]],
-        stretch: Stretch,
-        answer: &(Vec<(u32, u32)>, usize),
-    ) {
-        let inside = windows_of(stretch);
-        let all = || self.ledger.closed().filter(|it| inside.contains(it.0));
-        let has = |counts: &BTreeMap<Vec<u8>, u32>, ids: &[&[u8]]| {
-            ids.iter().any(|&id| counts.contains_key(id))
-        };
-        let hidden: Vec<_> = all().filter(|it| !has(it.1, badge)).collect();
-        let visible = all().count() - hidden.len();
-        let of_open = self
-            .ledger
-            .listed
-            .iter()
-            .any(|listed| badge.contains(&&listed[..]));
-        let by_last = |counts| !has(counts, &badge[..badge.len() - 1]) && has(counts, badge);
-        let plain = self.ledger.query(ids, inside.clone(), 32).expect("a query");
-        let records = self.state.partitions.to_list();
-        let different: BTreeSet<&&[u8]> = badge.iter().collect();
-        let sights = [
-            ("that see every window", visible > 0 && hidden.is_empty()),
-            ("that see some windows", visible > 0 && !hidden.is_empty()),
-            ("that see no window", visible == 0 && !hidden.is_empty()),
-            ("that hide a hit", hidden.iter().any(|it| has(it.1, ids))),
-            ("that do not see the window under way", of_open),
-            (
-                "that see a window by an eighth identifier alone",
-                badge.len() == 8 && all().any(|it| by_last(it.1)),
-            ),
-            ("with hits", !answer.0.is_empty()),
-            ("with other postings taken", answer.1 != plain.taken),
-            ("with an identifier twice", different.len() < badge.len()),
-            (
-                "with an unknown identifier",
-                badge.iter().any(|id| self.ledger.number(id).is_none()),
-            ),
-            (
-                "with hits past a partition",
-                !answer.0.is_empty() && records.iter().any(|it| stretch.passes_over(it)),
-            ),
-            (
-                "with hits during a merge",
-                !answer.0.is_empty() && self.ledger.account.steps > 0,
-            ),
-        ];
-        for (sight, is_seen) in sights {
-            if is_seen {
-                self.tally.see(&format!("badges {sight}"));
             }
         }
     }

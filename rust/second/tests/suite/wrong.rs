@@ -34,7 +34,7 @@ pub fn ask(fault: Option<Fault>, probe: &Probe, ids: &[&[u8]], places: usize) ->
     ask_in(fault, probe, ids, Stretch::ALL, places)
 }
 
-/// The same over a stretch.
+/// The same over a stretch. Places beyond the last hit must stay.
 pub fn ask_in(
     fault: Option<Fault>,
     probe: &Probe,
@@ -42,37 +42,16 @@ pub fn ask_in(
     stretch: Stretch,
     places: usize,
 ) -> Answer {
-    let (state, card, register) = (&probe.state, &probe.card, &probe.register);
-    listed(places, |hits| match fault {
-        Some(fault) => wrong::query(fault, state, card, register, ids, stretch, hits),
-        None => engine::query(state, card, register, ids, stretch, hits),
-    })
-}
-
-/// A query under a badge.
-pub fn ask_as(
-    fault: Option<Fault>,
-    probe: &Probe,
-    ids: &[&[u8]],
-    badge: &[&[u8]],
-    stretch: Stretch,
-    places: usize,
-) -> Answer {
-    let (state, card, register) = (&probe.state, &probe.card, &probe.register);
-    listed(places, |hits| match fault {
-        Some(fault) => wrong::query_as(fault, state, card, register, ids, badge, stretch, hits),
-        None => engine::query_as(state, card, register, ids, badge, stretch, hits),
-    })
-}
-
-/// What a query lists and takes. Places beyond the last hit must stay.
-fn listed(places: usize, ask: impl FnOnce(&mut [Hit]) -> Result<engine::Found, Refusal>) -> Answer {
     let untouched = Hit {
         window: 0xabcd,
         score: 0xdead_beef,
     };
     let mut hits = vec![untouched; places];
-    let found = ask(&mut hits);
+    let (state, card, register) = (&probe.state, &probe.card, &probe.register);
+    let found = match fault {
+        Some(fault) => wrong::query(fault, state, card, register, ids, stretch, &mut hits),
+        None => engine::query(state, card, register, ids, stretch, &mut hits),
+    };
     let listed = found.map_or(0, |found| usize::from(found.hits));
     assert!(hits[listed..].iter().all(|hit| *hit == untouched));
     let list = hits[..listed].iter().map(|hit| (hit.window, hit.score));
@@ -96,44 +75,32 @@ fn done(result: Result<(), u8>) -> String {
     result.map_or_else(|number| format!("!{number}"), |()| "0".to_string())
 }
 
-/// Obeys a line as the program does, but prints the lines of an answer in one. Lines that the program has not ask over
-/// a stretch: S, its first and last window, and then as Q goes on; and under a badge: A, that stretch, the badge's
-/// identifiers with + before or between, and then as Q goes on.
+/// Obeys a line as the program does, but prints the lines of an answer in one. A line that the program has not
+/// asks over a stretch: S, its first and last window, and then as Q goes on.
 pub fn obey(fault: Option<Fault>, probe: &mut Probe, line: &str) -> String {
     let fields: Vec<&str> = line.split(' ').collect();
     match (fault, &fields[..]) {
         (Some(fault), ["E", id]) => done(count(fault, probe, id.as_bytes())),
         (Some(fault), ["M"]) => done(step(fault, probe)),
-        (Some(_), ["Q", places, ids @ ..]) => {
-            let (ids, places) = (slices(ids), places.parse().unwrap());
-            in_one_line(ask(fault, probe, &ids, places))
-        }
+        (Some(_), ["Q", places, ids @ ..]) => answer(fault, probe, Stretch::ALL, places, ids),
         (_, ["S", first, last, places, ids @ ..]) => {
-            let (ids, places) = (slices(ids), places.parse().unwrap());
-            in_one_line(ask_in(fault, probe, &ids, stretch(first, last), places))
-        }
-        (_, ["A", first, last, badge, places, ids @ ..]) => {
-            let (ids, places) = (slices(ids), places.parse().unwrap());
-            let badge: Vec<&str> = badge.split('+').filter(|id| !id.is_empty()).collect();
-            let over = stretch(first, last);
-            in_one_line(ask_as(fault, probe, &ids, &slices(&badge), over, places))
+            let [first, last] = [first, last].map(|window| window.parse().unwrap());
+            answer(fault, probe, Stretch { first, last }, places, ids)
         }
         _ => probe.obey(line.as_bytes()).trim_end().replace('\n', ", "),
     }
 }
 
-fn slices<'a>(ids: &[&'a str]) -> Vec<&'a [u8]> {
-    ids.iter().map(|id| id.as_bytes()).collect()
-}
-
-fn stretch(first: &str, last: &str) -> Stretch {
-    let [first, last] = [first, last].map(|window| window.parse().unwrap());
-    Stretch { first, last }
-}
-
 /// What a query answers, in one line.
-fn in_one_line(answer: Answer) -> String {
-    match answer {
+fn answer(
+    fault: Option<Fault>,
+    probe: &Probe,
+    stretch: Stretch,
+    places: &str,
+    ids: &[&str],
+) -> String {
+    let ids: Vec<&[u8]> = ids.iter().map(|id| id.as_bytes()).collect();
+    match ask_in(fault, probe, &ids, stretch, places.parse().unwrap()) {
         Ok((hits, taken)) => {
             let first = format!("{} {taken}", hits.len());
             let hits = hits
@@ -185,13 +152,11 @@ fn names_and_sentences_differ() {
         "taken-outside",
         "live-outside",
         "frequency-outside",
-        "hidden-frequency",
-        "stored-taken",
     ];
     assert_eq!(Fault::ALL.map(Fault::name), names);
     assert_eq!(names.map(Fault::named), Fault::ALL.map(Some));
     let sentences: BTreeSet<&str> = Fault::ALL.map(Fault::sentence).into();
-    assert_eq!(sentences.len(), 15);
+    assert_eq!(sentences.len(), 13);
     for name in ["", "cut", "cut-identifiers ", "CutIdentifiers"] {
         assert_eq!(Fault::named(name), None);
     }
@@ -507,112 +472,6 @@ fn frequency_outside() {
         &[outside],
         &format!("{THREE}, S 1 5 5 LUCKY"),
         "4 4, 4 80, 3 80, 2 80, 1 80",
-    );
-}
-
-/// ACME sees windows 1, 3 and 5. LUCKY is in 1, 2 and 4, TILT in 2 and 3, DOOR in 3 and 5.
-const FIVE: &str = "O, E ACME, E LUCKY, C, O, E LUCKY, E TILT, C, O, E ACME, E TILT, E DOOR, C, O, E LUCKY, C, O, E ACME, E DOOR, C";
-
-#[test]
-fn hidden_frequency() {
-    let hidden = Fault::HiddenFrequency;
-    // One window of three weighs 25, two 25 - 16, and three nothing.
-    let tilt = format!("{FIVE}, A 1 9 ACME 5 TILT");
-    tells(hidden, &tilt, "1 1, 3 400", "1 1, 3 144");
-    let lucky = format!("{FIVE}, A 1 9 ACME 5 LUCKY");
-    tells(hidden, &lucky, "1 1, 1 400", "1 1, 1 0");
-    // More windows have it than are visible: one of two weighs 16.
-    let above = format!("{FIVE}, A 1 4 ACME 5 LUCKY");
-    tells(hidden, &above, "1 1, 1 256", "1 1, 1 0");
-    // All windows that have it are visible.
-    let door = format!("{FIVE}, A 1 9 ACME 5 DOOR");
-    hides(&[hidden], &door, "2 2, 5 144, 3 144");
-    let all = format!("{FIVE}, A 1 9 ACME+LUCKY 5 LUCKY");
-    // Three of five weigh 37 - 25.
-    hides(&[hidden], &all, "3 3, 4 192, 2 192, 1 192");
-    // Hidden windows with it are outside the stretch, or removed.
-    let inside = format!("{FIVE}, A 3 5 ACME 5 TILT");
-    hides(&[hidden], &inside, "1 1, 3 256");
-    let removed = format!("{FIVE}, F, R 2, A 1 9 ACME 5 TILT");
-    hides(&[hidden], &removed, "1 1, 3 400");
-}
-
-#[test]
-fn stored_taken() {
-    let stored = Fault::StoredTaken;
-    // Window 2 is hidden and has both.
-    let both = format!("{FIVE}, A 1 9 ACME 5 TILT LUCKY");
-    tells(stored, &both, "2 2, 3 400, 1 400", "2 5, 3 400, 1 400");
-    let door = format!("{FIVE}, A 1 9 ACME 5 DOOR");
-    hides(&[stored], &door, "2 2, 5 144, 3 144");
-    // A window of eight partitions, before their merge and after it.
-    let split = "O, E ACME, ".to_string() + &"E LUCKY, F, ".repeat(8) + "C";
-    let before = format!("{split}, A 1 9 ACME 5 LUCKY");
-    tells(stored, &before, "1 1, 1 0", "1 8, 1 0");
-    let after = format!("{split}, M, A 1 9 ACME 5 LUCKY");
-    hides(&[stored], &after, "1 1, 1 0");
-    // A removal of a hidden window.
-    let removed = format!("{FIVE}, F, R 4, A 1 9 ACME 5 DOOR LUCKY");
-    tells(
-        stored,
-        &removed,
-        "3 3, 1 400, 5 144, 3 144",
-        "3 6, 1 400, 5 144, 3 144",
-    );
-    // The window under way, and nothing to see at all.
-    let open = "O, E ACME, E LUCKY, A 1 9 ACME 5 LUCKY";
-    tells(stored, open, "0 0", "0 1");
-}
-
-/// Without a badge neither of them shows.
-#[test]
-fn faults_of_badges_need_a_badge() {
-    let two: Vec<Fault> = Fault::ALL
-        .into_iter()
-        .filter(|it| it.needs_badge())
-        .collect();
-    assert_eq!(two, [Fault::HiddenFrequency, Fault::StoredTaken]);
-    // Three of five weigh 37 - 25, two 37 - 16; two of four weigh 16.
-    let all = "4 5, 2 528, 3 336, 4 192, 1 192";
-    hides(&two, &format!("{FIVE}, Q 5 LUCKY TILT"), all);
-    hides(
-        &two,
-        &format!("{FIVE}, F, S 2 5 5 TILT"),
-        "2 2, 3 256, 2 256",
-    );
-}
-
-/// Other faults show under a badge as they do without one.
-#[test]
-fn faults_under_a_badge() {
-    // The last of three windows that ACME sees is in the buffer.
-    let buffered = "O, E ACME, E LUCKY, C, O, E ACME, C, F, O, E ACME, E LUCKY, C";
-    let asked = format!("{buffered}, A 1 9 ACME 5 LUCKY");
-    // Two of three weigh 25 - 16; one of two 16.
-    let right = "2 2, 3 144, 1 144";
-    tells(Fault::ForgottenBuffer, &asked, right, "1 1, 1 256");
-    tells(Fault::RoundedQuotient, &asked, right, "2 2, 3 0, 1 0");
-    // A badge is cut as other identifiers are.
-    let long = "O, E SIXTEEN-BYTES---1, E LUCKY, C";
-    let asked = format!("{long}, A 1 9 SIXTEEN-BYTES---2 5 LUCKY");
-    tells(Fault::CutIdentifiers, &asked, "0 0", "1 1, 1 0");
-    // Nor do faults of stretches show under it over all windows.
-    let of_stretches = Fault::ALL.into_iter().filter(|it| it.needs_stretch());
-    let asked = format!("{THREE}, A 1 65535 LUCKY 5 LUCKY TILT");
-    hides(
-        &of_stretches.collect::<Vec<_>>(),
-        &asked,
-        "4 5, 4 512, 3 0, 2 0, 1 0",
-    );
-    // Of 2 to 5 the badge sees 2 to 4, and window 1 outside.
-    let part = format!("{THREE}, A 2 5 LUCKY 5 TILT");
-    tells(Fault::LiveOutside, &part, "1 1, 4 400", "1 1, 4 512");
-    let part = format!("{THREE}, A 3 5 LUCKY 5 TILT LUCKY");
-    tells(
-        Fault::TakenOutside,
-        &part,
-        "2 3, 4 256, 3 0",
-        "2 5, 4 256, 3 0",
     );
 }
 

@@ -2,11 +2,11 @@
 //! the card says of their faults.
 
 use crate::damage::PLAN;
-use crate::history::{act, any_badge, any_stretch, name};
+use crate::history::{act, any_stretch, name};
 use crate::image::{decode, encode_unfinished, walk};
 use crate::rng::Rng;
 use crate::twin::{Twin, check_byte_rule};
-use crate::wrong::{Answer, ask, ask_as, ask_in, count, step};
+use crate::wrong::{Answer, ask, ask_in, count, step};
 use second::commands::Probe;
 use second::engine;
 use second::faults::Fault;
@@ -68,22 +68,6 @@ fn counts_of(ledger: &Ledger, entries: impl Iterator<Item = Entry>, stretch: Str
     counts
 }
 
-/// Of counts, those in windows that a badge of these numbers sees; without a badge all.
-fn visible(mut counts: Counts, badge: &Option<Vec<usize>>) -> Counts {
-    if let Some(badge) = badge {
-        let of_badge = counts.keys().filter(|pair| badge.contains(&pair.0));
-        let windows: BTreeSet<u32> = of_badge.map(|pair| pair.1).collect();
-        counts.retain(|pair, _| windows.contains(&pair.1));
-    }
-    counts
-}
-
-/// How many postings places hold of identifiers.
-fn stored(places: &[Vec<Entry>], numbers: &[usize]) -> usize {
-    let postings = places.iter().flatten();
-    postings.filter(|entry| numbers.contains(&entry.0)).count()
-}
-
 /// F as the wrong engine counts it.
 fn plain_frequency(fault: Fault, places: &[Vec<Entry>], counts: &Counts, id: usize) -> u32 {
     let holds = |place: usize, window: u32| {
@@ -115,44 +99,35 @@ fn plain_scores(counts: &Counts, weights: &BTreeMap<usize, u32>) -> Vec<(u16, u3
     ranked
 }
 
-/// How many windows have counts.
-fn windows_with(counts: &Counts) -> usize {
-    let windows: BTreeSet<u32> = counts.keys().map(|pair| pair.1).collect();
-    windows.len()
+/// N as the wrong engine counts it.
+fn plain_live(fault: Fault, ledger: &Ledger, shown: &Counts) -> u32 {
+    let windows: BTreeSet<u32> = shown.keys().map(|pair| pair.1).collect();
+    match fault {
+        Fault::LiveOutside => ledger.closed().count() as u32,
+        _ => windows.len() as u32,
+    }
 }
 
-/// What a wrong engine must answer to a query, under a badge or not, by the ledger's account of the card.
+/// What a wrong engine must answer to a query, by the ledger's account of the card.
 fn plain_query(
     fault: Fault,
     ledger: &Ledger,
     ids: &[&[u8]],
-    badge: Option<&[&[u8]]>,
     stretch: Stretch,
     room: usize,
 ) -> Answer {
-    let numbers_of = |ids: &[&[u8]]| -> Vec<usize> {
-        let numbers = ids.iter().filter_map(|id| ledger.number(id));
-        numbers.collect()
-    };
-    let (numbers, badge) = (numbers_of(ids), badge.map(numbers_of));
+    let numbers: Vec<usize> = ids.iter().filter_map(|id| ledger.number(id)).collect();
     let places = places_of(fault, ledger, stretch);
     let entries = || places.iter().flatten().copied();
-    let closed = counts_of(ledger, entries(), stretch);
-    let shown = visible(closed.clone(), &badge);
-    let shown_of_all = || visible(counts_of(ledger, entries(), Stretch::ALL), &badge);
-    let live = match (fault, &badge) {
-        (Fault::LiveOutside, None) => ledger.closed().count(),
-        (Fault::LiveOutside, Some(_)) => windows_with(&shown_of_all()),
-        _ => windows_with(&shown),
-    } as u32;
+    let shown = counts_of(ledger, entries(), stretch);
+    let live = plain_live(fault, ledger, &shown);
     let of_query = |mut counts: Counts| {
         counts.retain(|pair, _| numbers.contains(&pair.0));
         counts
     };
     let counts = of_query(shown);
     let weighed = match fault {
-        Fault::FrequencyOutside => of_query(shown_of_all()),
-        Fault::HiddenFrequency => of_query(closed),
+        Fault::FrequencyOutside => of_query(counts_of(ledger, entries(), Stretch::ALL)),
         _ => counts.clone(),
     };
     let weight = |&id: &usize| {
@@ -167,23 +142,18 @@ fn plain_query(
     let mut ranked = plain_scores(&counts, &weights);
     if fault == Fault::FilledFirst {
         let above_0 = entries().filter(|entry| entry.2 > 0);
-        let above_0 = visible(counts_of(ledger, above_0, stretch), &badge);
-        let above_0 = of_query(above_0);
+        let above_0 = of_query(counts_of(ledger, above_0, stretch));
         let mut filled = plain_scores(&above_0, &weights);
         filled.truncate(room);
         ranked.retain(|hit| filled.iter().any(|place| place.0 == hit.0));
     }
     ranked.truncate(room);
-    let on_all = stored(&places_of(fault, ledger, Stretch::ALL), &numbers);
-    let outside = on_all - stored(&places, &numbers);
-    let taken = match badge {
-        Some(_) if fault != Fault::StoredTaken => counts.len(),
-        _ => stored(&places, &numbers),
+    let taken_from = match fault {
+        Fault::TakenOutside => places_of(fault, ledger, Stretch::ALL),
+        _ => places.clone(),
     };
-    let taken = match fault {
-        Fault::TakenOutside => taken + outside,
-        _ => taken,
-    };
+    let taken = taken_from.iter().flatten();
+    let taken = taken.filter(|entry| numbers.contains(&entry.0)).count();
     Ok((ranked, taken as u32))
 }
 
@@ -195,7 +165,7 @@ fn some_names(rng: &mut Rng) -> BTreeSet<Vec<u8>> {
 
 #[test]
 fn wrong_queries_are_as_the_account_says() {
-    const QUERY_FAULTS: [Fault; 13] = [
+    const QUERY_FAULTS: [Fault; 11] = [
         Fault::AddedFrequencies,
         Fault::MendedNeighbours,
         Fault::FilledFirst,
@@ -207,11 +177,9 @@ fn wrong_queries_are_as_the_account_says() {
         Fault::TakenOutside,
         Fault::LiveOutside,
         Fault::FrequencyOutside,
-        Fault::HiddenFrequency,
-        Fault::StoredTaken,
     ];
     let mut rng = Rng(74);
-    let (mut different, mut different_as) = ([0; 13], [0; 13]);
+    let mut different = [0; 11];
     for _ in 0..6 {
         let mut twin = Twin::new(PLAN.blocks, PLAN.entries);
         for _ in 0..800 {
@@ -227,22 +195,9 @@ fn wrong_queries_are_as_the_account_says() {
             let right = ask_in(None, &probe, &ids, stretch, room);
             for (fault, different) in QUERY_FAULTS.into_iter().zip(&mut different) {
                 let answer = ask_in(Some(fault), &probe, &ids, stretch, room);
-                let expected = plain_query(fault, &twin.ledger, &ids, None, stretch, room);
+                let expected = plain_query(fault, &twin.ledger, &ids, stretch, room);
                 assert_eq!(answer, expected, "{fault:?}, {stretch:?}");
                 *different += usize::from(answer != right);
-            }
-            // Drawn from a copy, so that a badge moves nothing else.
-            let badge = any_badge(&mut Rng(rng.0), PLAN.names);
-            let badge: Vec<&[u8]> = badge.iter().map(|name| &name[..]).collect();
-            let right_as = ask_as(None, &probe, &ids, &badge, stretch, room);
-            for (fault, different) in QUERY_FAULTS.into_iter().zip(&mut different_as) {
-                let answer = ask_as(Some(fault), &probe, &ids, &badge, stretch, room);
-                let expected = match &right_as {
-                    Ok(_) => plain_query(fault, &twin.ledger, &ids, Some(&badge), stretch, room),
-                    refused => refused.clone(),
-                };
-                assert_eq!(answer, expected, "{fault:?}, {badge:?}, {stretch:?}");
-                *different += usize::from(answer != right_as);
             }
             // A merge that drops negative counts has no part in a query.
             let dropped = ask_in(Some(Fault::DroppedNegatives), &probe, &ids, stretch, room);
@@ -250,15 +205,7 @@ fn wrong_queries_are_as_the_account_says() {
         }
     }
     println!("Queries that differ: {different:?} of {}", 6 * 800);
-    println!("Under a badge: {different_as:?}");
-    for (place, fault) in QUERY_FAULTS.into_iter().enumerate() {
-        let (times, times_as) = (different[place], different_as[place]);
-        assert!(
-            (times > 50) != fault.needs_badge(),
-            "{fault:?}: {times} times"
-        );
-        assert!(times_as > 30, "{fault:?}: {times_as} times under a badge");
-    }
+    assert!(different.iter().all(|&times| times > 50), "{different:?}");
 }
 
 /// What the merge that is due gives without negative counts.

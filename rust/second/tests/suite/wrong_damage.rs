@@ -3,11 +3,11 @@
 
 use crate::build::build;
 use crate::damage::{PLAN, any_name, damage};
-use crate::history::{act, any_badge, any_stretch};
+use crate::history::{act, any_stretch};
 use crate::malformed::{card_of, part};
 use crate::rng::Rng;
 use crate::twin::{Twin, check_byte_rule};
-use crate::wrong::{Answer, ask, ask_as, ask_in, count, step};
+use crate::wrong::{ask, ask_in, count, step};
 use second::commands::Probe;
 use second::engine;
 use second::faults::Fault;
@@ -26,12 +26,9 @@ fn bear(probe: &Probe, rng: &mut Rng) -> usize {
     let room = rng.pick(&[0, 1, 2, 5, 32, 33]);
     let stretch = any_stretch(rng, probe.state.windows.last);
     let identifier = any_name(rng);
-    let badge = any_badge(&mut Rng(rng.0), PLAN.names);
-    let badge: Vec<&[u8]> = badge.iter().map(|name| &name[..]).collect();
     let mut done = 0;
     for fault in Fault::ALL {
         done += usize::from(ask_in(Some(fault), probe, &ids, stretch, room).is_ok());
-        done += usize::from(ask_as(Some(fault), probe, &ids, &badge, stretch, room).is_ok());
         let mut stepped = probe.clone();
         let mut counted = probe.clone();
         let results = [
@@ -65,7 +62,7 @@ fn wrong_engines_refuse_or_bear_damage() {
             done += bear(&probe, &mut rng);
         }
     }
-    println!("Wrong calls done on damage: {done} of {}", 4 * 800 * 60);
+    println!("Wrong calls done on damage: {done} of {}", 4 * 800 * 39);
     assert!(done > 5000, "{done}");
 }
 
@@ -148,8 +145,7 @@ fn compare_steps(fault: Fault, probe: &Probe) {
 #[test]
 fn wrong_engines_refuse_no_more_than_the_right_one() {
     let mut rng = Rng(79);
-    let (mut queries, mut different) = (0, [0; 15]);
-    let (mut badges, mut different_as) = (0, [0; 15]);
+    let (mut queries, mut different) = (0, [0; 13]);
     for _ in 0..6000 {
         let probe = any_foreign(&mut rng);
         let ids: [&[u8]; 5] = [b"A", b"B", b"C", b"D", b"X"];
@@ -163,44 +159,24 @@ fn wrong_engines_refuse_no_more_than_the_right_one() {
         queries += usize::from(right.is_ok());
         for (fault, different) in Fault::ALL.into_iter().zip(&mut different) {
             let answer = ask_in(Some(fault), &probe, ids, stretch, room);
-            *different += usize::from(compare_answers(fault, &answer, &right));
+            assert_eq!(answer.as_ref().err(), right.as_ref().err(), "{fault:?}");
+            *different += usize::from(answer != right);
+            let (hits, _) = answer.unwrap_or_default();
+            let order: Vec<(u32, u16)> = hits.iter().map(|hit| (hit.1, hit.0)).collect();
+            assert!(order.is_sorted_by(|a, b| a > b), "{fault:?}");
+            assert!(order.iter().all(|hit| hit.0 <= 306_000), "{fault:?}");
             compare_steps(fault, &probe);
-        }
-        // Drawn from a copy, so that a badge moves nothing else.
-        let badge: &[&[u8]] = Rng(rng.0).pick(&[&[b"A"], &[b"B"], &[b"C", b"X"], &[b"B", b"B"]]);
-        let right = ask_as(None, &probe, ids, badge, stretch, room);
-        badges += usize::from(right.is_ok());
-        for (fault, different) in Fault::ALL.into_iter().zip(&mut different_as) {
-            let answer = ask_as(Some(fault), &probe, ids, badge, stretch, room);
-            *different += usize::from(compare_answers(fault, &answer, &right));
         }
     }
     println!("Foreign cards: {queries} queries, different: {different:?}");
-    println!("{badges} queries under a badge, different: {different_as:?}");
-    assert!(queries > 1000 && badges > 1000, "{queries}, {badges}");
-    let hidden = [Fault::CutIdentifiers, Fault::DroppedNegatives];
-    for (place, fault) in Fault::ALL.into_iter().enumerate() {
-        for (times, is_hidden) in [
-            (different[place], fault.needs_badge()),
-            (different_as[place], false),
-        ] {
-            let is_hidden = is_hidden || hidden.contains(&fault);
-            assert!(
-                if is_hidden { times == 0 } else { times > 50 },
-                "{fault:?}: {times}"
-            );
-        }
+    assert!(queries > 1000, "{queries}");
+    for (fault, times) in Fault::ALL.into_iter().zip(different) {
+        let is_hidden = [Fault::CutIdentifiers, Fault::DroppedNegatives].contains(&fault);
+        assert!(
+            if is_hidden { times == 0 } else { times > 50 },
+            "{fault:?}: {times}"
+        );
     }
-}
-
-/// Whether a wrong engine's answer differs from the right one, which is refused alike; its hits are in their order.
-fn compare_answers(fault: Fault, answer: &Answer, right: &Answer) -> bool {
-    assert_eq!(answer.as_ref().err(), right.as_ref().err(), "{fault:?}");
-    let hits = answer.iter().flat_map(|(hits, _)| hits);
-    let order: Vec<(u32, u16)> = hits.map(|hit| (hit.1, hit.0)).collect();
-    assert!(order.is_sorted_by(|a, b| a > b), "{fault:?}");
-    assert!(order.iter().all(|hit| hit.0 <= 306_000), "{fault:?}");
-    answer != right
 }
 
 /// A place that takes back from a live window, as only a foreign card has it, is

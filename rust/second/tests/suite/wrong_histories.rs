@@ -25,8 +25,6 @@ struct Habit {
     flushes_first: bool,
     /// Whether queries are asked over a part of the windows.
     stretches: bool,
-    /// Whether queries are asked under a badge.
-    badges: bool,
 }
 
 /// Six short identifiers.
@@ -56,7 +54,6 @@ const ANY: Habit = Habit {
     merges_whole: false,
     flushes_first: false,
     stretches: true,
-    badges: true,
 };
 
 /// The habit that is nearest to it and with which the fault does not show.
@@ -87,10 +84,6 @@ fn hiding(fault: Fault) -> Habit {
         | Fault::LiveOutside
         | Fault::FrequencyOutside => Habit {
             stretches: false,
-            ..ANY
-        },
-        Fault::HiddenFrequency | Fault::StoredTaken => Habit {
-            badges: false,
             ..ANY
         },
     }
@@ -124,20 +117,11 @@ fn next_line(rng: &mut Rng, probe: &Probe, habit: &Habit, split: usize) -> Strin
 }
 
 fn query_line(rng: &mut Rng, habit: &Habit, last: u16) -> String {
-    // Drawn from a copy, so that neither a stretch nor a badge moves anything else of a history.
+    // Drawn from a copy, so that a stretch moves nothing else of a history.
     let mut copy = Rng(rng.0);
-    let stretch = match any_stretch(&mut copy, last) {
-        stretch if habit.stretches && copy.one_in(2) => Some(stretch),
-        _ => None,
-    };
-    let badge = (habit.badges && copy.one_in(3)).then(|| any_badge(&mut copy, habit, last));
-    let start = match (badge, stretch) {
-        (Some(badge), stretch) => {
-            let Stretch { first, last } = stretch.unwrap_or(Stretch::ALL);
-            format!("A {first} {last} {badge}")
-        }
-        (None, Some(Stretch { first, last })) => format!("S {first} {last}"),
-        (None, None) => "Q".to_string(),
+    let start = match any_stretch(&mut copy, last) {
+        Stretch { first, last } if habit.stretches && copy.one_in(2) => format!("S {first} {last}"),
+        _ => "Q".to_string(),
     };
     let mut line = format!("{start} {}", rng.pick(&[0, 1, 1, 2, 3, 5, 8, 32, 33]));
     for _ in 0..rng.pick(&[0, 1, 1, 2, 2, 3, 5, 6]) {
@@ -145,20 +129,6 @@ fn query_line(rng: &mut Rng, habit: &Habit, last: u16) -> String {
         line += &format!(" {}", (habit.names)(rng, window));
     }
     line
-}
-
-/// The identifiers of a badge, as a line has them; now and then too few or too many.
-fn any_badge(rng: &mut Rng, habit: &Habit, last: u16) -> String {
-    let length = rng.pick(&[0, 1, 1, 1, 2, 2, 3, 8, 9]);
-    let names = (0..length).map(|_| {
-        let window = 1 + rng.below(usize::from(last) + 1) as u16;
-        format!("+{}", (habit.names)(rng, window))
-    });
-    let badge: String = names.collect();
-    match length {
-        0 => "+".to_string(),
-        _ => badge,
-    }
 }
 
 /// How a history went on both engines.
@@ -182,7 +152,7 @@ fn run(fault: Fault, habit: &Habit, rng: &mut Rng, seen: &mut Seen) {
         let before = (right.state.partitions.used, wrong.clone());
         let expected = obey(None, &mut right, &line);
         let answer = obey(Some(fault), &mut wrong, &line);
-        let is_query = line.starts_with(['Q', 'S', 'A']);
+        let is_query = line.starts_with(['Q', 'S']);
         if answer.starts_with('!') || is_query {
             assert!(wrong == before.1, "{line} changed something");
         }
@@ -218,13 +188,8 @@ fn a_wrong_engine_shows_on_random_histories() {
     for fault in Fault::ALL {
         let mut rng = Rng(72);
         let mut seen = Seen::default();
-        // A badge hides windows by which another fault shows.
-        let habit = Habit {
-            badges: fault.needs_badge(),
-            ..ANY
-        };
         for _ in 0..16 {
-            run(fault, &habit, &mut rng, &mut seen);
+            run(fault, &ANY, &mut rng, &mut seen);
         }
         println!("{}: {} lines of {}", fault.name(), seen.different, 16 * 700);
         assert!(seen.different > 10, "{fault:?}: {}", seen.different);

@@ -11,15 +11,15 @@ use Rattle.queries.proofs.judging.gather.Statement.{statement}
 use Rattle.queries.proofs.judging.gather.Tie as tie
 
 abbrev invariant-loop : tie.invariant-loop
-invariant-loop s card register ids run heads₀ spare₀ t live most used known₀ i₀ heads spare known i = (length heads ≡ length heads₀) × (length spare ≡ length spare₀) × Gathering (words card) run s t live most (names register) (map (λ x. x.now) ids) i known heads
+invariant-loop s card register ids run heads₀ spare₀ t live used known₀ i₀ heads spare known i = (length heads ≡ length heads₀) × (length spare ≡ length spare₀) × Gathering (words card) run s t live (names register) (map (λ x. x.now) ids) i known heads
 
 abbrev decreases-loop : tie.decreases-loop
-decreases-loop s card register ids run heads₀ spare₀ t live most used known₀ i₀ heads spare known i = length ids - i
+decreases-loop s card register ids run heads₀ spare₀ t live used known₀ i₀ heads spare known i = length ids - i
 
 loop-holds : tie.Need-loop-init invariant-loop decreases-loop
 loop-holds c =
     let a = c.before.before.before.before.before.before.args in
-    (refl, refl, gathering-none (words a.card.now) a.run.now a.s a.t a.live a.most (names a.register.now) (map (λ x. x.now) a.ids.now) _ a.heads.now refl refl refl)
+    (refl, refl, gathering-none (words a.card.now) a.run.now a.s a.t a.live (names a.register.now) (map (λ x. x.now) a.ids.now) _ a.heads.now refl refl refl)
 
 find-requires : tie.Need-find-requires invariant-loop decreases-loop
 find-requires c κs = c.before.before.before.before.before.before.before.before.before.requires.0.names
@@ -54,7 +54,7 @@ returns c =
     let h : l.loop.i < length ns = omega (arith, c.before.before.before.before.before.before.before.before.before.before.before.loop-test.true, length-map a.ids.now (λ x. x.now)) in
     let g : number_of ms (get_or ns l.loop.i []) < length ms = omega (arith, c.before.before.before.before.before.before.before.before.if1.true) in
     let o = c.before.before.before.before.before.keep_one in
-    gathered-fault W a.run.now a.s a.t a.live a.most ms ns l.loop.i l.loop.known l.loop.heads h l.loop.invariant.2 g o.result o.new.1.1.1.0 (subst (λ (j : ℕ). KeptOf W a.run.now a.s a.t a.live a.most l.loop.known l.loop.heads j o.result o.new.1.1.1.0) e o.ensures) (not-true _ c.if2.true)
+    gathered-fault W a.run.now a.s a.t a.live ms ns l.loop.i l.loop.known l.loop.heads h l.loop.invariant.2 g o.result o.new.1.1.1.0 (subst (λ (j : ℕ). KeptOf W a.run.now a.s a.t a.live l.loop.known l.loop.heads j o.result o.new.1.1.1.0) e o.ensures) (not-true _ c.if2.true)
 
 add-i : tie.Need-overflow-add-i invariant-loop decreases-loop
 add-i c = omega (arith, c.before.before.before.loop-test.true, c.before.before.before.before.before.before.before.before.before.before.before.well-formed.1.1.1.0)
@@ -78,9 +78,9 @@ loop-again c =
     (λ q. let g : number_of ms (get_or ns l.loop.i []) < length ms = omega (arith, q.0.taken) in
     let o = q.3 in
     rw (q.9, q.10, q.11)
-    (q.4.given ∙ v.0, q.6.given ∙ v.1, gathering-more W a.run.now a.s a.t a.live a.most ms ns l.loop.i l.loop.known l.loop.heads h v.2 g o.result o.last.1.1.1.0 (subst (λ (j : ℕ). KeptOf W a.run.now a.s a.t a.live a.most l.loop.known l.loop.heads j o.result o.last.1.1.1.0) e o.ensures) (not-false _ q.8.left)))
+    (q.4.given ∙ v.0, q.6.given ∙ v.1, gathering-more W a.run.now a.s a.t a.live ms ns l.loop.i l.loop.known l.loop.heads h v.2 g o.result o.last.1.1.1.0 (subst (λ (j : ℕ). KeptOf W a.run.now a.s a.t a.live l.loop.known l.loop.heads j o.result o.last.1.1.1.0) e o.ensures) (not-false _ q.8.left)))
     (λ q. let g : length ms ≤ number_of ms (get_or ns l.loop.i []) = omega (arith, q.0.left) in
-    rw (q.1, q.2, q.3) (v.0, v.1, gathering-unknown W a.run.now a.s a.t a.live a.most ms ns l.loop.i l.loop.known l.loop.heads h v.2 g))
+    rw (q.1, q.2, q.3) (v.0, v.1, gathering-unknown W a.run.now a.s a.t a.live ms ns l.loop.i l.loop.known l.loop.heads h v.2 g))
     c.if1.branch
 
 same-length-3 : tie.Need-same-length-3 invariant-loop decreases-loop
@@ -93,7 +93,7 @@ returns-2 : tie.Need-returns-2 invariant-loop decreases-loop
 returns-2 c =
     let l = c.before in
     let a = c.before.before.before.before.before.before.before.before.args in
-    gathered-all (words a.card.now) a.run.now a.s a.t a.live a.most (names a.register.now) (map (λ x. x.now) a.ids.now) l.loop.i l.loop.known l.loop.heads (omega (arith, length-map a.ids.now (λ x. x.now))) l.loop.invariant.2
+    gathered-all (words a.card.now) a.run.now a.s a.t a.live (names a.register.now) (map (λ x. x.now) a.ids.now) l.loop.i l.loop.known l.loop.heads (omega (arith, length-map a.ids.now (λ x. x.now))) l.loop.invariant.2
 
 pub gather-spec : {M : Type 1} → statement M
 gather-spec =

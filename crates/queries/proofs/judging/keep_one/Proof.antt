@@ -1,4 +1,4 @@
--- `queries::judging::keep_one` meets its contract: as many are kept as may be, and one more.
+-- `queries::judging::keep_one` meets its contract: five are kept, and one more.
 use Rattle.lists.proofs.Prelude.{refl, ◌∙◌, ◌+◌, ◌*◌, ◌≤◌, arith, drop, length-drop, length-take-le, needs}
 use Rattle.words.specs.Words.{words}
 use Rattle.kway.proofs.Parts.{ends, width}
@@ -11,7 +11,7 @@ returns c =
     let s = c.before.before.before.before.before.before.before.before.before.before in
     record {
       fine = c.before.before.judge-term.ensures;
-      keeps = λ f. keeps-full (words s.args.card.now) s.args.run.now s.args.s s.args.t s.args.live s.args.most s.args.k _ s.args.heads.now s.args.id c.before.before.before.before.if1.true refl refl;
+      keeps = λ f. keeps-full (words s.args.card.now) s.args.run.now s.args.s s.args.t s.args.live s.args.k _ s.args.heads.now s.args.id c.before.before.before.before.if1.true refl refl;
       used = s.requires.1;
       few = s.requires.2;
     }
@@ -20,35 +20,35 @@ mul_at : tie.Need-overflow-mul-at
 mul_at c =
     let s = c.before.before.before.before.before.before.before.before in
     let n = s.args.s.partitions.used in
-    let e = ends (4 * (n + 1) + 4) s.args.k.used s.args.most (omega (arith, c.before.before.if1.false)) in
-    omega (arith, e, s.requires.0.room, s.requires.0.short)
+    let e = ends (4 * (n + 1) + 4) s.args.k.used 5 (omega (arith, c.before.before.if1.false)) in
+    omega (arith, e, s.requires.0.room, s.requires.0.most)
 
 add-end : tie.Need-overflow-add-end
 add-end c =
     let s = c.before.before.before.before.before.before.before.before in
     let n = s.args.s.partitions.used in
-    let e = ends (4 * (n + 1) + 4) s.args.k.used s.args.most (omega (arith, c.before.before.if1.false)) in
-    omega (arith, e, s.requires.0.room, s.requires.0.short)
+    let e = ends (4 * (n + 1) + 4) s.args.k.used 5 (omega (arith, c.before.before.if1.false)) in
+    omega (arith, e, s.requires.0.room, s.requires.0.most)
 
 mul-keep-term : tie.Need-overflow-mul-keep-term
 mul-keep-term c =
     let s = c.before.before.before.before.before.before.before.before in
     let n = s.args.s.partitions.used in
-    let e = ends (4 * (n + 1) + 4) s.args.k.used s.args.most (omega (arith, c.before.before.if1.false)) in
-    omega (arith, e, s.requires.0.room, s.requires.0.short)
+    let e = ends (4 * (n + 1) + 4) s.args.k.used 5 (omega (arith, c.before.before.if1.false)) in
+    omega (arith, e, s.requires.0.room, s.requires.0.most)
 
 part-keep-term-end : tie.Need-slice-bounds-keep-term-end
 part-keep-term-end c =
     let s = c.before.before.before.before.before.before.before.before in
     let n = s.args.s.partitions.used in
-    let e = ends (4 * (n + 1) + 4) s.args.k.used s.args.most (omega (arith, c.before.before.if1.false)) in
-    omega (arith, e, s.requires.0.room, s.requires.0.short)
+    let e = ends (4 * (n + 1) + 4) s.args.k.used 5 (omega (arith, c.before.before.if1.false)) in
+    omega (arith, e, s.requires.0.room, s.requires.0.most)
 
 keep-term-requires : tie.Need-keep-term-requires
 keep-term-requires c κs =
     let s = c.before.before.before.before.before.before.before.before.before.before in
     let n = s.args.s.partitions.used in
-    let e = ends (4 * (n + 1) + 4) s.args.k.used s.args.most (omega (arith, c.before.before.before.before.if1.false)) in
+    let e = ends (4 * (n + 1) + 4) s.args.k.used 5 (omega (arith, c.before.before.before.before.if1.false)) in
     let u = s.args.k.used in
     let w = width (4 * (n + 1) + 4) u in
     let r = s.requires.0 in
@@ -56,22 +56,17 @@ keep-term-requires c κs =
     let l = length-take-le (4 * (n + 1) + 4) (drop ((4 * (n + 1) + 4) * u) H) (omega (arith, length-drop ((4 * (n + 1) + 4) * u) H, e, r.room)) in
     (r.rule, r.long, r.partitions, r.packed, r.one, rw w (l ∙ omega arith))
 
-add-taken : tie.Need-overflow-add-t28
-add-taken c =
-    let s = c.before.before.before.before.before.before.before.before.before.before.before.before.before.before.before.before.before.before in
-    omega (arith, c.before.before.before.before.before.before.before.keep-term.ensures.few, s.requires.0.terms, s.requires.1, s.requires.2)
-
 returns-2 : tie.Need-returns-2
 returns-2 c =
     let s = c.before.before.before.before.before.before.before.before.before.before.before.before.before.before.before.before.before.before in
     let n = s.args.s.partitions.used in
-    let e = ends (4 * (n + 1) + 4) s.args.k.used s.args.most (omega (arith, c.before.before.before.before.before.before.before.before.before.before.before.before.if1.false)) in
+    let e = ends (4 * (n + 1) + 4) s.args.k.used 5 (omega (arith, c.before.before.before.before.before.before.before.before.before.before.before.before.if1.false)) in
     let o = c.before.before.before.before.before.before.before.keep-term in
-    let room : s.args.k.used + 1 ≤ s.args.most = omega (arith, c.before.before.before.before.before.before.before.before.before.before.before.before.if1.false) in
+    let five : s.args.k.used + 1 ≤ 5 = omega (arith, c.before.before.before.before.before.before.before.before.before.before.before.before.if1.false) in
     record {
       fine = o.ensures.fine;
-      keeps = λ f. keeps-room (words s.args.card.now) s.args.run.now s.args.s s.args.t s.args.live s.args.most s.args.k _ s.args.heads.now o.new.1.1.0 s.args.id o.result (omega arith) (omega (arith, e, s.requires.0.room)) o.ensures f refl refl;
-      used = room;
+      keeps = λ f. keeps-room (words s.args.card.now) s.args.run.now s.args.s s.args.t s.args.live s.args.k _ s.args.heads.now o.new.1.1.0 s.args.id o.result (omega arith) (omega (arith, e, s.requires.0.room)) o.ensures f refl refl;
+      used = five;
       few = omega (arith, o.ensures.few, s.requires.2);
     }
 
@@ -95,7 +90,7 @@ keep-one-spec =
     part-keep-term-end
     keep-term-requires
     (λ c. search needs)
-    add-taken
+    (λ c. search needs)
     (λ c. search needs)
     (λ c. search needs)
     returns-2)
