@@ -1,1 +1,3 @@
 // Ledger and account, and the engine on lists of postings, which answers as they do.
+
+#![tactic(auto)]

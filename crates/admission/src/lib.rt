@@ -1,4 +1,6 @@
 // What calls judge first: refusal 1 of the state, 2 of the buffers lent, and 3 of the register.
+#![tactic(auto)]
+
 ghost use Rattle.std.specs.Prelude.{true, [], ◌∷◌, ◌≡◌, ◌≤◌};
 ghost use Rattle.admission.specs.Admission.{first_of, told, card_tests, probe_tests};
 
@@ -6,7 +8,7 @@ use answers::Refusal;
 use state::Lengths;
 
 // Whether a call goes on, or why it does not.
-#[derive(Drop)]
+#[derive(Clone, Copy)]
 pub enum Admission {
     Granted,
     Refused(Refusal),

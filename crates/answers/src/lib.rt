@@ -1,9 +1,11 @@
 // What the engine's calls answer.
+#![tactic(auto)]
+
 ghost use Rattle.std.specs.Prelude.{◌≡◌};
 ghost use Rattle.answers.specs.Numbers.{refusal_number};
 
 // Why a call is refused. A refused call changes nothing.
-#[derive(Drop)]
+#[derive(Clone, Copy)]
 pub enum Refusal {
     BrokenState,
     WrongLength,
@@ -25,49 +27,49 @@ pub enum Refusal {
 }
 
 // The answer of a call that gives no value.
-#[derive(Drop)]
+#[derive(Clone, Copy)]
 pub enum Reply {
     Done,
     Refused(Refusal),
 }
 
 // The answer of an open: the window's number.
-#[derive(Drop)]
+#[derive(Clone, Copy)]
 pub enum Opened {
     Number(u16),
     Refused(Refusal),
 }
 
 // The answer of a query: how many hits are listed, and how many postings were taken up.
-#[derive(Drop)]
+#[derive(Clone, Copy)]
 pub enum Found {
     Hits(u16, u32),
     Refused(Refusal),
 }
 
 // The answer of a mean: whole quotient, remainder, and the number of windows that the sum was divided by.
-#[derive(Drop)]
+#[derive(Clone, Copy)]
 pub enum Averaged {
     Mean(u16, u16, u16),
     Refused(Refusal),
 }
 
 // Where a plan stops: nowhere, or at the first call that is refused, told by the plan's window, from 1, and its event, from 1, or 0 for the open.
-#[derive(Drop)]
+#[derive(Clone, Copy)]
 pub enum Stop {
     Nowhere,
     At(u64, u16, Refusal),
 }
 
 // The answer of a forecast: flushes, blocks of finished partitions, register entries used, and where the plan stops.
-#[derive(Drop)]
+#[derive(Clone, Copy)]
 pub enum Forecast {
     Course(u16, u64, u16, Stop),
     Refused(Refusal),
 }
 
 // A window that a query lists, with its score.
-#[derive(Drop)]
+#[derive(Clone, Copy)]
 pub struct Hit {
     pub window: u16,
     pub score: u32,

@@ -1,4 +1,6 @@
 // The mean count of an identifier, where its windows and its sum are known.
+#![tactic(auto)]
+
 ghost use Rattle.std.specs.Prelude.{◌≡◌, ◌*◌, ◌≤◌};
 ghost use Rattle.answers.specs.Answers.{answer_of};
 ghost use Rattle.answers.specs.Numbers.{averaged_as};

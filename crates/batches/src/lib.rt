@@ -1,5 +1,7 @@
 // Removal of several windows together: all or none. All removals are judged before a byte is written, and then made. Both halves read the counts of some windows
 // at a time, so that few of them lie on the stack.
+#![tactic(auto)]
+
 ghost use Rattle.std.specs.Prelude.{true, cond, ◌&&◌, [], ◌≡◌, ◌+◌, ◌-◌, ◌*◌, ◌≤◌, min, length};
 ghost use Rattle.lists.specs.Lists.{every};
 ghost use Rattle.words.specs.Words.{words as words_of};
@@ -79,7 +81,7 @@ fn batch_ok(named: &[u32]) -> bool
 }
 
 // What a flush is judged by besides its free block: partitions of level 0, blocks of finished partitions, blocks of the card.
-#[derive(Drop)]
+#[derive(Clone, Copy)]
 struct Room {
     pub low: u32,
     pub used: u64,
@@ -229,7 +231,7 @@ pub fn judge(s: State, card: &[u8], named: &[u32]) -> Reply
 }
 
 // The finished partitions, and the block last taken.
-#[derive(Drop)]
+#[derive(Clone, Copy)]
 struct Listing {
     pub partitions: Partitions,
     pub taken: u16,

@@ -1,4 +1,6 @@
 // Free blocks found in the order of taking, words of a block written, blocks freed.
+#![tactic(auto)]
+
 ghost use Rattle.std.specs.Prelude.{true, false, [], ◌∷◌, ◌≡◌, ◌+◌, ◌*◌, ◌%◌, ◌≤◌, ◌<◌, leb, length, get_or, set};
 ghost use Rattle.lists.specs.Lists.{different};
 ghost use Rattle.words.specs.Words.{words as words_of};
@@ -37,7 +39,7 @@ fn tried(blocks: u32, taken: u16, i: u32) -> u16
 }
 
 // A free block, if there is one.
-#[derive(Drop)]
+#[derive(Clone, Copy)]
 pub enum Free {
     Block(u16),
     Nothing,

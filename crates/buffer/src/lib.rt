@@ -1,4 +1,6 @@
 // The buffered postings: finding a pair, and adding a signed amount to it.
+#![tactic(auto)]
+
 ghost use Rattle.std.specs.Prelude.{◌≡◌, ◌≤◌, ◌<◌, neg_ℤ, nat_abs, ◌+ℤ◌, set};
 ghost use Rattle.lists.specs.Lists.{any};
 ghost use Rattle.postings.specs.Order.{same_pair};
@@ -11,7 +13,7 @@ use postings::Posting;
 use state::Buffer;
 
 // Where a pair stands, or before which place it would be put in.
-#[derive(Drop)]
+#[derive(Clone, Copy)]
 pub enum Place {
     At(u16),
     Before(u16),

@@ -1,4 +1,6 @@
 // The engine's functions for callers in C and Rust: numbers and byte slices alone. A state is lent as its byte image.
+#![tactic(auto)]
+
 ghost use Rattle.std.specs.Prelude.{true, cond, ◌&&◌, map, ◌≡◌, ◌*◌, ◌≤◌, length};
 ghost use Rattle.answers.specs.Answers.{done, leave, answer_of, carry};
 ghost use Rattle.identifiers.specs.Register.{register_rule};

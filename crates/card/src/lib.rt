@@ -1,4 +1,6 @@
 // The card as it is read: blocks, links, chains, cursors. A block's words begin at 1,024 times its number; the last one is its link.
+#![tactic(auto)]
+
 ghost use Rattle.std.specs.Prelude.{true, false, ◌||◌, ◌≡◌, ℕ, ◌+◌, ◌*◌, ◌%◌, ◌≤◌, ◌<◌, eqb, length, get_or, take, drop};
 ghost use Rattle.lists.specs.Lists.{elem};
 ghost use Rattle.words.specs.Words.{words as words_of};
@@ -20,7 +22,7 @@ pub const LINK: u16 = 1023;
 pub const LAST: u32 = 65534;
 
 // A place in the content of a chain: a word of a block, and how many words are still to come from there on.
-#[derive(Drop)]
+#[derive(Clone, Copy)]
 pub struct Cursor {
     pub block: u16,
     pub word: u16,
@@ -114,7 +116,7 @@ pub fn chain_ok(card: &[u8], blocks: u32, first: u16, n: u32) -> bool
 }
 
 // A mark for each block that a card can have.
-#[derive(Drop)]
+#[derive(Clone, Copy)]
 pub struct Marks {
     pub bits: [u64; 64],
 }
@@ -147,7 +149,7 @@ fn mark(m: Marks, block: u16) -> Marks
 }
 
 // Whether the blocks of a chain were unmarked and all different, and then the marks with theirs, else as they were.
-#[derive(Drop)]
+#[derive(Clone, Copy)]
 pub struct Marked {
     pub apart: bool,
     pub marks: Marks,

@@ -1,5 +1,7 @@
 // N counted from card and buffer: the windows of a stretch that show and have a count above 0. A walk by falling key reads all lists; each window is marked, and
 // counted, at its first total above 0.
+#![tactic(auto)]
+
 ghost use Rattle.std.specs.Prelude.{true, false, cond, ◌||◌, ◌≡◌, ◌++◌, ℕ, ◌+◌, ◌*◌, ◌≤◌, ◌<◌, eqb, length};
 ghost use Rattle.lists.specs.All.{AllOf};
 ghost use Rattle.lists.specs.Lists.{every};
@@ -27,7 +29,7 @@ use sums::Front;
 const MARKS: usize = 1024;
 
 // Whether what was read is well formed, and N where it is.
-#[derive(Drop)]
+#[derive(Clone, Copy)]
 pub struct Census {
     pub fine: bool,
     pub windows: u32,

@@ -1,4 +1,6 @@
 // What a line of the command program asks for.
+#![tactic(auto)]
+
 ghost use Rattle.std.specs.Prelude.{[], ◌∷◌, map, ◌≡◌};
 ghost use Rattle.texts.specs.Fields.{number_in};
 ghost use Rattle.commands.specs.Commands.{remove_order, query_order, Names, Means};
@@ -6,7 +8,7 @@ ghost use Rattle.commands.specs.Commands.{remove_order, query_order, Names, Mean
 use texts::Number;
 
 // A call that is answered with a reply. An event's identifier is the line's second field.
-#[derive(Drop)]
+#[derive(Clone, Copy)]
 pub enum Change {
     Event,
     Close,
@@ -16,7 +18,7 @@ pub enum Change {
 }
 
 // What a line asks for. A query's identifiers are the fields from the third on.
-#[derive(Drop)]
+#[derive(Clone, Copy)]
 pub enum Order {
     Open,
     Change(Change),

@@ -1,1 +1,3 @@
 // The three demands, stated as theorems on one page.
+
+#![tactic(auto)]

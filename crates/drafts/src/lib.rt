@@ -1,4 +1,6 @@
 // The output of a merge in progress, judged against what the inputs give so far.
+#![tactic(auto)]
+
 ghost use Rattle.std.specs.Prelude.{true, ◌≡◌, ◌+◌, ◌*◌, ◌≤◌, ◌<◌, length, take, drop};
 ghost use Rattle.lists.specs.All.{AllOf};
 ghost use Rattle.words.specs.Words.{words as words_of};
@@ -18,7 +20,7 @@ use inputs::Batch;
 use state::Partitions;
 
 // Whether the output in progress holds what it should, how many postings that is, and the pairs that come next.
-#[derive(Drop)]
+#[derive(Clone, Copy)]
 pub struct Draft {
     pub ok: bool,
     pub written: u32,

@@ -1,4 +1,6 @@
 // An event: judged first, and then counted.
+#![tactic(auto)]
+
 ghost use Rattle.windows.specs.Promises.{probe_of};
 ghost use Rattle.events.specs.Event.{Counts};
 ghost use Rattle.events.specs.Verdicts.{Admitted};
@@ -12,7 +14,7 @@ pub mod counting; // counting an event that is judged
 pub mod judging; // judging an event
 
 // What an event comes to before anything is written: its identifier's number, or a refusal.
-#[derive(Drop)]
+#[derive(Clone, Copy)]
 pub enum Verdict {
     Number(u16),
     Refused(Refusal),

@@ -1,4 +1,6 @@
 // The flush: judged first, and then written. It promises its answer, the state and the card as its definition says, whatever it is given.
+#![tactic(auto)]
+
 ghost use Rattle.std.specs.Prelude.{true, ◌≡◌, ◌≤◌, ◌<◌, length};
 ghost use Rattle.lists.specs.Lists.{empty, total_by};
 ghost use Rattle.words.specs.Words.{words as words_of, bytes};
@@ -17,7 +19,7 @@ use windows::Replied;
 pub mod writing; // the buffered postings as one partition of level 0
 
 // What a flush comes to: nothing to write, a block to write to, or a refusal.
-#[derive(Drop)]
+#[derive(Clone, Copy)]
 pub enum Target {
     Nothing,
     Block(u16),

@@ -19,7 +19,7 @@ use events::Verdict;
 use state::{Listed, Windows};
 
 // What an event of a plan answers, and the sketch after it.
-#[derive(Drop)]
+#[derive(Clone, Copy)]
 pub struct Turn {
     pub reply: Reply,
     pub sketch: Sketch,

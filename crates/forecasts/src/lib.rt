@@ -1,4 +1,6 @@
 // A forecast: what the calls of a plan come to, told from state and register without changing a byte.
+#![tactic(auto)]
+
 ghost use Rattle.std.specs.Prelude.{true, not, [], ◌∷◌, ◌++◌, ◌≡◌, ◌+◌, ◌-◌, ◌<◌, ◌≤◌, eqb, leb, length};
 ghost use Rattle.answers.specs.Answers.{forecast as foretold};
 ghost use Rattle.answers.specs.Numbers.{halt_as, forecast_as};
@@ -23,7 +25,7 @@ mod naming; // the numbers of a plan's identifiers
 const MOST_ENTRIES: usize = 1024;
 
 // What a forecast goes by, moved on from call to call. The identifiers that are new to the register are kept beside it, by their places in the plan.
-#[derive(Drop)]
+#[derive(Clone, Copy)]
 pub struct Sketch {
     pub windows: Windows,
     pub listed: Listed,
@@ -38,7 +40,7 @@ pub struct Sketch {
 }
 
 // Where calls of a plan stop, if anywhere, and what they leave.
-#[derive(Drop)]
+#[derive(Clone, Copy)]
 pub struct Walked {
     pub stop: Stop,
     pub sketch: Sketch,

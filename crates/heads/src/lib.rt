@@ -1,5 +1,7 @@
 // The k-way merge of an identifier's lists, in the finished partitions and in the buffer: their heads stand in an array of numbers, four to a head, and are
 // moved in place. The buffer's part is one more head of the same kind: its places are those of the run, the buffer's postings packed as words.
+#![tactic(auto)]
+
 ghost use Rattle.std.specs.Prelude.{◌≡◌, ◌∷◌, map, ◌-◌, ◌*◌, ◌≤◌, ◌<◌, length};
 ghost use Rattle.std.specs.Int.Signed.{mag};
 ghost use Rattle.lists.specs.All.{AllOf};

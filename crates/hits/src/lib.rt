@@ -1,4 +1,6 @@
 // The query that is lent a list for its hits.
+#![tactic(auto)]
+
 ghost use Rattle.std.specs.Prelude.{map, ◌≡◌, ◌≤◌, ◌<◌, length, get_or};
 ghost use Rattle.queries.specs.Query.{fill};
 ghost use Rattle.ranking.specs.Top.{no_hit, listed_hits};

@@ -1,4 +1,6 @@
 // Identifiers and the register that numbers them.
+#![tactic(auto)]
+
 ghost use Rattle.std.specs.Prelude.{true, false, ◌&&◌, not, [], ◌≡◌, ◌+◌, ◌*◌, ◌<◌, ◌≤◌, eqb, length, get_or};
 ghost use Rattle.lists.specs.Lists.{every, same};
 ghost use Rattle.identifiers.specs.Names.{bad_length, number_of};

@@ -1,5 +1,7 @@
 // The reading side of a merge step: the inputs judged in one walk, and their pairs taken in order. A head for each input stands in a lent array of
 // numbers (`scans`), and is moved in place.
+#![tactic(auto)]
+
 ghost use Rattle.std.specs.Prelude.{◌≡◌, true, [], ◌∷◌, ◌++◌, ◌+◌, ◌*◌, ◌≤◌, ◌<◌, nat_abs, length, get_or, take, drop, replicate};
 ghost use Rattle.lists.specs.All.{AllOf};
 ghost use Rattle.words.specs.Words.{words as words_of};
@@ -19,7 +21,7 @@ use state::Partitions;
 
 // What is told of a merge's inputs: whether they are well formed, how many pairs they have, how many of these have a sum other than 0, of how many
 // identifiers these are, and their lowest and highest window.
-#[derive(Drop)]
+#[derive(Clone, Copy)]
 pub struct Totals {
     pub fine: bool,
     pub pairs: u32,
@@ -30,14 +32,14 @@ pub struct Totals {
 }
 
 // The pair that is taken next, and one more than the greatest key at any head past it.
-#[derive(Drop)]
+#[derive(Clone, Copy)]
 struct Next {
     pub pair: Posting,
     pub top: u32,
 }
 
 // Pairs taken: those with a sum other than 0, and how many were taken in all.
-#[derive(Drop)]
+#[derive(Clone, Copy)]
 pub struct Batch {
     pub pairs: [Posting; STEP_PAIRS],
     pub used: u16,
@@ -45,14 +47,14 @@ pub struct Batch {
 }
 
 // Whether the output has a pair's word, and the cursor past it.
-#[derive(Drop)]
+#[derive(Clone, Copy)]
 struct Compared {
     pub same: bool,
     pub out: Cursor,
 }
 
 // Whether the output has the words of pairs, one more than the greatest key at any head past them, and the output past them.
-#[derive(Drop)]
+#[derive(Clone, Copy)]
 pub struct Passed {
     pub same: bool,
     pub top: u32,

@@ -1,4 +1,6 @@
 // The merge step that is lent the record of the merge in progress.
+#![tactic(auto)]
+
 ghost use Rattle.std.specs.Prelude.{◌≡◌};
 ghost use Rattle.answers.specs.Numbers.{replied};
 ghost use Rattle.windows.specs.Promises.{Gives};
@@ -9,7 +11,7 @@ use state::{MergeJob, State};
 use windows::Replied;
 
 // What a step gives back beside the state: the record of the merge in progress.
-#[derive(Drop)]
+#[derive(Clone, Copy)]
 struct Stepped {
     replied: Replied,
     job: MergeJob,

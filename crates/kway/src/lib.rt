@@ -1,5 +1,7 @@
 // The k-way merge of lists by falling key: what is taken of one list and of all under a key. The heads of the lists stand in an array of numbers, as many
 // to each, and are moved in place; what a head's numbers mean is told by the crate that has them.
+#![tactic(auto)]
+
 ghost use Rattle.std.specs.Prelude.{◌≡◌, ◌&&◌, ◌≤◌, ◌+ℤ◌};
 ghost use Rattle.std.specs.Int.Signed.{mag};
 ghost use Rattle.keyed.specs.Keys.{larger as larger_of};
@@ -10,7 +12,7 @@ ghost use Rattle.partitions.specs.Formed.{in_range};
 pub const KEYS: u32 = 67108864;
 
 // What is taken of one list under a key: the count, whether the posting is well formed, and one more than the key at the head afterwards.
-#[derive(Drop)]
+#[derive(Clone, Copy)]
 pub struct Part {
     pub count: i16,
     pub fine: bool,
@@ -18,7 +20,7 @@ pub struct Part {
 }
 
 // What is taken of all lists under a key: the sum, whether each posting is well formed, and one more than the greatest key at any head afterwards.
-#[derive(Drop)]
+#[derive(Clone, Copy)]
 pub struct Taken {
     pub sum: i32,
     pub fine: bool,
@@ -26,7 +28,7 @@ pub struct Taken {
 }
 
 // One more than the greatest key at any head, a list that has it, and one more than the greatest key at the others.
-#[derive(Drop)]
+#[derive(Clone, Copy)]
 pub struct Lead {
     pub top: u32,
     pub at: u32,
@@ -34,7 +36,7 @@ pub struct Lead {
 }
 
 // What is taken of all lists under a key, and the list that leads afterwards.
-#[derive(Drop)]
+#[derive(Clone, Copy)]
 pub struct Led {
     pub sum: i32,
     pub fine: bool,

@@ -1,4 +1,6 @@
 // The finished partitions by level: how many a level has, where they stand, which level is due, and the list as merges change it.
+#![tactic(auto)]
+
 ghost use Rattle.std.specs.Prelude.{◌≡◌, ◌≤◌, leb};
 ghost use Rattle.lists.specs.Lists.{every};
 ghost use Rattle.state.specs.Views.{finished};
@@ -11,7 +13,7 @@ pub mod merging; // which partitions are merged, and what takes their place
 pub mod records; // partitions added and taken out
 
 // The highest level that is due.
-#[derive(Drop)]
+#[derive(Clone, Copy)]
 pub enum Due {
     Level(u16),
     Nothing,

@@ -1,1 +1,3 @@
 // Lists: definitions and laws that name nothing of the engine.
+
+#![tactic(auto)]

@@ -1,4 +1,6 @@
 // The mean count of an identifier.
+#![tactic(auto)]
+
 ghost use Rattle.std.specs.Prelude.{true, not, ◌≡◌, ◌*◌, length};
 ghost use Rattle.words.specs.Words.{words as words_of};
 ghost use Rattle.postings.specs.Sums.{frequency, amount};

@@ -1,4 +1,6 @@
 // A merge step. It promises its answer, the state and the card as its definition says, whatever it is given.
+#![tactic(auto)]
+
 ghost use Rattle.std.specs.Prelude.{true, false, ◌≡◌, ◌%◌, ◌<◌, length};
 ghost use Rattle.words.specs.Words.{words as words_of};
 ghost use Rattle.merges.specs.Promises.{Steps};
@@ -15,7 +17,7 @@ use windows::Replied;
 mod writing; // what a step writes, and the state that it leaves
 
 // What a step comes to: why it is refused; or, where it is written, whether it is the last, what its inputs come to, and its output.
-#[derive(Drop)]
+#[derive(Clone, Copy)]
 pub struct Deed {
     pub ready: bool,
     pub why: Refusal,

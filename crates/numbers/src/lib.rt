@@ -1,4 +1,6 @@
 // Answers as numbers, and the state that a call leaves put back into its image.
+#![tactic(auto)]
+
 ghost use Rattle.std.specs.Prelude.{◌≡◌, length};
 ghost use Rattle.answers.specs.Numbers.{replied, opened_as, averaged_as, halt_as, forecast_as};
 ghost use Rattle.answers.specs.Answers.{forecast};

@@ -1,4 +1,6 @@
 // A partition written along a chain of blocks: its header, entries and postings; free blocks linked, and a merge's inputs' blocks freed.
+#![tactic(auto)]
+
 ghost use Rattle.std.specs.Prelude.{true, [], map, ◌≡◌, ◌+◌, ◌-◌, ◌*◌, ◌%◌, ◌≤◌, ◌<◌, eqb, length, get_or, take};
 ghost use Rattle.lists.specs.All.{AllOf};
 ghost use Rattle.lists.specs.Lists.{every, different};
@@ -175,7 +177,7 @@ fn free_after(card: &[u8], blocks: u32, taken: u16) -> u16
 }
 
 // The first and the last of blocks that were linked.
-#[derive(Drop)]
+#[derive(Clone, Copy)]
 pub struct Linked {
     pub first: u16,
     pub last: u16,

@@ -1,4 +1,6 @@
 // Partitions on the card: their layout, and what is read of them.
+#![tactic(auto)]
+
 ghost use Rattle.std.specs.Prelude.{true, ◌≡◌, map, ◌∷◌, ◌+◌, ◌*◌, ◌≤◌, ◌<◌, length};
 ghost use Rattle.lists.specs.Lists.{every};
 ghost use Rattle.words.specs.Words.{words as words_of};
@@ -25,7 +27,7 @@ pub fn blocks_for(length: u32) -> u32
 }
 
 // The eight words of a header.
-#[derive(Drop)]
+#[derive(Clone, Copy)]
 struct Header {
     terms: u32,
     count: u32,
@@ -84,7 +86,7 @@ pub fn header_ok(card: &[u8], p: Partition) -> bool
 }
 
 // An entry: an identifier's number, how many postings it has and the index of the first, and the cursor past it.
-#[derive(Drop)]
+#[derive(Clone, Copy)]
 struct Entry {
     number: u32,
     count: u32,
@@ -214,7 +216,7 @@ pub fn find_list(card: &[u8], p: Partition, id: u16) -> Cursor
 }
 
 // A reader over a whole partition: the postings to come, of which `here` are under `id`, and the entries after that.
-#[derive(Drop)]
+#[derive(Clone, Copy)]
 pub struct Reader {
     pub postings: Cursor,
     pub entries: Cursor,

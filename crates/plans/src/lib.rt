@@ -1,4 +1,6 @@
 // What a merge step is to do, once its inputs are judged: the output in progress judged, or a merge begun, and the pairs that come next.
+#![tactic(auto)]
+
 ghost use Rattle.std.specs.Prelude.{true, false, [], ◌≡◌, ◌*◌, ◌%◌, ◌≤◌, ◌<◌, ◌+◌, length, get_or, take};
 ghost use Rattle.words.specs.Words.{words as words_of};
 ghost use Rattle.state.specs.Views.{blocks as blocks_of};
@@ -17,7 +19,7 @@ use state::{BLOCK_BYTES, Partitions, State};
 pub mod judging; // the output in progress
 
 // The output as a step finds it: its blocks, how many postings it has, and the block last taken.
-#[derive(Drop)]
+#[derive(Clone, Copy)]
 pub struct Output {
     pub first: u16,
     pub blocks: u32,
@@ -26,7 +28,7 @@ pub struct Output {
 }
 
 // What a step is to do: the output that it writes to, and the pairs that it takes; or why it is refused.
-#[derive(Drop)]
+#[derive(Clone, Copy)]
 pub struct Plan {
     pub ready: bool,
     pub why: Refusal,

@@ -1,4 +1,6 @@
 // Postings: their order, their sums, and the word of 32 bits that stores one.
+#![tactic(auto)]
+
 ghost use Rattle.std.specs.Prelude.{◌≡◌, ◌≤◌, nat_abs};
 ghost use Rattle.postings.specs.Order.{precedes};
 ghost use Rattle.postings.specs.Pack.{half, packed, count_of, is_posting, posted};
@@ -10,7 +12,7 @@ pub const LAST_ID: u32 = 1023;
 pub const STEP_PAIRS: usize = 16;
 
 // Which identifier, in which window, and how many: below 0 where counts are taken back.
-#[derive(Drop)]
+#[derive(Clone, Copy)]
 pub struct Posting {
     pub id: u16,
     pub window: u16,
@@ -18,7 +20,7 @@ pub struct Posting {
 }
 
 // A stretch of windows: its first and its last.
-#[derive(Drop)]
+#[derive(Clone, Copy)]
 pub struct Stretch {
     pub first: u16,
     pub last: u16,

@@ -1,5 +1,7 @@
 // The command program: takes each line of standard input as a command, and writes the text of its answer to standard output. The probe has a card of 16
 // blocks and a register of 64 entries. What lies between reading and writing is `sessions::lines`.
+#![tactic(auto)]
+
 ghost use Rattle.std.specs.Prelude.{[], ◌≤◌, length, take};
 ghost use Rattle.sessions.specs.Lines.{hand_of, Serves};
 
@@ -7,7 +9,7 @@ use answers::Reply;
 use state::State;
 
 // The probe's state, how many bytes of a line are kept, and whether all texts were written.
-#[derive(Drop)]
+#[derive(Clone, Copy)]
 struct Session {
     state: State,
     kept: usize,

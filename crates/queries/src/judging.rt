@@ -8,7 +8,7 @@ use postings::Stretch;
 use state::State;
 
 // Whether what is read of the identifiers is well formed, how many of the first five have a term, and how many postings these have.
-#[derive(Drop)]
+#[derive(Clone, Copy)]
 pub struct Known {
     pub fine: bool,
     pub used: u16,

@@ -1,4 +1,6 @@
 // The query.
+#![tactic(auto)]
+
 ghost use Rattle.std.specs.Prelude.{true, [], map, ◌≡◌, ◌+◌, ◌-◌, length};
 ghost use Rattle.state.specs.Rules.{state_rule};
 ghost use Rattle.identifiers.specs.Register.{register_rule};
@@ -16,7 +18,7 @@ pub mod judging; // judging a query and gathering what it reads
 pub mod walking; // the second pass, over the terms of a query's identifiers
 
 // What a query answers, and its hits.
-#[derive(Drop)]
+#[derive(Clone, Copy)]
 pub struct Answered {
     pub answer: Found,
     pub top: Top,

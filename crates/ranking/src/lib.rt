@@ -1,4 +1,6 @@
 // The best hits, in their order, and whether a query may be asked for them.
+#![tactic(auto)]
+
 ghost use Rattle.std.specs.Prelude.{◌||◌, [], ◌∷◌, ◌++◌, map, ◌≡◌, ◌+◌, ◌-◌, ◌≤◌, ◌<◌, min, ltb, take, drop};
 ghost use Rattle.ranking.specs.Hits.{outranks, place};
 ghost use Rattle.ranking.specs.Top.{top_of, listed_hits, Held, rank};
@@ -10,7 +12,7 @@ use answers::Hit;
 pub const MOST_PLACES: usize = 32;
 
 // The best hits so far, best first, and zeros after them.
-#[derive(Drop)]
+#[derive(Clone, Copy)]
 pub struct Top {
     pub used: u16,
     pub hits: [Hit; MOST_PLACES],

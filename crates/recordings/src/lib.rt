@@ -1,4 +1,6 @@
 // Windows of identifiers as they are lent: entries of 65 bytes like the register's, and how many belong to each window.
+#![tactic(auto)]
+
 ghost use Rattle.std.specs.Prelude.{false, [], ◌≡◌, ◌<◌, eqb, length, get_or};
 ghost use Rattle.lists.specs.Lists.{every};
 ghost use Rattle.identifiers.specs.Names.{bad_length};

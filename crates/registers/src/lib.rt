@@ -1,4 +1,6 @@
 // The whole register judged: every entry by its rule, and all identifiers different, by chains of equal hashes or by sorting.
+#![tactic(auto)]
+
 ghost use Rattle.std.specs.Prelude.{true, false, [], ◌≡◌, ℕ, ◌+◌, ◌*◌, ◌<◌, ◌≤◌, length, get_or, take};
 ghost use Rattle.identifiers.specs.Names.{among, distinct};
 ghost use Rattle.identifiers.specs.Register.{entries, used, names, register_rule};

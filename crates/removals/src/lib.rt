@@ -1,4 +1,6 @@
 // Removal of a window.
+#![tactic(auto)]
+
 ghost use Rattle.std.specs.Prelude.{true, ◌&&◌, ◌||◌, not, ◌≡◌, ◌+◌, ◌≤◌, eqb, ltb, length};
 ghost use mathlib.Core.List.{[], foldr};
 ghost use Rattle.postings.specs.Merge.{put, nonzero, negated};

@@ -1,4 +1,6 @@
 // The rules of what the probe remembers: refusal 1.
+#![tactic(auto)]
+
 ghost use Rattle.std.specs.Prelude.{◌≡◌, ◌≤◌};
 ghost use Rattle.state.specs.Rules.{lengths_rule, windows_rule, merge_rule, state_rule};
 

@@ -1,5 +1,7 @@
 // Whole finished partitions read together by a k-way merge, by falling key: identifier ascending, and then window falling. The head of each stands in ten words
 // of a lent array and is moved in place.
+#![tactic(auto)]
+
 ghost use Rattle.std.specs.Prelude.{◌≡◌, map, length, ◌*◌, ◌≤◌, ◌<◌};
 ghost use Rattle.std.specs.Int.Signed.{mag};
 ghost use Rattle.lists.specs.All.{AllOf};

@@ -18,7 +18,7 @@ use state::State;
 use terms::judging::Told;
 
 // Whether what is read of an identifier is well formed, and how many postings of it are stored.
-#[derive(Drop)]
+#[derive(Clone, Copy)]
 pub struct Counted {
     pub fine: bool,
     pub taken: u32,

@@ -13,7 +13,7 @@ ghost use Rattle.scores.specs.Terms.{term_of, KeptGroup, terms_of};
 ghost use Rattle.scores.specs.Scores.{moved, groups_in, weigh, score_at};
 
 // What is taken under a window: its score, whether a count is above 0, and one more than the greatest window to come.
-#[derive(Drop)]
+#[derive(Clone, Copy)]
 pub struct Scored {
     pub score: u32,
     pub counts: bool,

@@ -1,4 +1,6 @@
 // Lines of commands obeyed on a probe, one at a time.
+#![tactic(auto)]
+
 pub mod lines; // the input cut into lines
 
 ghost use Rattle.std.specs.Prelude.{map, ◌≤◌, length};
@@ -17,7 +19,7 @@ use state::State;
 use windows::Replied;
 
 // The state after a line, and how many bytes its text has.
-#[derive(Drop)]
+#[derive(Clone, Copy)]
 pub struct Done {
     pub state: State,
     pub used: usize,

@@ -6,14 +6,14 @@ use super::Done;
 use state::State;
 
 // How many bytes of a line are kept, and how many of a piece of the input were taken in for that.
-#[derive(Drop)]
+#[derive(Clone, Copy)]
 struct Kept {
     kept: usize,
     passed: usize,
 }
 
 // The state after some bytes of a piece, how many bytes of the line at hand are kept, how many of the piece were taken in, and how many of text there are.
-#[derive(Drop)]
+#[derive(Clone, Copy)]
 pub struct Taken {
     pub state: State,
     pub kept: usize,

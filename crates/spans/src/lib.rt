@@ -1,4 +1,6 @@
 // The lowest and the highest window of finished partitions, held against all their lists.
+#![tactic(auto)]
+
 ghost use Rattle.std.specs.Prelude.{map, ◌≡◌, ◌≤◌, min, max};
 ghost use Rattle.lists.specs.All.{AllOf};
 ghost use Rattle.lists.specs.Lists.{every};
@@ -15,7 +17,7 @@ use card::Cursor;
 use state::{Partition, Partitions};
 
 // The lowest and the highest window of postings.
-#[derive(Drop)]
+#[derive(Clone, Copy)]
 pub struct Span {
     pub lowest: u16,
     pub highest: u16,

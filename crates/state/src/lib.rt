@@ -1,4 +1,6 @@
 // What the probe remembers between calls.
+#![tactic(auto)]
+
 use postings::Posting;
 
 pub mod ids; // the open window's identifiers
@@ -16,14 +18,14 @@ pub const MOST_BUFFERED: usize = 128;
 pub const MOST_PARTITIONS: usize = 51;
 
 // The lengths in bytes of the buffers lent at the start.
-#[derive(Drop)]
+#[derive(Clone, Copy)]
 pub struct Lengths {
     pub card: u32,
     pub register: u32,
 }
 
 // The last window number given, how many closed windows are live (N), and the open window: its number, 0 for none, and its events.
-#[derive(Drop)]
+#[derive(Clone, Copy)]
 pub struct Windows {
     pub last: u16,
     pub live: u16,
@@ -32,21 +34,21 @@ pub struct Windows {
 }
 
 // The open window's identifiers in order of first count.
-#[derive(Drop)]
+#[derive(Clone, Copy)]
 pub struct Listed {
     pub used: u16,
     pub ids: [u16; MOST_LISTED],
 }
 
 // The buffered postings.
-#[derive(Drop)]
+#[derive(Clone, Copy)]
 pub struct Buffer {
     pub used: u16,
     pub postings: [Posting; MOST_BUFFERED],
 }
 
 // A finished partition: its first block, its level, its length in bytes, and the lowest and the highest window of its postings.
-#[derive(Drop)]
+#[derive(Clone, Copy)]
 pub struct Partition {
     pub first: u16,
     pub level: u16,
@@ -56,21 +58,21 @@ pub struct Partition {
 }
 
 // The finished partitions, oldest first.
-#[derive(Drop)]
+#[derive(Clone, Copy)]
 pub struct Partitions {
     pub used: u16,
     pub records: [Partition; MOST_PARTITIONS],
 }
 
 // How far a merge is: where its output begins, how long that will be, and how many steps were taken. All 0 where none is in progress.
-#[derive(Drop)]
+#[derive(Clone, Copy)]
 pub struct MergeJob {
     pub first: u16,
     pub length: u32,
     pub steps: u32,
 }
 
-#[derive(Drop)]
+#[derive(Clone, Copy)]
 pub struct State {
     pub lengths: Lengths,
     pub windows: Windows,

@@ -1,4 +1,6 @@
 // What a query of a stretch of windows reads: the finished partitions that are not wholly outside it.
+#![tactic(auto)]
+
 ghost use Rattle.std.specs.Prelude.{true, ◌≡◌, ◌≤◌};
 ghost use Rattle.lists.specs.Lists.{keep};
 ghost use Rattle.state.specs.Rules.{state_rule};

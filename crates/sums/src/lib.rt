@@ -1,4 +1,6 @@
 // The counts of windows, read from all that is stored in one pass by falling key.
+#![tactic(auto)]
+
 ghost use Rattle.std.specs.Prelude.{true, cond, ◌≡◌, [], ◌+◌, ◌*◌, ◌≤◌, ◌<◌, eqb, pos, length};
 ghost use Rattle.words.specs.Words.{words as words_of};
 ghost use Rattle.state.specs.Views.{blocks, finished};
@@ -19,21 +21,21 @@ pub const MOST_WINDOWS: usize = 32;
 pub const SLOT: usize = 65;
 
 // The counts of a window, by identifier.
-#[derive(Drop)]
+#[derive(Clone, Copy)]
 pub struct Counts {
     pub used: u16,
     pub postings: [Posting; MOST_LISTED],
 }
 
 // Whether what was read is well formed, and the window's counts where it is.
-#[derive(Drop)]
+#[derive(Clone, Copy)]
 pub struct Judged {
     pub fine: bool,
     pub counts: Counts,
 }
 
 // What the buffer has still to come first: one more than the key, and the count; 0 where nothing is to come.
-#[derive(Drop)]
+#[derive(Clone, Copy)]
 pub struct Front {
     pub reach: u32,
     pub count: i16,

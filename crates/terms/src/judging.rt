@@ -12,7 +12,7 @@ ghost use Rattle.terms.specs.Both.{Ready, both as both_of};
 
 // What is taken under a window: whether it is well formed with sums in range, what it counts, one more than the greatest window to come, and the list on
 // the card that leads.
-#[derive(Drop)]
+#[derive(Clone, Copy)]
 struct Judged {
     pub fine: bool,
     pub count: u32,
@@ -22,7 +22,7 @@ struct Judged {
 }
 
 // In how many windows that show the sum is above 0, and what these sums come to.
-#[derive(Drop)]
+#[derive(Clone, Copy)]
 pub enum Told {
     Malformed,
     Windows(u32, u32),

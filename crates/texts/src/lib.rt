@@ -1,11 +1,13 @@
 // Lines of text: the fields of a line, the number that a field gives, and the text of an answer.
+#![tactic(auto)]
+
 ghost use Rattle.std.specs.Prelude.{map, ◌≡◌, ◌≤◌, length, take};
 ghost use Rattle.texts.specs.Fields.{parts_of, number_in, number_of};
 
 pub mod writing; // the text of an answer
 
 // The number that a field is, or nothing.
-#[derive(Drop)]
+#[derive(Clone, Copy)]
 pub enum Number {
     Value(u32),
     Nothing,

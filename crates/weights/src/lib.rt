@@ -1,4 +1,6 @@
 // The weights of a score: that of a count, and that of how few windows have an identifier.
+#![tactic(auto)]
+
 pub mod logarithms;
 
 ghost use Rattle.std.specs.Prelude.{◌≡◌, ◌+◌, ◌≤◌, ◌^◌};

@@ -1,4 +1,6 @@
 // Start, open and close. Each promises its answer, the state and every buffer lent as its definition says, whatever it is given.
+#![tactic(auto)]
+
 ghost use Rattle.std.specs.Prelude.{◌&&◌, [], ◌≡◌, length, replicate};
 ghost use Rattle.state.specs.Views.{buffer_of, empty_state};
 ghost use Rattle.state.specs.Rules.{card_length, register_length};
@@ -12,14 +14,14 @@ use state::{
 };
 
 // What a call that gives no value answers, and the state after it.
-#[derive(Drop)]
+#[derive(Clone, Copy)]
 pub struct Replied {
     pub reply: Reply,
     pub state: State,
 }
 
 // What an open answers, and the state after it.
-#[derive(Drop)]
+#[derive(Clone, Copy)]
 pub struct Opening {
     pub answer: Opened,
     pub state: State,

@@ -1,4 +1,6 @@
 // A slice of bytes as little-endian words. A place counts words, so that nothing above this crate counts bytes.
+#![tactic(auto)]
+
 ghost use Rattle.std.specs.Prelude.{◌≡◌, ◌*◌, ◌%◌, ◌<◌, length, get_or, set, drop};
 ghost use Rattle.words.specs.Words.{joined4, words};
 
