@@ -7,6 +7,7 @@ ghost use Rattle.sessions.specs.Lines.{hand_of, Serves};
 
 use answers::Reply;
 use state::State;
+use std::io::{Read, Stdin};
 
 // The probe's state, how many bytes of a line are kept, and whether all texts were written.
 #[derive(Clone, Copy)]
@@ -82,7 +83,8 @@ fn serve_end(
 }
 
 // Reads to the end of the input. The turns are counted down from a number that no run uses up, since a proved loop has to end.
-fn run(s: State, card: &mut [u8], register: &mut [u8]) {
+fn run(from: Stdin, s: State, card: &mut [u8], register: &mut [u8]) {
+    let mut source = from;
     let mut line: [u8; 513] = [0; 513];
     let mut input = io::large_buffer();
     let mut out = io::large_buffer();
@@ -93,12 +95,13 @@ fn run(s: State, card: &mut [u8], register: &mut [u8]) {
     };
     let mut turns = u64::MAX;
     while turns > 0 {
-        let got = libc::read(0, &mut input);
-        if got < 0 {
-            tell_unread();
-            return;
-        }
-        let n = io::count(got, &input);
+        let n = match source.read(&mut input) {
+            Ok(n) => n,
+            Err(_) => {
+                tell_unread();
+                return;
+            }
+        };
         if n == 0 {
             serve_end(t.state, card, register, &line, t.kept, &mut out);
             return;
@@ -120,13 +123,13 @@ fn run(s: State, card: &mut [u8], register: &mut [u8]) {
     }
 }
 
-fn main() {
+fn main(rt: HostRuntime) {
     let mut card = io::large_buffer();
     let mut register: [u8; 4160] = [0; 4160];
     let r = engine::start(&mut card, &mut register);
     let reply = r.reply;
     match reply {
-        Reply::Done => run(r.state, &mut card, &mut register),
+        Reply::Done => run(rt.stdin(), r.state, &mut card, &mut register),
         Reply::Refused(_) => {
             io::write_all(2, b"probe: the card or the register is refused\n");
         }

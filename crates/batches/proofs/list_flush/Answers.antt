@@ -1,0 +1,89 @@
+use Rattle.lists.proofs.Prelude.{true, List, ◌≡◌, refl, sym, ap, subst, ◌∙◌, ℕ, ◌<◌, ◌≤◌, arith, leb, length, every, empty-is, not-true, not-false, rules}
+use denote.Enum.Declared.{tag_of}
+use Rattle.words.specs.Words.{words}
+use Rattle.words.proofs.Views.{length-words}
+use Rattle.postings.specs.Order.{ordered}
+use Rattle.state.specs.declared.Buffer.{Buffer}
+use Rattle.state.specs.declared.Partitions.{Partitions}
+use Rattle.state.specs.Views.{blocks, buffered, finished, partitions_of}
+use Rattle.state.proofs.Kept.{state-kept}
+use Rattle.card.specs.Blocks.{free_blocks}
+use Rattle.partitions.specs.Formed.{in_range}
+use Rattle.blocks.specs.declared.Free.{Free}
+use Rattle.blocks.specs.contracts.Free.{the_type}
+use Rattle.flushes.specs.Flush.{next_free}
+use Rattle.flushes.specs.Targets.{Chosen}
+use Rattle.flushes.proofs.Rooms.{room-left, chosen-there, chosen-free, counts-fit, ids-fit}
+use Rattle.flushes.proofs.Targets.{block-found, none_found}
+use Rattle.batches.specs.Steps.{Writable, first_free}
+use Rattle.batches.proofs.list_flush.Goals as goal
+use Rattle.batches.proofs.list_flush.Lts as lts
+use Rattle.batches.proofs.list_flush.Tie as tie
+use Rattle.batches.proofs.list_flush.Reads as reads
+
+abbrev After-next-free : Type 0
+After-next-free = lts.After-next_free tie.the-claims reads.Pre reads.Post tie.handed_clauses
+
+abbrev Start : Type 0
+Start = lts.Start tie.the-claims reads.Pre reads.Post tie.handed_clauses
+
+pub returns-then-not-flush : goal.returns-then-not-flush
+returns-then-not-flush c = rw (not-true c.args.flush c.if-not-flush.true-raw) (record { partitions = refl; taken = refl; written = refl })
+
+-- the free block that comes next is the one that a flush takes
+chosen : (card : List ℕ) (n last : ℕ) (b : Buffer) (ps : Partitions) (w : Writable card n last b ps) (d : ℕ) → d ≡ first_free card n last → Chosen w.state (words card) d
+chosen card n last b ps w d e =
+    let same : first_free card n last ≡ next_free w.state (words card) = rw (w.blocks, w.taken) in
+    subst (Chosen w.state (words card)) (sym (e ∙ same)) w.chosen
+
+-- where a flush is needed
+abbrev start : After-next-free → Start
+start m = m.before.before.before.before
+
+writable : (m : After-next-free) → Writable (start m).args.card.now (start m).args.blocks (start m).args.taken (start m).args.b (start m).args.ps
+writable m = (start m).requires (not-false _ m.if-not-flush.false-raw)
+
+pub next_free-free-requires : goal.next_free-free-requires
+next_free-free-requires c =
+    let w = c.requires (not-false _ c.if-not-flush.false-raw) in
+    let k = state-kept w.state w.rule in
+    rw (← w.blocks, ← w.taken) (omega (arith, length-words c.args.card.now, k.lengths.card, w.size), k.lengths.most_blocks, omega (arith, k.taken))
+
+-- the block is the first free one
+found : (m : After-next-free) (d : ℕ) → m.next_free-free.result ≡ Free.Block d → d ≡ first_free (start m).args.card.now (start m).args.blocks (start m).args.taken
+found m d e = (block-found (free_blocks (words (start m).args.card.now) (start m).args.blocks (start m).args.taken) d (sym e ∙ m.next_free-free.ensures)).1
+
+pub flush-list-requires : goal.flush-list-requires
+flush-list-requires c =
+    let a = (start c.before.before.before.before.before).args in
+    let w = writable c.before.before.before.before.before in
+    let s = w.state in
+    let k = state-kept s w.rule in
+    let W = words a.card.now in
+    let d = c.in-Block.block in
+    let ch : Chosen s W d = chosen a.card.now a.blocks a.taken a.b a.ps w d (found c.before.before.before.before.before d c.in-Block.is) in
+    let there = chosen-there s W d ch in (
+      omega (arith, w.size, k.lengths.card),
+      record { few = omega (arith, k.lengths.most_blocks, there); inside = omega (arith, w.size, k.lengths.card, length-words a.card.now, there) },
+      chosen-free s W d ch,
+      subst (λ (x : Buffer). x.used ≤ 128) w.buffer k.buffer.used,
+      subst (λ (x : Buffer). ordered (buffered x) ≡ true) w.buffer k.buffer.order,
+      subst (λ (x : Buffer). every (λ p. in_range p.count) (buffered x) ≡ true) w.buffer (counts-fit s.windows (buffered s.buffer) k.buffer.rules),
+      subst (λ (x : Buffer). every (λ p. leb p.id 1023) (buffered x) ≡ true) w.buffer (ids-fit s.windows (buffered s.buffer) k.buffer.rules),
+      subst (λ (x : Partitions). x.used ≤ 51) w.partitions k.partitions.used,
+      subst (λ (x : Partitions). length (finished x) < 51) w.partitions (room-left (blocks s) s.partitions k.partitions ch.room),
+      subst (λ (x : Partitions). length x.records ≡ 51 → x ≡ partitions_of (finished x)) w.partitions k.partitions.form,
+    )
+
+pub returns-in-Nothing : goal.returns-in-Nothing
+returns-in-Nothing c =
+    let w = writable c.before.before.before in
+    let free = free_blocks (words (start c.before.before.before).args.card.now) (start c.before.before.before).args.blocks (start c.before.before.before).args.taken in
+    let none = none_found (tag_of the_type) (λ v. refl) free (ap (tag_of the_type) (sym c.next_free-free.ensures) ∙ c.in-Nothing.in-Nothing-own.keys1) in
+    absurd (omega (arith, ap length (empty-is free none), rw (w.blocks, w.taken) at w.chosen.there))
+
+pub returns-in-Block : goal.returns-in-Block
+returns-in-Block c =
+    let f = c.flush-list in
+    let e = found c.before.before.before.before.before.before.before.before c.in-Block.block c.in-Block.is in
+    rw (not-false (start c.before.before.before.before.before.before.before.before).args.flush c.if-not-flush.false-raw) (record { partitions = rw (← e) f.ensures.0; taken = e; written = rw (← e) f.ensures.1 })

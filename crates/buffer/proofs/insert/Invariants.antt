@@ -1,0 +1,14 @@
+use Rattle.lists.proofs.Prelude.{List, ◌≡◌, refl, sym, ap, ap₂, ◌∙◌, ℕ, ◌≤◌, ◌+◌, ◌-◌, arith, rules, length, get_or, set, unmapped}
+use Rattle.lists.proofs.Shifts.{raised, raised-none, raised-more}
+use Rattle.postings.specs.declared.Posting.{Posting}
+use Rattle.state.specs.Views.{no_posting}
+use Rattle.buffer.proofs.Canonical.{made, insert-made}
+use Rattle.buffer.proofs.insert.Given as goal
+
+abbrev pub invariant-loop-i : goal.invariant-loop-i
+invariant-loop-i l =
+    (length l.initial.c.postings ≡ 128) × (l.k ≤ l.i) × (l.i ≤ l.initial.c.used) × (l.c.used ≡ l.initial.c.used)
+    × (l.c.postings ≡ raised l.initial.c.used l.i l.initial.c.postings)
+
+abbrev pub decreases-loop-i : goal.decreases-loop-i
+decreases-loop-i l = l.i

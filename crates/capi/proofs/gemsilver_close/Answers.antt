@@ -1,0 +1,23 @@
+-- `capi::gemsilver_close` meets its contract.
+use Rattle.lists.proofs.Prelude.{arith, rules}
+use Rattle.windows.specs.Calls.{close_of}
+use Rattle.windows.proofs.Refused.{close-unchanged}
+use Rattle.capi.specs.Exports.{close_on}
+use Rattle.capi.proofs.Carried.{no-image, is-image, image-long, on-state}
+use Rattle.capi.proofs.gemsilver_close.Goals as goal
+
+pub returns-then-not-image_ok : goal.returns-then-not-image_ok
+unfolding close_on
+returns-then-not-image_ok c = no-image _ _ _ c.image_ok.ensures c.if-not-image_ok.true-raw
+
+pub read_state-s-requires : goal.read_state-s-requires
+read_state-s-requires c = is-image _ c.image_ok.ensures c.if-not-image_ok.false-raw
+
+pub settle-requires : goal.settle-requires
+settle-requires c = image-long _ c.image_ok.ensures c.if-not-image_ok.false-raw
+
+pub returns : goal.returns
+unfolding close_on
+returns c =
+    on-state _ c.image_ok.ensures c.if-not-image_ok.false-raw (λ i. omega (arith, c.slice_known-1.given i))
+    _ c.read_state-s.ensures c.settle.ensures close_of close-unchanged c.close-r.ensures

@@ -1,0 +1,23 @@
+-- `capi::gemsilver_remove` meets its contract.
+use Rattle.lists.proofs.Prelude.{arith, rules}
+use Rattle.removals.specs.Removal.{remove_of}
+use Rattle.removals.proofs.Refused.{removal-unchanged}
+use Rattle.capi.specs.Exports.{remove_on}
+use Rattle.capi.proofs.Carried.{no-image, is-image, image-long, on_store}
+use Rattle.capi.proofs.gemsilver_remove.Goals as goal
+
+pub returns-then-not-image_ok : goal.returns-then-not-image_ok
+unfolding remove_on
+returns-then-not-image_ok c = no-image _ _ _ c.image_ok.ensures c.if-not-image_ok.true-raw
+
+pub read_state-s-requires : goal.read_state-s-requires
+read_state-s-requires c = is-image _ c.image_ok.ensures c.if-not-image_ok.false-raw
+
+pub settle-requires : goal.settle-requires
+settle-requires c = image-long _ c.image_ok.ensures c.if-not-image_ok.false-raw
+
+pub returns : goal.returns
+unfolding remove_on
+returns c =
+    on_store _ c.image_ok.ensures c.if-not-image_ok.false-raw (λ i. omega (arith, c.slice_known-1.given i))
+    _ c.read_state-s.ensures c.settle.ensures (λ p. remove_of p c.args.window) (λ p. removal-unchanged p _) c.remove-r.ensures

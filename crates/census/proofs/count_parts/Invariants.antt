@@ -1,0 +1,15 @@
+-- `census::count_parts` meets its contract. The invariant: the windows of the stretch below `from` are counted.
+use Rattle.lists.proofs.Prelude.{⊎_elim, ◌++◌, ◌≡◌, sym, ◌∙◌, ◌+◌, ◌-◌, ◌≤◌, arith, length, rules, not-true, not-false}
+use Rattle.words.specs.Words.{words}
+use Rattle.state.specs.Views.{buffered, finished}
+use Rattle.partitions.specs.Reading.{in_partitions}
+use Rattle.census.proofs.Walking.{not-told}
+use Rattle.census.proofs.Parts.{so_far, so-far-few, so-far-none, part-more, part-last}
+use Rattle.census.proofs.count_parts.Given as goal
+
+abbrev pub invariant-loop-ps : goal.invariant-loop-ps
+invariant-loop-ps l =
+    (1 ≤ l.from) × (l.t.first ≤ l.from) × (length l.heads ≡ 510) × (length l.marks ≡ l.n) × (l.windows ≡ so_far l.t l.v (in_partitions (words l.card) (finished l.ps) ++ buffered l.b) l.from)
+
+abbrev pub decreases-loop-ps : goal.decreases-loop-ps
+decreases-loop-ps l = 65536 - l.from

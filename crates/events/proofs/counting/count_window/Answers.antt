@@ -1,0 +1,5 @@
+use Rattle.lists.proofs.Prelude.{add-one, rules}
+use Rattle.events.proofs.counting.count_window.Goals as goal
+
+pub returns : goal.returns
+returns c = rw (add-one c.args.w.events)

@@ -1,0 +1,6 @@
+-- `forecasts::counting::counted` meets its contract.
+use borrow.Author.Rules.{rules}
+use Rattle.forecasts.proofs.counting.counted.Goals as goal
+
+pub returns : goal.returns
+returns c = rw (c.count_window-w.ensures, c.count_listed-l.ensures, c.count_pair-b.ensures)

@@ -1,0 +1,6 @@
+-- `forecasts::opened` meets its contract.
+use Rattle.lists.proofs.Prelude.{add-one, rules}
+use Rattle.forecasts.proofs.opened.Goals as goal
+
+pub returns : goal.returns
+returns c = simp add-one

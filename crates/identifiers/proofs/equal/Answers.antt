@@ -1,0 +1,29 @@
+use Rattle.lists.proofs.Prelude.{◌≡◌, refl, sym, ◌∙◌, ◌-◌, ◌≤◌, zero-le, add-one, arith, eq-eqb, ne_eqb, length, drop, drop_of_length-le, same, same_length, same_step}
+use Rattle.identifiers.proofs.equal.Goals as goal
+
+pub returns-then-a-b : goal.returns-then-a-b
+returns-then-a-b c = sym (same_length c.args.a.now c.args.b.now c.if-a-b.true)
+
+pub loop-i-init : goal.loop-i-init
+loop-i-init c = (zero-le, c.if-a-b.false, refl)
+
+pub returns-then-a-i : goal.returns-then-a-i
+returns-then-a-i c =
+    let a = c.args.a.now in
+    let b = c.args.b.now in
+    sym (c.loop-i.invariant.2 ∙ same_step a b c.loop-i.i (omega arith) (omega arith) ∙ rw (ne_eqb _ _ c.if-a-i.true))
+
+pub loop-i-preserved : goal.loop-i-preserved
+loop-i-preserved c =
+    let a = c.args.a.now in
+    let b = c.args.b.now in (
+      omega arith,
+      c.loop-i.invariant.1,
+      rw add-one (c.loop-i.invariant.2 ∙ same_step a b c.loop-i.i (omega arith) (omega arith) ∙ rw (eq-eqb _ _ c.if-a-i.false)),
+    )
+
+pub returns : goal.returns
+returns c =
+    let a = c.args.a.now in
+    let b = c.args.b.now in
+    sym (c.loop-i.invariant.2 ∙ rw (drop_of_length-le a {i = c.loop-i.i} (omega arith), drop_of_length-le b {i = c.loop-i.i} (omega arith)))

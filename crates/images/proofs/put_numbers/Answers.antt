@@ -1,0 +1,6 @@
+use borrow.Author.Rules.{rules}
+use Rattle.images.proofs.put_numbers.Goals as goal
+
+pub returns : goal.returns
+returns c =
+    rw (c.put_three-2.ensures, c.put_three.ensures)

@@ -1,0 +1,13 @@
+-- `images::read_buffer` meets its contract. The invariant: the first i places are built.
+use Rattle.lists.proofs.Prelude.{◌-◌, arith, rules, unmapped}
+use Rattle.lists.proofs.Built.{Built, built-none, built-more, built-all}
+use Rattle.words.specs.Words.{words}
+use Rattle.images.specs.Images.{posting_in}
+use Rattle.images.proofs.Fits.{narrow-front}
+use Rattle.images.proofs.read_buffer.Given as goal
+
+abbrev pub invariant-loop-i : goal.invariant-loop-i
+invariant-loop-i l = Built (posting_in (words l.image)) 128 l.i l.postings
+
+abbrev pub decreases-loop-i : goal.decreases-loop-i
+decreases-loop-i l = 128 - l.i

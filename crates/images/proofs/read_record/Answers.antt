@@ -1,0 +1,24 @@
+-- `images::read_record` meets its contract.
+use Rattle.lists.proofs.Prelude.{◌+◌, ◌*◌, arith, rules}
+use Rattle.images.proofs.Fits.{narrow-among, image-words}
+use Rattle.images.proofs.read_record.Goals as goal
+
+pub narrow-first-requires : goal.narrow-first-requires
+narrow-first-requires c = (c.requires.0, omega arith, narrow-among (457 + 5 * c.args.i) (omega arith) (omega arith) (λ e. omega arith))
+
+pub narrow-level-requires : goal.narrow-level-requires
+narrow-level-requires c = (c.requires.0, omega arith, narrow-among (458 + 5 * c.args.i) (omega arith) (omega arith) (λ e. omega arith))
+
+pub word_at-length-requires : goal.word_at-length-requires
+word_at-length-requires c = omega (arith, image-words c.args.image.now c.requires.0)
+
+pub narrow-lowest-requires : goal.narrow-lowest-requires
+narrow-lowest-requires c = (c.requires.0, omega arith, narrow-among (460 + 5 * c.args.i) (omega arith) (omega arith) (λ e. omega arith))
+
+pub narrow-highest-requires : goal.narrow-highest-requires
+narrow-highest-requires c =
+    (c.requires.0, omega arith, narrow-among (461 + 5 * c.args.i) (omega arith) (omega arith) (λ e. omega arith))
+
+pub returns : goal.returns
+returns c =
+    rw (c.narrow-highest.ensures, c.narrow-lowest.ensures, c.word_at-length.ensures, c.narrow-level.ensures, c.narrow-first.ensures)

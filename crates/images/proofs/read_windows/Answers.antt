@@ -1,0 +1,6 @@
+-- `images::read_windows` meets its contract.
+use borrow.Author.Rules.{rules}
+use Rattle.images.proofs.read_windows.Goals as goal
+
+pub returns : goal.returns
+returns c = rw (c.narrow-events.ensures, c.narrow-current.ensures, c.narrow-live.ensures, c.narrow-last.ensures)

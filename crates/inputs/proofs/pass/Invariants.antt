@@ -1,0 +1,25 @@
+-- `inputs::pass` meets its contract. The invariant: what is told of all words is what is told of those compared and of those still to compare.
+use Rattle.lists.proofs.Prelude.{[], ◌∷◌, ◌≡◌, refl, sym, ap, ◌∙◌, ◌+◌, ◌-◌, ◌<◌, ◌≤◌, arith, rules, leb-true, length, take, drop, length-append, length-map, same as same_of, and_left}
+use Rattle.words.specs.Words.{words}
+use Rattle.words.proofs.Views.{words-below}
+use Rattle.postings.specs.Merge.{nonzero}
+use Rattle.card.specs.Cursors.{ahead, Good}
+use Rattle.card.proofs.Cursors.{length-ahead}
+use Rattle.partitions.specs.Layout.{word_of}
+use Rattle.partitions.specs.Formed.{in_range}
+use Rattle.inputs.specs.Judging.{all_in_range}
+use Rattle.inputs.specs.Ahead.{pairs_ahead, Formed, out_words}
+use Rattle.inputs.proofs.Taking.{ahead_none}
+use Rattle.inputs.proofs.Batches.{take_none, take-empty, drop-none, drop-empty, drop-next, words-next, words-none, Comparing, compare-more, compare-done}
+use Rattle.inputs.proofs.pass.Given as goal
+
+abbrev pub invariant-loop-i : goal.invariant-loop-i
+invariant-loop-i l =
+    (l.i ≤ l.m) × (length l.heads ≡ length l.initial.heads) × Formed (words l.card) l.n l.heads l.top × Good (words l.card) l.o
+    × Comparing (ahead (words l.card) l.o) (out_words (l.m - l.i) (pairs_ahead (words l.card) l.n l.heads))
+    (same_of (out_words l.m (pairs_ahead (words l.card) l.n l.initial.heads)) (take (length (out_words l.m (pairs_ahead (words l.card) l.n l.initial.heads))) (ahead (words l.card) l.initial.o)))
+    (drop (length (out_words l.m (pairs_ahead (words l.card) l.n l.initial.heads))) (ahead (words l.card) l.initial.o)) l.same
+    × (drop l.m (pairs_ahead (words l.card) l.n l.initial.heads) ≡ drop (l.m - l.i) (pairs_ahead (words l.card) l.n l.heads))
+
+abbrev pub decreases-loop-i : goal.decreases-loop-i
+decreases-loop-i l = l.m - l.i

@@ -1,0 +1,25 @@
+use Rattle.lists.proofs.Prelude.{List, ◌≡◌, ◌+◌, ◌-◌, ◌≤◌, arith, length, drop, rules, eq-eqb, ne_eqb, unmapped, used_turn, used-end, ⊎_elim}
+use Rattle.state.specs.Views.{finished, no_partition}
+use Rattle.state.specs.Levels.{of_level}
+use Rattle.state.specs.declared.Partition.{Partition}
+use Rattle.levels.proofs.of_level.Goals as goal
+
+pub loop-i-init : goal.loop-i-init
+loop-i-init c = (search (unmapped, rules), omega arith, omega arith)
+
+pub loop-i-preserved : goal.loop-i-preserved
+loop-i-preserved c =
+    let s = c.args in
+    let len = c.loop-i.invariant.0 in
+    let whole = used_turn (λ (l : List Partition). c.loop-i.count + of_level (λ q. q.level) s.level l) s.p.records s.p.used c.loop-i.i no_partition (omega arith) (omega arith) c.loop-i.invariant.2 in
+    ⊎_elim
+    (λ w. let e = rw (eq-eqb _ _ w.if-q-level.true) at whole in (len, omega arith, omega arith))
+    (λ w. let e = rw (ne_eqb _ _ w.if-q-level.false) at whole in (len, omega arith, omega arith))
+    c.if-q-level.branch-raw
+
+pub returns : goal.returns
+returns c =
+    let s = c.args in
+    let len = c.loop-i.invariant.0 in
+    let e = used-end (λ (l : List Partition). c.loop-i.count + of_level (λ q. q.level) s.level l) s.p.records s.p.used c.loop-i.i (omega arith) (omega arith) c.loop-i.invariant.2 in
+    omega arith

@@ -1,0 +1,30 @@
+-- `partitions::reader_moved` meets its contract: past the last posting of an identifier comes the next entry.
+use Rattle.lists.proofs.Prelude.{arith, lt-ltb, le-ltb, rules}
+use Rattle.words.specs.Words.{words}
+use Rattle.partitions.specs.Readers.{moved_reader}
+use Rattle.partitions.proofs.Readers.{numbered_more, reader-step}
+use Rattle.partitions.proofs.reader_moved.Goals as goal
+
+pub returns-then-here-gt1 : goal.returns-then-here-gt1
+unfolding moved_reader
+returns-then-here-gt1 c =
+    reader-step (words c.args.card.now) c.args.r c.requires.0 c.requires.1 _
+    (rw (lt-ltb 1 c.args.r.here c.if-here-gt1.true, c.moved-next.ensures))
+
+pub returns-then-e-eq0 : goal.returns-then-e-eq0
+unfolding moved_reader
+returns-then-e-eq0 c =
+    reader-step (words c.args.card.now) c.args.r c.requires.0 c.requires.1 _
+    (rw (le-ltb 1 c.args.r.here c.if-here-gt1.false, le-ltb 0 c.args.r.entries.left (omega arith), c.moved-next.ensures))
+
+pub LOST-overflow-cast-t10 : goal.LOST-overflow-cast-t10
+LOST-overflow-cast-t10 c =
+    let s = c.before.before.before.before.before.before.before.before.before in
+    let n = numbered_more (words s.args.card.now) s.args.r.entries (omega (arith, s.requires.1.threes)) s.requires.1.numbers in
+    rw c.before.before.entry_at.ensures (omega (arith, n.0))
+
+pub returns : goal.returns
+unfolding moved_reader
+returns c =
+    reader-step (words c.args.card.now) c.args.r c.requires.0 c.requires.1 _
+    (rw (le-ltb 1 c.args.r.here c.if-here-gt1.false, lt-ltb 0 c.args.r.entries.left (omega (arith, c.if-e-eq0.false)), c.moved-next.ensures, c.entry_at-entry.ensures))

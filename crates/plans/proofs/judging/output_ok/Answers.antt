@@ -1,0 +1,97 @@
+-- `plans::judging::output_ok` meets its contract.
+use Rattle.lists.proofs.Prelude.{true, true≢false, List, ◌≡◌, refl, sym, ap, ap₂, ◌∙◌, ℕ, ◌+◌, ◌*◌, ◌<◌, arith, rules, eqb-true, length}
+use Rattle.words.specs.Words.{words}
+use Rattle.postings.specs.declared.Posting.{Posting}
+use Rattle.postings.specs.Merge.{nonzero}
+use Rattle.state.specs.Views.{blocks, finished}
+use Rattle.card.specs.Chains.{blocks_for, chain_rule}
+use Rattle.card.proofs.Seeking.{rule-chained}
+use Rattle.drafts.specs.Drafted.{holds_draft, stands_apart}
+use Rattle.plans.specs.Merging.{inputs}
+use Rattle.plans.specs.Acting.{length_from}
+use Rattle.levels.proofs.Choosing.{finished-of}
+use Rattle.plans.proofs.Drafting.{readable, inputs-few}
+use Rattle.plans.proofs.Refusing.{rule-late, rule-long, rule-none, standing_apart, rule-held, room-held, acts-none, acts-held, pairs-read}
+use Rattle.plans.proofs.judging.output_ok.Goals as goal
+use Rattle.plans.proofs.judging.output_ok.Lts as lts
+use Rattle.plans.proofs.judging.output_ok.Tie as tie
+use Rattle.plans.proofs.judging.output_ok.Reads as reads
+
+abbrev Else3 : Type 0
+Else3 = lts.Else3 tie.the-claims reads.Pre reads.Post tie.handed_clauses
+
+abbrev Start : Type 0
+Start = lts.Start tie.the-claims reads.Pre reads.Post tie.handed_clauses
+
+-- past its tests, the output has blocks, and they stand
+abbrev start : Else3 → Start
+start i = i.before.before.before.before.before.before.before.before.before.before
+
+many : (i : Else3) → i.blocks_for-n.result ≡ blocks_for (length_from (start i).args.t)
+many i = i.blocks_for-n.ensures ∙ ap blocks_for i.output_length-length.ensures
+
+some : (i : Else3) → blocks_for (length_from (start i).args.t) ≡ 0 → ⊥
+some i z = i.if-n-eq0.false (many i ∙ z)
+
+long : (i : Else3) → (start i).args.s.merge.length ≡ length_from (start i).args.t
+long i = i.if-job-length.false ∙ i.output_length-length.ensures
+
+stood : (i : Else3) → (chain_rule (words (start i).args.card.now) (blocks (start i).args.s) (start i).args.s.merge.first (blocks_for (length_from (start i).args.t)) ≡ true)
+    × (stands_apart (words (start i).args.card.now) (start i).args.s.merge.first (blocks_for (length_from (start i).args.t)) (finished (start i).args.s.partitions) ≡ true)
+stood i =
+    let a = (start i).args in
+    standing_apart (words a.card.now) a.s a.is a.t (start i).requires.0 (start i).requires.2 (long i) (some i) (start i).requires.3
+
+pub returns-then-t-job : goal.returns-then-t-job
+returns-then-t-job c =
+    let W = words c.args.card.now in
+    let e = c.no_draft.ensures.0 in
+    (e ∙ rule-late W c.args.s c.args.is c.args.t c.requires.0 c.if-t-job.true, λ y. absurd (true≢false (sym y ∙ e)))
+
+pub returns-then-job-length : goal.returns-then-job-length
+returns-then-job-length c =
+    let ol = c.output_length-length.ensures in
+    let W = words c.args.card.now in
+    let e = c.no_draft-then-job-length.ensures.0 in
+    (e ∙ rule-long W c.args.s c.args.is c.args.t c.requires.0 c.if-t-job.false (λ q. c.if-job-length.true (q ∙ sym ol)), λ y. absurd (true≢false (sym y ∙ e)))
+
+pub returns-then-n-eq0 : goal.returns-then-n-eq0
+returns-then-n-eq0 c =
+    let bf = c.blocks_for-n.ensures in
+    let ol = c.output_length-length.ensures in
+    let W = words c.args.card.now in
+    let nn = bf ∙ ap blocks_for ol in
+    let z = sym nn ∙ c.if-n-eq0.true in
+    let d = c.no_draft-then-n-eq0.ensures in (
+      d.0 ∙ rule-none W c.args.s c.args.is c.args.t c.requires.0 c.if-t-job.false (c.if-job-length.false ∙ ol) z,
+      λ y. acts-none W c.args.s c.args.is c.args.t c.requires.0 _ _ refl refl z (eqb-true _ _ (sym d.0 ∙ y)) d.1 d.2 d.3,
+    )
+
+pub read_draft-requires : goal.read_draft-requires
+read_draft-requires c =
+    let s = start c.before.before.before in
+    let W = words s.args.card.now in
+    let g = s.requires.0 in
+    let f = ap finished g.are ∙ finished-of (inputs s.args.s) in
+    let n : c.blocks_for-n.result ≡ blocks_for (length_from s.args.t) = many c.before.before.before in
+    let small : 1023 * c.blocks_for-n.result < 4294967296 = omega (arith, c.blocks_for-n.ensures) in (
+      inputs-few W s.args.s s.args.is s.args.t g,
+      rw f (readable W s.args.s s.args.is s.args.t g),
+      rw f s.requires.1,
+      rw n (rule-chained W (blocks s.args.s) s.args.s.merge.first _ g.long g.few (stood c.before.before.before).0),
+      small,
+      omega (arith, n, ap (λ (l : List Posting). length (nonzero l)) (pairs-read W s.args.s s.args.is s.args.t g), room-held W s.args.s s.args.is s.args.t g c.if-t-job.false (long c.before.before.before) (some c.before.before.before)),
+    )
+
+pub returns : goal.returns
+returns c =
+    let s = start c.before.before.before.before in
+    let W = words s.args.card.now in
+    let g = s.requires.0 in
+    let n = c.blocks_for-n.ensures ∙ ap blocks_for c.output_length-length.ensures in
+    let r = pairs-read W s.args.s s.args.is s.args.t g in
+    let d = c.read_draft.ensures in
+    let h = d.0 ∙ ap₂ (λ (m : ℕ) (l : List Posting). holds_draft W s.args.s.merge.first m (8 + 3 * s.args.t.terms) (16 * s.args.s.merge.steps) l) n r in (
+      h ∙ rule-held W s.args.s s.args.is s.args.t g c.if-t-job.false (long c.before.before.before.before) (some c.before.before.before.before) (stood c.before.before.before.before).0 (stood c.before.before.before.before).1,
+      λ y. acts-held W s.args.s s.args.is s.args.t g _ _ refl refl (some c.before.before.before.before) (stood c.before.before.before.before).0 (stood c.before.before.before.before).1 (sym h ∙ y) (rw r at d.1) (rw r at d.2) (rw r at d.3) d.4,
+    )

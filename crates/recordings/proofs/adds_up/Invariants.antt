@@ -1,0 +1,10 @@
+-- `recordings::adds_up` meets its contract. The loop's invariant: the numbers passed and what is left are the count.
+use Rattle.lists.proofs.Prelude.{◌≡◌, sym, ◌+◌, ◌-◌, ◌≤◌, arith, rules, ne_eqb, length, take, take_all, total_by}
+use Rattle.recordings.proofs.Windows.{total-take, total-front, none_left}
+use Rattle.recordings.proofs.adds_up.Given as goal
+
+abbrev pub invariant-loop-i : goal.invariant-loop-i
+invariant-loop-i l = (l.i ≤ length l.counts) × (total_by (λ n. n) (take l.i l.counts) + l.left ≡ l.count)
+
+abbrev pub decreases-loop-i : goal.decreases-loop-i
+decreases-loop-i l = length l.counts - l.i

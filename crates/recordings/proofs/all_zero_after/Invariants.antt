@@ -1,0 +1,12 @@
+-- `recordings::all_zero_after` meets its contract. The loop's invariant: the answer is that for the entries to come.
+use Rattle.lists.proofs.Prelude.{true, false, [], ◌≡◌, refl, sym, ◌∙◌, ◌-◌, ◌≤◌, zero-le, add-one, arith, passed, failed, get_or, drop, drop_of_length-le, every, every-step}
+use Rattle.identifiers.specs.Register.{entries}
+use Rattle.identifiers.proofs.Entries.{length-entries, length-entry}
+use Rattle.recordings.specs.Recording.{zero_after}
+use Rattle.recordings.proofs.all_zero_after.Given as goal
+
+abbrev pub invariant-loop-i : goal.invariant-loop-i
+invariant-loop-i l = (l.i ≤ l.count) × (every zero_after (entries l.plan) ≡ every zero_after (drop l.i (entries l.plan)))
+
+abbrev pub decreases-loop-i : goal.decreases-loop-i
+decreases-loop-i l = l.count - l.i

@@ -1,0 +1,21 @@
+-- `registers::chained_apart` meets its contract. The loop's invariant: the identifiers passed differ, and the two arrays chain their places.
+use Rattle.lists.proofs.Prelude.{true, false, [], ◌≡◌, refl, sym, ap, ◌∙◌, suc, ◌-◌, ◌<◌, ◌≤◌, zero-le, add-one, arith, rules, length, get_or, take, length-set, take_all, never}
+use Rattle.identifiers.specs.Names.{among, distinct}
+use Rattle.identifiers.specs.Register.{names}
+use Rattle.registers.specs.Chains.{hash_of, last_with, Heads, Links}
+use Rattle.identifiers.proofs.Names.{distinct-stopped, distinct-on}
+use Rattle.identifiers.proofs.Entries.{names-bound}
+use Rattle.registers.proofs.Chains.{hash-below, heads-none, heads-on, links-on, last_within}
+use Rattle.registers.proofs.chained_apart.Given as goal
+
+abbrev pub invariant-loop-i : goal.invariant-loop-i
+invariant-loop-i l =
+    (l.i ≤ l.used)
+    × (distinct (take l.i (names l.register)) ≡ true)
+    × (length l.heads ≡ 1024)
+    × (length l.links ≡ 1024)
+    × Heads (names l.register) l.i l.heads
+    × Links (names l.register) l.i l.links
+
+abbrev pub decreases-loop-i : goal.decreases-loop-i
+decreases-loop-i l = l.used - l.i

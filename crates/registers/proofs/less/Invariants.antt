@@ -1,0 +1,12 @@
+-- `registers::less` meets its contract. The loop's invariant: the words passed are equal.
+use Rattle.lists.proofs.Prelude.{◌≡◌, refl, sym, ◌∙◌, ◌-◌, ◌≤◌, add-one, arith, get_or, drop}
+use Rattle.words.proofs.Views.{length-words}
+use Rattle.registers.specs.Order.{lower, key}
+use Rattle.registers.proofs.Sorted.{lower-same, lower-apart, lower_last, key-length, key-word, key-last}
+use Rattle.registers.proofs.less.Given as goal
+
+abbrev pub invariant-loop-c : goal.invariant-loop-c
+invariant-loop-c l = (l.c ≤ 16) × (lower (key l.a) (key l.b) ≡ lower (drop l.c (key l.a)) (drop l.c (key l.b)))
+
+abbrev pub decreases-loop-c : goal.decreases-loop-c
+decreases-loop-c l = 16 - l.c

@@ -1,0 +1,7 @@
+use Rattle.removals.specs.Removal.{removed}
+use borrow.Author.Rules.{rules}
+use Rattle.removals.proofs.without.Goals as goal
+
+pub returns : goal.returns
+unfolding removed
+returns c = rw c.take_back-left.ensures

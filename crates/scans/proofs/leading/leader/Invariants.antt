@@ -1,0 +1,14 @@
+-- `scans::leading::leader` meets its contract. The invariant: what is found is that of the heads before j.
+use Rattle.lists.proofs.Prelude.{⊎_elim, ◌≡◌, sym, ◌∙◌, ◌≤◌, ◌-◌, arith, rules}
+use Rattle.words.specs.Words.{words}
+use Rattle.kway.specs.Parts.{part}
+use Rattle.kway.proofs.Parts.{first-of, all-at, views-more}
+use Rattle.kway.proofs.Leads.{Found, found_none, found-other, found-this, length-views}
+use Rattle.scans.specs.Heads.{view, Kept, views}
+use Rattle.scans.proofs.leading.leader.Given as goal
+
+abbrev pub invariant-loop-j : goal.invariant-loop-j
+invariant-loop-j l = (l.j ≤ l.n) × Found (views (words l.card) l.j l.heads) l.j l.top l.at l.others
+
+abbrev pub decreases-loop-j : goal.decreases-loop-j
+decreases-loop-j l = l.n - l.j

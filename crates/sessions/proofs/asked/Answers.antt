@@ -1,0 +1,10 @@
+-- `sessions::asked` meets its contract.
+use Rattle.sessions.proofs.Carried.{few-found, written-found}
+use borrow.Author.Rules.{rules}
+use Rattle.sessions.proofs.asked.Goals as goal
+
+pub write_found-used-requires : goal.write_found-used-requires
+write_found-used-requires c = (c.requires, few-found c.search-r.ensures)
+
+pub returns : goal.returns
+returns c = written-found c.search-r.ensures c.write_found-used.ensures

@@ -1,0 +1,19 @@
+-- `terms::opening::open_lists` meets its contract. The invariant: the first i heads are those of the identifier's lists in the first i partitions.
+use Rattle.lists.proofs.Prelude.{map, ◌≡◌, refl, ap, ◌∙◌, ◌≤◌, ◌-◌, ◌+◌, ◌*◌, arith, length, drop, length-drop, length-take-le, unmapped, of-used, rules}
+use Rattle.words.specs.Words.{words}
+use Rattle.postings.specs.Pack.{posted}
+use Rattle.postings.specs.Sums.{under}
+use Rattle.state.specs.Views.{no_partition}
+use Rattle.partitions.specs.Reading.{postings_of}
+use Rattle.partitions.specs.Terms.{Readable}
+use Rattle.kway.proofs.Parts.{put-length}
+use Rattle.heads.specs.Heads.{Kept}
+use Rattle.terms.specs.Opening.{listed}
+use Rattle.terms.proofs.Puts.{place-lies, place-comes, Put, put_first, put_next}
+use Rattle.terms.proofs.opening.open_lists.Given as goal
+
+abbrev pub invariant-loop-i : goal.invariant-loop-i
+invariant-loop-i l = (length l.ps.records ≡ 51) × (length l.heads ≡ length l.initial.heads) × (l.i ≤ l.n) × Put (Kept (words l.card) l.run) (listed (words l.card) l.run l.id) (λ p. under l.id (postings_of (words l.card) p)) l.i l.heads l.ps.records
+
+abbrev pub decreases-loop-i : goal.decreases-loop-i
+decreases-loop-i l = l.n - l.i

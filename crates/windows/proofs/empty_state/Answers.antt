@@ -1,0 +1,5 @@
+use borrow.Author.Rules.{rules}
+use Rattle.windows.proofs.empty_state.Goals as goal
+
+pub returns : goal.returns
+returns c = rw c.empty_buffer-buffer.ensures
