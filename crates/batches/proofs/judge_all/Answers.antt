@@ -25,22 +25,21 @@ use Rattle.batches.proofs.judge_all.Goals as goal
 use Rattle.batches.proofs.judge_all.Lts as lts
 use Rattle.batches.proofs.judge_all.Tie as tie
 use Rattle.batches.proofs.judge_all.Reads as reads
-use Rattle.batches.proofs.judge_all.Invariants.{invariant-loop-i, decreases-loop-i}
 
 abbrev At-loop : Type 0
-At-loop = lts.At-loop tie.the-claims reads.Pre reads.Post invariant-loop-i decreases-loop-i tie.handed_clauses
+At-loop = lts.At-loop tie.the-claims reads.Pre reads.Post goal.the-invariant-loop-i goal.the-decreases-loop-i
 
 abbrev After-b : Type 0
-After-b = lts.After-b tie.the-claims reads.Pre reads.Post invariant-loop-i decreases-loop-i tie.handed_clauses
+After-b = lts.After-b tie.the-claims reads.Pre reads.Post goal.the-invariant-loop-i goal.the-decreases-loop-i
 
 abbrev Joined1 : Type 0
-Joined1 = lts.Joined1 tie.the-claims reads.Pre reads.Post invariant-loop-i decreases-loop-i tie.handed_clauses
+Joined1 = lts.Joined1 tie.the-claims reads.Pre reads.Post goal.the-invariant-loop-i goal.the-decreases-loop-i
 
 abbrev After-judge-removal : Type 0
-After-judge-removal = lts.After-judge_removal tie.the-claims reads.Pre reads.Post invariant-loop-i decreases-loop-i tie.handed_clauses
+After-judge-removal = lts.After-judge_removal tie.the-claims reads.Pre reads.Post goal.the-invariant-loop-i goal.the-decreases-loop-i
 
 abbrev At-match-keys2 : Type 0
-At-match-keys2 = lts.At-match-keys2 tie.the-claims reads.Pre reads.Post invariant-loop-i decreases-loop-i tie.handed_clauses
+At-match-keys2 = lts.At-match-keys2 tie.the-claims reads.Pre reads.Post goal.the-invariant-loop-i goal.the-decreases-loop-i
 
 -- what the loop goes through
 abbrev state : At-loop → State

@@ -10,10 +10,10 @@ use Rattle.batches.proofs.judge_removal.Tie as tie
 use Rattle.batches.proofs.judge_removal.Reads as reads
 
 abbrev Else1 : Type 0
-Else1 = lts.Else1 tie.the-claims reads.Pre reads.Post tie.handed_clauses
+Else1 = lts.Else1 tie.the-claims reads.Pre reads.Post
 
 abbrev Else2 : Type 0
-Else2 = lts.Else2 tie.the-claims reads.Pre reads.Post tie.handed_clauses
+Else2 = lts.Else2 tie.the-claims reads.Pre reads.Post
 
 pub returns-then-names_open : goal.returns-then-names_open
 returns-then-names_open c =

@@ -22,10 +22,10 @@ use Rattle.batches.proofs.list_flush.Tie as tie
 use Rattle.batches.proofs.list_flush.Reads as reads
 
 abbrev After-next-free : Type 0
-After-next-free = lts.After-next_free tie.the-claims reads.Pre reads.Post tie.handed_clauses
+After-next-free = lts.After-next_free tie.the-claims reads.Pre reads.Post
 
 abbrev Start : Type 0
-Start = lts.Start tie.the-claims reads.Pre reads.Post tie.handed_clauses
+Start = lts.Start tie.the-claims reads.Pre reads.Post
 
 pub returns-then-not-flush : goal.returns-then-not-flush
 returns-then-not-flush c = rw (not-true c.args.flush c.if-not-flush.true-raw) (record { partitions = refl; taken = refl; written = refl })

@@ -19,16 +19,15 @@ use Rattle.batches.proofs.remove_each.Goals as goal
 use Rattle.batches.proofs.remove_each.Lts as lts
 use Rattle.batches.proofs.remove_each.Tie as tie
 use Rattle.batches.proofs.remove_each.Reads as reads
-use Rattle.batches.proofs.remove_each.Invariants.{invariant-loop-i, decreases-loop-i}
 
 abbrev At-loop : Type 0
-At-loop = lts.At-loop tie.the-claims reads.Pre reads.Post invariant-loop-i decreases-loop-i tie.handed_clauses
+At-loop = lts.At-loop tie.the-claims reads.Pre reads.Post goal.the-invariant-loop-i goal.the-decreases-loop-i
 
 abbrev Joined1 : Type 0
-Joined1 = lts.Joined1 tie.the-claims reads.Pre reads.Post invariant-loop-i decreases-loop-i tie.handed_clauses
+Joined1 = lts.Joined1 tie.the-claims reads.Pre reads.Post goal.the-invariant-loop-i goal.the-decreases-loop-i
 
 abbrev After-must-flush : Type 0
-After-must-flush = lts.After-must_flush tie.the-claims reads.Pre reads.Post invariant-loop-i decreases-loop-i tie.handed_clauses
+After-must-flush = lts.After-must_flush tie.the-claims reads.Pre reads.Post goal.the-invariant-loop-i goal.the-decreases-loop-i
 
 -- what the loop began with
 abbrev state : At-loop → State

@@ -13,4 +13,4 @@ returns c =
     let s = c.args in
     let r = c.start-r in
     rw (c.write_state.ensures, c.reply_number.ensures)
-    (on-start s.image.now s.card.now s.register.now (eq-eqb _ _ c.if-image-ne-BYTES.false) _ r.result.state r.new.card r.new.register.0 r.ensures)
+    (on-start s.image.now s.card.now s.register.now (eq-eqb _ _ c.if-image-ne-BYTES.false) _ r.result.state r.new.card r.new.register r.ensures)

@@ -8,10 +8,9 @@ use Rattle.census.proofs.count_parts.Goals as goal
 use Rattle.census.proofs.count_parts.Lts as lts
 use Rattle.census.proofs.count_parts.Tie as tie
 use Rattle.census.proofs.count_parts.Reads as reads
-use Rattle.census.proofs.count_parts.Invariants.{invariant-loop-ps, decreases-loop-ps}
 
 abbrev After-struct-known5 : Type 0
-After-struct-known5 = lts.After-struct_known5 tie.the-claims reads.Pre reads.Post invariant-loop-ps decreases-loop-ps tie.handed_clauses
+After-struct-known5 = lts.After-struct_known5 tie.the-claims reads.Pre reads.Post goal.the-invariant-loop-ps goal.the-decreases-loop-ps
 
 pub loop-ps-init : goal.loop-ps-init
 loop-ps-init c =

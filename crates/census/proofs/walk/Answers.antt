@@ -18,10 +18,9 @@ use Rattle.census.proofs.walk.Goals as goal
 use Rattle.census.proofs.walk.Lts as lts
 use Rattle.census.proofs.walk.Tie as tie
 use Rattle.census.proofs.walk.Reads as reads
-use Rattle.census.proofs.walk.Invariants.{invariant-loop-at, decreases-loop-at}
 
 abbrev After-larger : Type 0
-After-larger = lts.After-larger tie.the-claims reads.Pre reads.Post invariant-loop-at decreases-loop-at tie.handed_clauses
+After-larger = lts.After-larger tie.the-claims reads.Pre reads.Post goal.the-invariant-loop-at goal.the-decreases-loop-at tie.handed_clauses
 
 pub leader-l-requires : goal.leader-l-requires
 leader-l-requires c = (c.requires.1, omega (arith, c.requires.0), c.requires.2)

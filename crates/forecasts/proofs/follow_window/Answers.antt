@@ -14,13 +14,13 @@ use Rattle.forecasts.proofs.follow_window.Tie as tie
 use Rattle.forecasts.proofs.follow_window.Reads as reads
 
 abbrev At-match-keys2 : Type 0
-At-match-keys2 = lts.At-match-keys2 tie.the-claims reads.Pre reads.Post tie.handed_clauses
+At-match-keys2 = lts.At-match-keys2 tie.the-claims reads.Pre reads.Post
 
 abbrev Start : Type 0
-Start = lts.Start tie.the-claims reads.Pre reads.Post tie.handed_clauses
+Start = lts.Start tie.the-claims reads.Pre reads.Post
 
 abbrev After-follow-events : Type 0
-After-follow-events = lts.After-follow_events tie.the-claims reads.Pre reads.Post tie.handed_clauses
+After-follow-events = lts.After-follow_events tie.the-claims reads.Pre reads.Post
 
 pub returns-in-Refused : goal.returns-in-Refused
 returns-in-Refused c =

@@ -26,7 +26,7 @@ returns c =
     let ps = c.args.ps in
     let spanned = passed c.spans_ok.ensures c.if-not-spans_ok.false-raw in
     let t = w.ensures.0 in (
-      told-totals W small (finished ps) ps.used o.new.ps.1.0 o.ensures.1 o.ensures.2 spanned _ _ t,
-      told-counts W small (finished ps) ps.used o.new.ps.1.0 o.ensures.1 o.ensures.2 spanned _ _ t,
+      told-totals W small (finished ps) ps.used o.new.heads o.ensures.1 o.ensures.2 spanned _ _ t,
+      told-counts W small (finished ps) ps.used o.new.heads o.ensures.1 o.ensures.2 spanned _ _ t,
       w.ensures.1,
     )

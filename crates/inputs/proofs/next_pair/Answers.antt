@@ -38,7 +38,7 @@ returns c =
     let k = c.args.top - 1 in
     let f : SFits w32 t.result.sum = search rules in
     let is : c.args.top ≡ suc k = omega (arith, c.requires.1) in
-    let H' = t.new.heads.0 in
+    let H' = t.new.heads in
     let ready : Ready W n H' t.result.next = record { few = c.requires.0.ready.few; fits = omega (arith, t.ensures.heads.0, c.requires.0.ready.fits); kept = t.ensures.heads.1; top = t.ensures.taken.2 } in
     let p : c.pair_of-pair.result ≡ posting_of (record { key = k; sum = head_vals k (views W n H) }) = c.pair_of-pair.ensures ∙ rw (to_z-of_z f, t.ensures.taken.0) in (
       ahead_more W small n H c.args.top c.requires.0 k is H' t.result.next ready t.ensures.heads.2 ∙ ap (λ (x : Posting). x ∷ pairs_ahead W n H') (sym p),

@@ -12,7 +12,7 @@ returns c =
     let small = words-below c.args.card.now (λ k. omega (arith, c.shared_slice_known-1.given k)) in
     let o = c.open_heads in
     let ps = c.args.ps in
-    let H = o.new.ps.1.0 in (
+    let H = o.new.heads in (
       opened-formed W small (finished ps) ps.used H o.ensures.1 o.ensures.2 o.result (record { few = c.requires.0; fits = omega (arith, o.ensures.0, c.requires.2); kept = o.ensures.1; top = o.ensures.3 }) c.requires.4,
       opened-ahead W small (finished ps) ps.used H o.ensures.1 o.ensures.2,
     )

@@ -41,7 +41,7 @@ compare-d-requires c =
     let t = c.next_pair-t in
     let p = t.result.pair in
     let e = t.ensures.0 in
-    let on = pairs_ahead W c.args.n t.new.heads.0 in
+    let on = pairs_ahead W c.args.n t.new.heads in
     let w = words-next c.args.m c.loop-i.i (pairs_ahead W c.args.n c.loop-i.heads) on p c.loop-i-test.true e in
     let l = ap length w ∙ length-append (out_words 1 (p ∷ [])) (out_words (c.args.m - (c.loop-i.i + 1)) on) in (
       v.3,
@@ -65,7 +65,7 @@ loop-i-preserved c =
     let h : i < c.args.m = c.loop-i-test.true in
     let e = t.ensures.0 in
     let was = pairs_ahead W c.args.n c.loop-i.heads in
-    let on = pairs_ahead W c.args.n t.new.heads.0 in
+    let on = pairs_ahead W c.args.n t.new.heads in
     let w = words-next c.args.m i was on p h e in
     let d = c.compare-d in (
       omega arith,

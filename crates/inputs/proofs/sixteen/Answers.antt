@@ -38,7 +38,7 @@ pairs-preserved c =
     let k = c.kept-b in
     let e = t.ensures.0 in
     let was = pairs_ahead W c.args.n c.pairs.heads in
-    let on = pairs_ahead W c.args.n t.new.heads.0 in
+    let on = pairs_ahead W c.args.n t.new.heads in
     let h : c.pairs.i < 16 = omega (arith, v.0, c.if-i-eq16.false) in (
       omega arith,
       omega (arith, k.ensures.1, v.1),

@@ -118,7 +118,7 @@ loop-top-preserved c =
     let top : topmost_from 0 ls ≡ suc k = sym v.2.top ∙ omega (arith, c.if-top-eq0.false) in
     let low : k < c.loop-top.bound = omega (arith, c.if-top-eq0.false, c.if-bound-top.false) in
     let d = c.take-k in
-    let H = d.new.heads.0 in
+    let H = d.new.heads in
     let f : SFits w32 d.result.sum = search rules in
     let fine : heads_fine k ls ≡ true = sym d.ensures.taken.1 ∙ not-false _ c.if-not-k.false in
     let e : in_range (head_vals k ls) ≡ true = ap in_range (sym d.ensures.taken.0) ∙ rw (to_z-of_z f) at (sym c.in_range.ensures) ∙ not-false _ c.if-not-in_range.false-raw in
@@ -127,7 +127,7 @@ loop-top-preserved c =
     let first = posting_of (record { key = k; sum = head_vals k ls }) in
     let p : c.pair_of.result ≡ first = c.pair_of.ensures ∙ rw (to_z-of_z f, d.ensures.taken.0) in
     let u = c.tally-t in
-    let now : tally_of was first ≡ record { totals = u.result; counts = u.new.counts.0 } = ap (tally_of was) (sym p) ∙ sym (ap₂ (λ x y. record { totals = x; counts = y }) u.ensures.0 u.ensures.1) in (
+    let now : tally_of was first ≡ record { totals = u.result; counts = u.new.counts } = ap (tally_of was) (sym p) ∙ sym (ap₂ (λ x y. record { totals = x; counts = y }) u.ensures.0 u.ensures.1) in (
       d.ensures.heads.0 ∙ v.0,
       u.auto.1.0 ∙ v.1,
       record { few = v.2.few; fits = omega (arith, d.ensures.heads.0, v.2.fits); kept = d.ensures.heads.1; top = d.ensures.taken.2 },

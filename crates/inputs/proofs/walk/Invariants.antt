@@ -20,7 +20,7 @@ use Rattle.inputs.proofs.walk.Given as goal
 abbrev pub invariant-loop-top : goal.invariant-loop-top
 invariant-loop-top l =
     (length l.heads ≡ length l.initial.heads) × (length l.counts ≡ length l.initial.counts) × Ready (words l.card) l.n l.heads l.top × Room l.t l.counts l.bound
-    × (resumed 67108864 (views (words l.card) l.n l.initial.heads) untold ≡ resumed l.bound (views (words l.card) l.n l.heads) (record { totals = l.t; l.counts = l.counts }))
+    × (resumed 67108864 (views (words l.card) l.n l.initial.heads) untold ≡ resumed l.bound (views (words l.card) l.n l.heads) (record { totals = l.t; counts = l.counts }))
 
 abbrev pub decreases-loop-top : goal.decreases-loop-top
 decreases-loop-top l = l.bound

@@ -15,4 +15,4 @@ returns c =
     let s = c.args in
     let same = sym c.same_record.ensures ∙ not-false _ c.if-not-same_record.false-raw in
     let r = c.step-replied in
-    gives-lent (store_of s.s s.card.now) s.job (store_of r.result.state r.new.card.0) same r.ensures
+    gives-lent (store_of s.s s.card.now) s.job (store_of r.result.state r.new.card) same r.ensures

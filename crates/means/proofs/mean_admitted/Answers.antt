@@ -14,7 +14,7 @@ use Rattle.means.proofs.mean_admitted.Tie as tie
 use Rattle.means.proofs.mean_admitted.Reads as reads
 
 abbrev Start : Type 0
-Start = lts.Start tie.the-claims reads.Pre reads.Post tie.handed_clauses
+Start = lts.Start tie.the-claims reads.Pre reads.Post
 
 abbrev probe : Start → Probe
 probe s = probe_of s.args.s s.args.card.now s.args.register.now

@@ -21,16 +21,16 @@ use Rattle.merges.proofs.act.Tie as tie
 use Rattle.merges.proofs.act.Reads as reads
 
 abbrev After-struct-known : Type 0
-After-struct-known = lts.After-struct_known tie.the-claims reads.Pre reads.Post tie.handed_clauses
+After-struct-known = lts.After-struct_known tie.the-claims reads.Pre reads.Post
 
 abbrev Else1 : Type 0
-Else1 = lts.Else1 tie.the-claims reads.Pre reads.Post tie.handed_clauses
+Else1 = lts.Else1 tie.the-claims reads.Pre reads.Post
 
 abbrev Start : Type 0
-Start = lts.Start tie.the-claims reads.Pre reads.Post tie.handed_clauses
+Start = lts.Start tie.the-claims reads.Pre reads.Post
 
 abbrev Else2 : Type 0
-Else2 = lts.Else2 tie.the-claims reads.Pre reads.Post tie.handed_clauses
+Else2 = lts.Else2 tie.the-claims reads.Pre reads.Post
 
 -- whether the inputs are well formed, as it is told
 told : (c : After-struct-known) → c.judge-t.result.fine ≡ inputs_formed (words c.args.card.now) (inputs c.args.s)
@@ -53,8 +53,8 @@ known e =
     judged a.s a.card.now p.rule p.size p.formed (formed e) a.is j.result p.are j.ensures.0 j.ensures.2
 
 -- and where the plan is ready
-due : (i : Else2) → Due (words i.prepare-p.new.card.0) (start i.before.before.before.before.before.before).args.s (start i.before.before.before.before.before.before).args.is i.judge-t.result
-    i.judge-t.new.ps.1.1.0 i.prepare-p.result.output i.prepare-p.result.batch
+due : (i : Else2) → Due (words i.prepare-p.new.card) (start i.before.before.before.before.before.before).args.s (start i.before.before.before.before.before.before).args.is i.judge-t.result
+    i.judge-t.new.counts i.prepare-p.result.output i.prepare-p.result.batch
 due i =
     let a = (start i.before.before.before.before.before.before).args in
     let j = i.judge-t in

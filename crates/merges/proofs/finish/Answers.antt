@@ -18,10 +18,10 @@ use Rattle.merges.proofs.finish.Tie as tie
 use Rattle.merges.proofs.finish.Reads as reads
 
 abbrev Joined1 : Type 0
-Joined1 = lts.Joined1 tie.the-claims reads.Pre reads.Post tie.handed_clauses
+Joined1 = lts.Joined1 tie.the-claims reads.Pre reads.Post
 
 abbrev Start : Type 0
-Start = lts.Start tie.the-claims reads.Pre reads.Post tie.handed_clauses
+Start = lts.Start tie.the-claims reads.Pre reads.Post
 
 -- once the output's words are written
 abbrev start : Joined1 → Start

@@ -26,16 +26,16 @@ use Rattle.merges.proofs.step.Tie as tie
 use Rattle.merges.proofs.step.Reads as reads
 
 abbrev At-match-keys2 : Type 0
-At-match-keys2 = lts.At-match-keys2 tie.the-claims reads.Pre reads.Post tie.handed_clauses
+At-match-keys2 = lts.At-match-keys2 tie.the-claims reads.Pre reads.Post
 
 abbrev Start : Type 0
-Start = lts.Start tie.the-claims reads.Pre reads.Post tie.handed_clauses
+Start = lts.Start tie.the-claims reads.Pre reads.Post
 
 abbrev Else1 : Type 0
-Else1 = lts.Else1 tie.the-claims reads.Pre reads.Post tie.handed_clauses
+Else1 = lts.Else1 tie.the-claims reads.Pre reads.Post
 
 abbrev Else2 : Type 0
-Else2 = lts.Else2 tie.the-claims reads.Pre reads.Post tie.handed_clauses
+Else2 = lts.Else2 tie.the-claims reads.Pre reads.Post
 
 -- Admitted ---------------------------------------------------------------------------------------------------------------
 abbrev start : At-match-keys2 → Start
@@ -152,4 +152,4 @@ returns c =
     let a = c.act-d in
     let on = not-false _ c.if-not-d.false in
     let e = next-told s a.result.last a.result.totals a.result.output c.list_after-list.result c.job_after-job.result c.list_after-list.ensures c.job_after-job.ensures in
-    by-third i (subst (λ (x : State). Gives (store_of s b) (third_on s b) done (store_of x a.new.card.0)) (sym e) (a.ensures.done on))
+    by-third i (subst (λ (x : State). Gives (store_of s b) (third_on s b) done (store_of x a.new.card)) (sym e) (a.ensures.done on))

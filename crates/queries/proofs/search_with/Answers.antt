@@ -11,17 +11,17 @@ use Rattle.queries.proofs.search_with.Tie as tie
 use Rattle.queries.proofs.search_with.Reads as reads
 
 abbrev Else3 : Type 0
-Else3 = lts.Else3 tie.the-claims reads.Pre reads.Post tie.handed_clauses
+Else3 = lts.Else3 tie.the-claims reads.Pre reads.Post
 
 abbrev Start : Type 0
-Start = lts.Start tie.the-claims reads.Pre reads.Post tie.handed_clauses
+Start = lts.Start tie.the-claims reads.Pre reads.Post
 
 pub returns-then-not-fine : goal.returns-then-not-fine
 returns-then-not-fine c =
     let a = c.args in
     let ns = map (λ x. x.now) a.ids.now in
     let g = c.gather-k in
-    let H = g.new.card.1.1.1.1.0 in
+    let H = g.new.heads in
     refused_as _ a.places Malformed _ c.refuse.ensures
     (finds-malformed a.s a.card.now a.register.now c.requires.0 a.t a.live ns a.places a.run.now H g.result g.ensures (not-true _ c.if-not-fine.true-raw))
 
@@ -30,7 +30,7 @@ returns-then-any_bad c =
     let a = c.args in
     let ns = map (λ x. x.now) a.ids.now in
     let g = c.gather-k in
-    let H = g.new.card.1.1.1.1.0 in
+    let H = g.new.heads in
     refused_as _ a.places BadIdentifier _ c.refuse-then-any_bad.ensures
     (finds-identifier a.s a.card.now a.register.now c.requires.0 a.t a.live ns a.places a.run.now H g.result g.ensures (not-false _ c.if-not-fine.false-raw) (sym c.any_bad.ensures ∙ c.if-any_bad.true))
 
@@ -39,7 +39,7 @@ returns-then-bad_query c =
     let a = c.args in
     let ns = map (λ x. x.now) a.ids.now in
     let g = c.gather-k in
-    let H = g.new.card.1.1.1.1.0 in
+    let H = g.new.heads in
     refused_as _ a.places BadQuery _ c.refuse-then-bad_query.ensures
     (finds-bad a.s a.card.now a.register.now c.requires.0 a.t a.live ns a.places a.run.now H g.result g.ensures (not-false _ c.if-not-fine.false-raw) (sym c.any_bad.ensures ∙ c.if-any_bad.false)
     (sym c.bad_query.ensures ∙ c.if-bad_query.true))
@@ -55,7 +55,7 @@ abbrev known : Else3 → Known
 known m = m.gather-k.result
 
 abbrev heads : Else3 → List ℕ
-heads m = m.gather-k.new.card.1.1.1.1.0
+heads m = m.gather-k.new.heads
 
 fine : (m : Else3) → (known m).fine ≡ true
 fine m = not-false _ m.if-not-fine.false-raw

@@ -37,7 +37,7 @@ less-requires c =
     (ap length c.entry_at-a.ensures ∙ length-entry r _ (omega (arith, c.requires.0, c.requires.2 (k - 1))), ap length c.entry_at-b.ensures ∙ length-entry r _ (omega (arith, c.requires.0, c.requires.2 k)))
 
 pub returns-then-not-less : goal.returns-then-not-less
-returns-then-not-less c = never e
+returns-then-not-less c e = never e
 
 pub overflow_add-k : goal.overflow_add-k
 overflow_add-k c = omega (arith, c.requires.1)
@@ -56,4 +56,4 @@ loop-k-preserved c =
     )
 
 pub returns : goal.returns
-returns c = c.loop-k.invariant.1 m (omega (arith, c.loop-k-test.false))
+returns-then-not-less c e m h = c.loop-k.invariant.1 m (omega (arith, c.loop-k-test.false))

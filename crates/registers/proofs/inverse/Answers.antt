@@ -24,7 +24,7 @@ pub overflow_cast-order : goal.overflow_cast-order
 overflow_cast-order c = omega (arith, c.requires.0, c.requires.2 (get_or c.args.ranks.now c.loop-p.p 0))
 
 pub returns-then-order-k : goal.returns-then-order-k
-returns-then-order-k c = never e
+returns-then-order-k c e = never e
 
 pub overflow_add-p : goal.overflow_add-p
 overflow_add-p c = omega (arith, c.requires.0)
@@ -35,4 +35,4 @@ loop-p-preserved c =
     (omega arith, λ q h. by-test (eqb q l.p) (λ y. rw (eqb-true q l.p y) c.if-order-k.false) (λ n. l.invariant.1 q (omega (arith, eqb-false q l.p n))))
 
 pub returns : goal.returns
-returns c = let l = c.loop-p in l.invariant.1 q (omega (arith, c.loop-p-test.false))
+returns-then-order-k c e q h = let l = c.loop-p in l.invariant.1 q (omega (arith, c.loop-p-test.false))

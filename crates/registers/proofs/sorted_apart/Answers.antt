@@ -9,7 +9,7 @@ pub count_used-n-requires : goal.count_used-n-requires
 count_used-n-requires c = c.requires.0
 
 pub returns-then-n-eq0 : goal.returns-then-n-eq0
-returns-then-n-eq0 c = none_differ (names c.args.register.now) (omega (arith, c.if-n-eq0.true, c.count_used-n.ensures))
+returns-then-n-eq0 c e = none_differ (names c.args.register.now) (omega (arith, c.if-n-eq0.true, c.count_used-n.ensures))
 
 pub fill-requires : goal.fill-requires
 fill-requires c =
@@ -55,7 +55,7 @@ inverse-requires c =
     (omega (arith, u, b), c.rank.ensures, c.loop-width.invariant.1)
 
 pub returns-then-not-inverse : goal.returns-then-not-inverse
-returns-then-not-inverse c = never e
+returns-then-not-inverse c e = never e
 
 pub ascending-requires : goal.ascending-requires
 ascending-requires c =
@@ -64,8 +64,8 @@ ascending-requires c =
     (omega (arith, u, names-within c.args.register.now c.requires.0), omega (arith, u, b), c.loop-width.invariant.1)
 
 pub returns : goal.returns
-returns c =
+returns-then-n-eq0 c e =
     let n = c.count_used-n.ensures in
     let i = c.inverse.ensures (not-false _ c.if-not-inverse.false-raw) in
     let r = c.rank in
-    in_order c.args.register.now c.requires.0 c.loop-width.order r.new.ranks.0 (rw n at r.ensures) (rw n at i) (rw n at (c.ascending.ensures e))
+    in_order c.args.register.now c.requires.0 c.loop-width.order r.new.ranks (rw n at r.ensures) (rw n at i) (rw n at (c.ascending.ensures e))

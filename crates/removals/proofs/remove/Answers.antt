@@ -16,13 +16,13 @@ use Rattle.removals.proofs.remove.Tie as tie
 use Rattle.removals.proofs.remove.Reads as reads
 
 abbrev At-match-keys2 : Type 0
-At-match-keys2 = lts.At-match-keys2 tie.the-claims reads.Pre reads.Post tie.handed_clauses
+At-match-keys2 = lts.At-match-keys2 tie.the-claims reads.Pre reads.Post
 
 abbrev Start : Type 0
-Start = lts.Start tie.the-claims reads.Pre reads.Post tie.handed_clauses
+Start = lts.Start tie.the-claims reads.Pre reads.Post
 
 abbrev Else1 : Type 0
-Else1 = lts.Else1 tie.the-claims reads.Pre reads.Post tie.handed_clauses
+Else1 = lts.Else1 tie.the-claims reads.Pre reads.Post
 
 -- Admitted ---------------------------------------------------------------------------------------------------------------
 abbrev start : At-match-keys2 → Start

@@ -15,10 +15,10 @@ use Rattle.removals.proofs.remove_counts.Tie as tie
 use Rattle.removals.proofs.remove_counts.Reads as reads
 
 abbrev After-target-of : Type 0
-After-target-of = lts.After-target_of tie.the-claims reads.Pre reads.Post tie.handed_clauses
+After-target-of = lts.After-target_of tie.the-claims reads.Pre reads.Post
 
 abbrev Start : Type 0
-Start = lts.Start tie.the-claims reads.Pre reads.Post tie.handed_clauses
+Start = lts.Start tie.the-claims reads.Pre reads.Post
 
 -- where the flush's target is known
 abbrev start : After-target-of → Start

@@ -43,7 +43,7 @@ loop-i-preserved c =
     let n = rw w at t.ensures in
     let more =
     turn_more (view W) (Kept W) 10 c.args.key c.args.heads.now i c.loop-i.heads _ _ _ c.loop-i.invariant.1 (omega (arith, c.requires.0))
-    t.new.head.0 t.result.count t.result.fine t.result.reach n.0.ten n.0 n.1 n.2 n.3 n.4 (omega (arith, f.sfits)) in
+    t.new.head t.result.count t.result.fine t.result.reach n.0.ten n.0 n.1 n.2 n.3 n.4 (omega (arith, f.sfits)) in
     (omega arith, rw (to_z-of_z (record { sfits = c.added-sum.type_inv }), c.added-sum.ensures, to_z-of_z f, c.both-fine.ensures, c.larger-next.ensures) more)
 
 pub shape_of-heads : goal.shape_of-heads

@@ -7,10 +7,9 @@ use Rattle.stretches.proofs.reached.Goals as goal
 use Rattle.stretches.proofs.reached.Lts as lts
 use Rattle.stretches.proofs.reached.Tie as tie
 use Rattle.stretches.proofs.reached.Reads as reads
-use Rattle.stretches.proofs.reached.Invariants.{invariant-loop-i, decreases-loop-i}
 
 abbrev Then1 : Type 0
-Then1 = lts.Then1 tie.the-claims reads.Pre reads.Post invariant-loop-i decreases-loop-i tie.handed_clauses
+Then1 = lts.Then1 tie.the-claims reads.Pre reads.Post goal.the-invariant-loop-i goal.the-decreases-loop-i
 
 pub loop-i-init : goal.loop-i-init
 loop-i-init c = (search (unmapped, rules), omega arith, refl)

@@ -10,7 +10,7 @@ use Rattle.sums.proofs.keep_total.Tie as tie
 use Rattle.sums.proofs.keep_total.Reads as reads
 
 abbrev After-both : Type 0
-After-both = lts.After-both tie.the-claims reads.Pre reads.Post tie.handed_clauses
+After-both = lts.After-both tie.the-claims reads.Pre reads.Post
 
 -- both sums are in range, as the code tests it
 tested : (c : After-both) → c.both.result ≡ (in_range c.args.sum && in_range c.args.total)

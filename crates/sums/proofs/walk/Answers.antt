@@ -19,13 +19,12 @@ use Rattle.sums.proofs.walk.Goals as goal
 use Rattle.sums.proofs.walk.Lts as lts
 use Rattle.sums.proofs.walk.Tie as tie
 use Rattle.sums.proofs.walk.Reads as reads
-use Rattle.sums.proofs.walk.Invariants.{invariant-loop-at, decreases-loop-at}
 
 abbrev After-larger : Type 0
-After-larger = lts.After-larger tie.the-claims reads.Pre reads.Post invariant-loop-at decreases-loop-at tie.handed_clauses
+After-larger = lts.After-larger tie.the-claims reads.Pre reads.Post goal.the-invariant-loop-at goal.the-decreases-loop-at tie.handed_clauses
 
 abbrev Joined4 : Type 0
-Joined4 = lts.Joined4 tie.the-claims reads.Pre reads.Post invariant-loop-at decreases-loop-at tie.handed_clauses
+Joined4 = lts.Joined4 tie.the-claims reads.Pre reads.Post goal.the-invariant-loop-at goal.the-decreases-loop-at tie.handed_clauses
 
 pub loop-at-init : goal.loop-at-init
 loop-at-init c =
@@ -112,8 +111,8 @@ step c =
     let here = rw q at x.if-place-named.true in
     let kept = rw (width 65 c.place_of-place.result, q, to_z-of_z fs, to_z-of_z fd, total) at x.keep_total.ensures in
     subst (λ (X : List ℕ). Step c.args.windows.now c.loop-at.slots X k t.result.sum whole t.result.fine c.if-place-named.fine)
-    (sym (x.slots-is ∙ ap (put_in 65 c.loop-at.slots x.keep_total.last.0) q))
-    (step-own c.args.windows.now c.loop-at.slots k t.result.sum whole v.slots v.tidy here x.keep_total.last.0 x.keep_total.result kept t.result.fine c.if-place-named.fine (x.fine-is ∙ x.both-fine.ensures)))
+    (sym (x.slots-is ∙ ap (put_in 65 c.loop-at.slots x.keep_total.last.slot) q))
+    (step-own c.args.windows.now c.loop-at.slots k t.result.sum whole v.slots v.tidy here x.keep_total.last.slot x.keep_total.result kept t.result.fine c.if-place-named.fine (x.fine-is ∙ x.both-fine.ensures)))
     (λ x. subst (λ (X : List ℕ). Step c.args.windows.now c.loop-at.slots X k t.result.sum whole t.result.fine c.if-place-named.fine) (sym x.slots-is)
     (step_other c.args.windows.now c.loop-at.slots k t.result.sum whole v.slots v.tidy (place-missing (key_window k) c.args.windows.now (rw q at x.if-place-named.false)) t.result.fine c.if-place-named.fine x.fine-is))
     c.if-place-named.branch-raw

@@ -8,7 +8,7 @@ use Rattle.weights.proofs.idf_weight.Tie as tie
 use Rattle.weights.proofs.idf_weight.Reads as reads
 
 abbrev After-sixteenths2 : Type 0
-After-sixteenths2 = lts.After-sixteenths2 tie.the-claims reads.Pre reads.Post tie.handed_clauses
+After-sixteenths2 = lts.After-sixteenths2 tie.the-claims reads.Pre reads.Post
 
 pub returns-then-f-eq0 : goal.returns-then-f-eq0
 returns-then-f-eq0 c =

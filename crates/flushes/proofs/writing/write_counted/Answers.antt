@@ -16,7 +16,7 @@ use Rattle.flushes.proofs.writing.write_counted.Tie as tie
 use Rattle.flushes.proofs.writing.write_counted.Reads as reads
 
 abbrev Start : Type 0
-Start = lts.Start tie.the-claims reads.Pre reads.Post tie.handed_clauses
+Start = lts.Start tie.the-claims reads.Pre reads.Post
 
 places : (s : Start) → length s.args.b.postings ≡ 128
 places s = search (unmapped, rules)
@@ -48,7 +48,7 @@ write_words-requires c =
     let e = c.write_entries.auto.0 in (
       omega (arith, c.requires.0, l, h, e),
       omega arith,
-      omega (arith, c.tally-terms.ensures.0, terms-most ps, length-take u c.args.b.postings, length-take (u - 0) c.tally-terms.new.counts.1.0, c.requires.3),
+      omega (arith, c.tally-terms.ensures.0, terms-most ps, length-take u c.args.b.postings, length-take (u - 0) c.tally-terms.new.content, c.requires.3),
       alone-chained c.args.card.now _ c.args.block (e ∙ h ∙ l) c.requires.1,
     )
 
@@ -66,7 +66,7 @@ returns c =
     let len = places c.before.before.before.before.before.before.before.before.before.before.before.before.before.before.before.before.before.before.before.before.before.before.before.before.before.before.before in
     let n : length ps ≡ u = length-take-le u c.args.b.postings (omega (arith, c.requires.3)) in
     let long : length W ≡ 1024 * (length card / 4096) = omega (arith, length-words card, c.requires.0) in
-    let ws : take (u - 0) c.tally-terms.new.counts.1.0 ≡ _ = ap (take (u - 0)) counted.2 ∙ packed-words _ ps u n c.requires.3 in
+    let ws : take (u - 0) c.tally-terms.new.content ≡ _ = ap (take (u - 0)) counted.2 ∙ packed-words _ ps u n c.requires.3 in
     let stored : words w.new.card ≡ store W (c.args.block ∷ []) (encode 0 ps) =
     alone-stored W (length card / 4096) c.args.block ps long c.requires.1 c.requires.2 (omega (arith, c.requires.3)) c.requires.4 c.requires.6
     _ _ _ _ _ _ _ _ _ _ counted.0 (sym n) c.requires.7 c.requires.8 counted.1 ws link.ensures h.ensures e.ensures w.ensures in

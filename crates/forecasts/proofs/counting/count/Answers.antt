@@ -26,5 +26,5 @@ pub returns-in-Number : goal.returns-in-Number
 returns-in-Number c =
     let a = c.args in
     let w = rw c.in-Number.is at c.judge-verdict.ensures in
-    subst (λ (o : Outcome Outlook). Made a.card a.register.now a.plan.now a.places.now a.q o c.enter.result.reply c.enter.result.sketch c.enter.new.card.1.1.1.1.0)
+    subst (λ (o : Outcome Outlook). Made a.card a.register.now a.plan.now a.places.now a.q o c.enter.result.reply c.enter.result.sketch c.enter.new.places)
     (sym (judged-on a.register.now a.plan.now a.places.now a.q c.requires.1 a.card a.at w.0)) c.enter.ensures

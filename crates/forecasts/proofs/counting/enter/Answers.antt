@@ -12,13 +12,13 @@ use Rattle.forecasts.proofs.counting.enter.Tie as tie
 use Rattle.forecasts.proofs.counting.enter.Reads as reads
 
 abbrev After-judge-flush : Type 0
-After-judge-flush = lts.After-judge_flush tie.the-claims reads.Pre reads.Post tie.handed_clauses
+After-judge-flush = lts.After-judge_flush tie.the-claims reads.Pre reads.Post
 
 abbrev After-must-flush : Type 0
-After-must-flush = lts.After-must_flush tie.the-claims reads.Pre reads.Post tie.handed_clauses
+After-must-flush = lts.After-must_flush tie.the-claims reads.Pre reads.Post
 
 abbrev Start : Type 0
-Start = lts.Start tie.the-claims reads.Pre reads.Post tie.handed_clauses
+Start = lts.Start tie.the-claims reads.Pre reads.Post
 
 pub must_flush-wanted-requires : goal.must_flush-wanted-requires
 must_flush-wanted-requires c =

@@ -34,7 +34,7 @@ returns-then-place-n c =
     let w : 4 * p + 4 - 4 * p ≡ 4 = omega arith in
     let t = c.took-t in
     let e = rw w at t.ensures in
-    let X = t.new.run.1.0 in
+    let X = t.new.head in
     let f : SFits w16 t.result.count = search rules in
     let g : SFits w32 c.added-sum.result = record { sfits = c.added-sum.type_inv } in
     let sum = c.added-sum.ensures ∙ +ℤ_idl _ ∙ to_z-of_z f in (

@@ -18,10 +18,10 @@ use Rattle.plans.proofs.judging.output_ok.Tie as tie
 use Rattle.plans.proofs.judging.output_ok.Reads as reads
 
 abbrev Else3 : Type 0
-Else3 = lts.Else3 tie.the-claims reads.Pre reads.Post tie.handed_clauses
+Else3 = lts.Else3 tie.the-claims reads.Pre reads.Post
 
 abbrev Start : Type 0
-Start = lts.Start tie.the-claims reads.Pre reads.Post tie.handed_clauses
+Start = lts.Start tie.the-claims reads.Pre reads.Post
 
 -- past its tests, the output has blocks, and they stand
 abbrev start : Else3 → Start

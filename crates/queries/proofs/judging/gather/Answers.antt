@@ -42,7 +42,7 @@ returns-then-not-fine c =
     let h : c.loop-i.i < length ns = omega (arith, c.loop-i-test.true, length-map a.ids.now (λ x. x.now)) in
     let g : number_of ms (get_or ns c.loop-i.i []) < length ms = omega (arith, c.if-number-used.true) in
     let o = c.keep_one-known in
-    gathered-fault W a.run.now a.s a.t a.live ms ns c.loop-i.i c.loop-i.known c.loop-i.heads h c.loop-i.invariant.2 g o.result o.new.card.1.1.0 (subst (λ (j : ℕ). KeptOf W a.run.now a.s a.t a.live c.loop-i.known c.loop-i.heads j o.result o.new.card.1.1.0) e o.ensures) (not-true _ c.if-not-fine.true-raw)
+    gathered-fault W a.run.now a.s a.t a.live ms ns c.loop-i.i c.loop-i.known c.loop-i.heads h c.loop-i.invariant.2 g o.result o.new.heads (subst (λ (j : ℕ). KeptOf W a.run.now a.s a.t a.live c.loop-i.known c.loop-i.heads j o.result o.new.heads) e o.ensures) (not-true _ c.if-not-fine.true-raw)
 
 pub overflow_add-i : goal.overflow_add-i
 overflow_add-i c = omega (arith, c.loop-i-test.true, c.well_formed.1.1.1.0)

@@ -57,7 +57,7 @@ returns c =
     let five : c.args.k.used + 1 ≤ 5 = omega (arith, c.if-k-ge5.false) in
     record {
       fine = o.ensures.fine;
-      keeps = λ f. keeps-room (words c.args.card.now) c.args.run.now c.args.s c.args.t c.args.live c.args.k _ c.args.heads.now o.new.run.1.0 c.args.id o.result (omega arith) (omega (arith, e, c.requires.0.room)) o.ensures f refl refl;
+      keeps = λ f. keeps-room (words c.args.card.now) c.args.run.now c.args.s c.args.t c.args.live c.args.k _ c.args.heads.now o.new.group c.args.id o.result (omega arith) (omega (arith, e, c.requires.0.room)) o.ensures f refl refl;
       used = five;
       few = omega (arith, o.ensures.few, c.requires.2);
     }

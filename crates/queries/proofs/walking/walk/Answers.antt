@@ -12,13 +12,12 @@ use Rattle.queries.proofs.walking.walk.Goals as goal
 use Rattle.queries.proofs.walking.walk.Lts as lts
 use Rattle.queries.proofs.walking.walk.Tie as tie
 use Rattle.queries.proofs.walking.walk.Reads as reads
-use Rattle.queries.proofs.walking.walk.Invariants.{invariant-loop-top, decreases-loop-top}
 
 abbrev After-take-terms : Type 0
-After-take-terms = lts.After-take_terms tie.the-claims reads.Pre reads.Post invariant-loop-top decreases-loop-top tie.handed_clauses
+After-take-terms = lts.After-take_terms tie.the-claims reads.Pre reads.Post goal.the-invariant-loop-top goal.the-decreases-loop-top tie.handed_clauses
 
 abbrev Start : Type 0
-Start = lts.Start tie.the-claims reads.Pre reads.Post invariant-loop-top decreases-loop-top tie.handed_clauses
+Start = lts.Start tie.the-claims reads.Pre reads.Post goal.the-invariant-loop-top goal.the-decreases-loop-top tie.handed_clauses
 
 pub top_terms-top-requires : goal.top_terms-top-requires
 top_terms-top-requires c = let w = c.requires.0 in (w.fits, w.short, w.lists, w.kept)
@@ -64,32 +63,32 @@ lower m =
     let a = (start m).args in
     let l = m.loop-top in
     let t = m.take_terms-t in
-    omega (arith, walk-lower (words a.card.now) a.run.now a.m a.g (seen a.first a.last a.current) a.places a.heads.now l.heads l.best l.top l.invariant (window m) (high m) t.new.run.1.0 t.result.next t.ensures.heads.0 t.ensures.heads.1 t.ensures.heads.2 t.ensures.scored.2, high m)
+    omega (arith, walk-lower (words a.card.now) a.run.now a.m a.g (seen a.first a.last a.current) a.places a.heads.now l.heads l.best l.top l.invariant (window m) (high m) t.new.heads t.result.next t.ensures.heads.0 t.ensures.heads.1 t.ensures.heads.2 t.ensures.scored.2, high m)
 
 -- the walk goes on with these best hits
 abbrev GoesOn : After-take-terms → Top → Type 0
-GoesOn m then = Walking (words (start m).args.card.now) (start m).args.run.now (start m).args.m (start m).args.g (seen (start m).args.first (start m).args.last (start m).args.current) (start m).args.places (start m).args.heads.now m.take_terms-t.new.run.1.0 then m.take_terms-t.result.next
+GoesOn m then = Walking (words (start m).args.card.now) (start m).args.run.now (start m).args.m (start m).args.g (seen (start m).args.first (start m).args.last (start m).args.current) (start m).args.places (start m).args.heads.now m.take_terms-t.new.heads then m.take_terms-t.result.next
 
 placed : (m : After-take-terms) → counts m ≡ true → (then : Top) → then ≡ top_of (take (start m).args.places (place (hit m) (listed_hits m.loop-top.best))) → GoesOn m then
 placed m e then f =
     let a = (start m).args in
     let l = m.loop-top in
     let t = m.take_terms-t in
-    walk-placed (words a.card.now) a.run.now a.m a.g (seen a.first a.last a.current) a.places a.heads.now l.heads l.best l.top l.invariant (window m) (high m) t.new.run.1.0 t.result.next t.ensures.heads.0 t.ensures.heads.1 t.ensures.heads.2 t.ensures.scored.2 t.result.score t.ensures.scored.0 (ap (λ (b : Bool). b && seen a.first a.last a.current (window m)) (sym t.ensures.scored.1) ∙ e) then f
+    walk-placed (words a.card.now) a.run.now a.m a.g (seen a.first a.last a.current) a.places a.heads.now l.heads l.best l.top l.invariant (window m) (high m) t.new.heads t.result.next t.ensures.heads.0 t.ensures.heads.1 t.ensures.heads.2 t.ensures.scored.2 t.result.score t.ensures.scored.0 (ap (λ (b : Bool). b && seen a.first a.last a.current (window m)) (sym t.ensures.scored.1) ∙ e) then f
 
 out : (m : After-take-terms) → counts m ≡ true → (ltb m.loop-top.best.used (start m).args.places || outranks (hit m) (get_or m.loop-top.best.hits ((start m).args.places - 1) no_hit)) ≡ false → GoesOn m m.loop-top.best
 out m e f =
     let a = (start m).args in
     let l = m.loop-top in
     let t = m.take_terms-t in
-    walk-out (words a.card.now) a.run.now a.m a.g (seen a.first a.last a.current) a.places a.heads.now l.heads l.best l.top l.invariant (window m) (high m) t.new.run.1.0 t.result.next t.ensures.heads.0 t.ensures.heads.1 t.ensures.heads.2 t.ensures.scored.2 t.result.score t.ensures.scored.0 (ap (λ (b : Bool). b && seen a.first a.last a.current (window m)) (sym t.ensures.scored.1) ∙ e) f _ refl
+    walk-out (words a.card.now) a.run.now a.m a.g (seen a.first a.last a.current) a.places a.heads.now l.heads l.best l.top l.invariant (window m) (high m) t.new.heads t.result.next t.ensures.heads.0 t.ensures.heads.1 t.ensures.heads.2 t.ensures.scored.2 t.result.score t.ensures.scored.0 (ap (λ (b : Bool). b && seen a.first a.last a.current (window m)) (sym t.ensures.scored.1) ∙ e) f _ refl
 
 passed : (m : After-take-terms) → counts m ≡ false → GoesOn m m.loop-top.best
 passed m e =
     let a = (start m).args in
     let l = m.loop-top in
     let t = m.take_terms-t in
-    walk-passed (words a.card.now) a.run.now a.m a.g (seen a.first a.last a.current) a.places a.heads.now l.heads l.best l.top l.invariant (window m) (high m) t.new.run.1.0 t.result.next t.ensures.heads.0 t.ensures.heads.1 t.ensures.heads.2 t.ensures.scored.2 (ap (λ (b : Bool). b && seen a.first a.last a.current (window m)) (sym t.ensures.scored.1) ∙ e) _ refl
+    walk-passed (words a.card.now) a.run.now a.m a.g (seen a.first a.last a.current) a.places a.heads.now l.heads l.best l.top l.invariant (window m) (high m) t.new.heads t.result.next t.ensures.heads.0 t.ensures.heads.1 t.ensures.heads.2 t.ensures.scored.2 (ap (λ (b : Bool). b && seen a.first a.last a.current (window m)) (sym t.ensures.scored.1) ∙ e) _ refl
 
 pub overflow_cast-hit : goal.overflow_cast-hit
 overflow_cast-hit c =

@@ -32,7 +32,7 @@ overflow_cast-windows c =
     let few : Below 4294967296 c.args.run.now = λ j. omega (arith, c.shared_slice_known-2-1.given j) in
     let rules = rule-each c.args.s.windows (buffered c.args.s.buffer) k.buffer.rules in
     let o = c.open_heads in
-    let H = o.new.run.1.0 in
+    let H = o.new.heads in
     let told = sym c.judge-told.ensures ∙ c.in-Windows.is in
     record { fits = omega (arith, windows-few (words c.args.card.now) c.args.run.now c.args.s c.args.id H o.ensures small few k.buffer.order rules c.args.t _ _ told) }
 
@@ -43,7 +43,7 @@ weigh-requires c =
     let W = words c.args.card.now in
     let R = c.args.run.now in
     let n = c.args.s.partitions.used in
-    let H = o.new.run.1.0 in
+    let H = o.new.heads in
     let G = c.args.group.now in
     let P = c.copy.new.to in
     let d = copied W R n H G P c.requires.5 o.ensures.long c.copy.ensures o.ensures.ready in
@@ -62,15 +62,15 @@ total_left-taken-requires c =
     let W = words c.args.card.now in
     let R = c.args.run.now in
     let n = c.args.s.partitions.used in
-    let H = o.new.run.1.0 in
+    let H = o.new.heads in
     let G = c.args.group.now in
     let told = sym c.judge-told.ensures ∙ c.in-Windows.is in
     let P = c.copy.new.to in
     let d = copied W R n H G P c.requires.5 o.ensures.long c.copy.ensures o.ensures.ready in
     let w = c.weigh in
-    let l = kept-lists W R (n + 1) H (put_mid 4 (length G - 4) G P) w.new.run.1.0 _ d.2 w.ensures.1 in
+    let l = kept-lists W R (n + 1) H (put_mid 4 (length G - 4) G P) w.new.group _ d.2 w.ensures.1 in
     let f = all-fall (words c.args.card.now) c.args.run.now c.args.s c.args.id H o.ensures small few k.buffer.order rules c.args.t _ _ told in
-    rw (take_rest 4 w.new.run.1.0) (omega (arith, length-drop 4 w.new.run.1.0, w.ensures.0.long), omega (arith, k.partitions.used), w.ensures.0.heads, ap (λ (g : Group). all_fall 65536 g) l.1 ∙ f)
+    rw (take_rest 4 w.new.group) (omega (arith, length-drop 4 w.new.group, w.ensures.0.long), omega (arith, k.partitions.used), w.ensures.0.heads, ap (λ (g : Group). all_fall 65536 g) l.1 ∙ f)
 
 pub returns-in-Malformed : goal.returns-in-Malformed
 returns-in-Malformed c =
@@ -79,7 +79,7 @@ returns-in-Malformed c =
     let few : Below 4294967296 c.args.run.now = λ j. omega (arith, c.shared_slice_known-2-1.given j) in
     let rules = rule-each c.args.s.windows (buffered c.args.s.buffer) k.buffer.rules in
     let o = c.open_heads in
-    let bad = judged-bad (words c.args.card.now) c.args.run.now c.args.s c.args.id o.new.run.1.0 o.ensures small few k.buffer.order rules c.args.t (sym c.judge-told.ensures ∙ c.in-Malformed.is) in
+    let bad = judged-bad (words c.args.card.now) c.args.run.now c.args.s c.args.id o.new.heads o.ensures small few k.buffer.order rules c.args.t (sym c.judge-told.ensures ∙ c.in-Malformed.is) in
     record { fine = sym bad; kept = λ y. never y; term = λ y. never y; taken = λ y. never y; few = omega arith }
 
 pub returns-in-Windows : goal.returns-in-Windows
@@ -92,14 +92,14 @@ returns-in-Windows c =
     let W = words c.args.card.now in
     let R = c.args.run.now in
     let n = c.args.s.partitions.used in
-    let H = o.new.run.1.0 in
+    let H = o.new.heads in
     let G = c.args.group.now in
     let told = sym c.judge-told.ensures ∙ c.in-Windows.is in
     let P = c.copy.new.to in
     let d = copied W R n H G P c.requires.5 o.ensures.long c.copy.ensures o.ensures.ready in
     let w = c.weigh in
-    let l = kept-lists W R (n + 1) H (put_mid 4 (length G - 4) G P) w.new.run.1.0 _ d.2 w.ensures.1 in
-    let z = rw (take_rest 4 w.new.run.1.0) at c.total_left-taken.ensures in
+    let l = kept-lists W R (n + 1) H (put_mid 4 (length G - 4) G P) w.new.group _ d.2 w.ensures.1 in
+    let z = rw (take_rest 4 w.new.group) at c.total_left-taken.ensures in
     record {
       fine = sym (judged-good (words c.args.card.now) c.args.run.now c.args.s c.args.id H o.ensures small few k.buffer.order rules c.args.t _ _ told);
       kept = λ y. w.ensures.0;

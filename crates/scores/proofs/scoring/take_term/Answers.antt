@@ -46,16 +46,16 @@ bounds-group-2-2 c =
     let G = c.args.group.now in
     let four : 4 ≤ length G = omega (arith, c.requires.0.long) in
     let t = c.take_led-t in
-    let r = room G t.new.run.1.0 four (rw (take_rest 4 G) at t.ensures.heads.0) in
-    lt-length-set (put_mid 4 (length G - 4) G t.new.run.1.0) 0 t.result.next (omega (arith, r))
+    let r = room G t.new.heads four (rw (take_rest 4 G) at t.ensures.heads.0) in
+    lt-length-set (put_mid 4 (length G - 4) G t.new.heads) 0 t.result.next (omega (arith, r))
 
 pub bounds-group-3-2 : goal.bounds-group-3-2
 bounds-group-3-2 c =
     let G = c.args.group.now in
     let four : 4 ≤ length G = omega (arith, c.requires.0.long) in
     let t = c.take_led-t in
-    let r = room G t.new.run.1.0 four (rw (take_rest 4 G) at t.ensures.heads.0) in
-    let F = put_mid 4 (length G - 4) G t.new.run.1.0 in
+    let r = room G t.new.heads four (rw (take_rest 4 G) at t.ensures.heads.0) in
+    let F = put_mid 4 (length G - 4) G t.new.heads in
     lt-length-set (set F 0 t.result.next) 2 t.result.at (lt-length-set F 0 t.result.next (omega (arith, r)))
 
 abbrev begun : After-above → Start
@@ -91,7 +91,7 @@ returns c =
     let u = rw (take_rest 4 G) at t.ensures in
     let n = (counted c.before.before).0 in
     let z = product-most c.above-count.result (get_or G 1 0) (counted c.before.before).1 c.requires.0.light in
-    let X = t.new.run.1.0 in
+    let X = t.new.heads in
     let r = t.result in
     let w = c.tf_weight.ensures.weight in record { group = (
         after_kept W R c.args.m c.args.key G c.requires.0 X r.next r.at r.others u.0.0 u.0.1 u.0.2 u.1.0.2 u.1.1,

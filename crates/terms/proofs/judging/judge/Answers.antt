@@ -16,16 +16,15 @@ use Rattle.terms.proofs.judging.judge.Goals as goal
 use Rattle.terms.proofs.judging.judge.Lts as lts
 use Rattle.terms.proofs.judging.judge.Tie as tie
 use Rattle.terms.proofs.judging.judge.Reads as reads
-use Rattle.terms.proofs.judging.judge.Invariants.{invariant-loop-top, decreases-loop-top}
 
 abbrev After-shown : Type 0
-After-shown = lts.After-shown tie.the-claims reads.Pre reads.Post invariant-loop-top decreases-loop-top tie.handed_clauses
+After-shown = lts.After-shown tie.the-claims reads.Pre reads.Post goal.the-invariant-loop-top goal.the-decreases-loop-top tie.handed_clauses
 
 abbrev Start : Type 0
-Start = lts.Start tie.the-claims reads.Pre reads.Post invariant-loop-top decreases-loop-top tie.handed_clauses
+Start = lts.Start tie.the-claims reads.Pre reads.Post goal.the-invariant-loop-top goal.the-decreases-loop-top tie.handed_clauses
 
 abbrev At-loop : Type 0
-At-loop = lts.At-loop tie.the-claims reads.Pre reads.Post invariant-loop-top decreases-loop-top tie.handed_clauses
+At-loop = lts.At-loop tie.the-claims reads.Pre reads.Post goal.the-invariant-loop-top goal.the-decreases-loop-top tie.handed_clauses
 
 pub leader-l-requires : goal.leader-l-requires
 leader-l-requires c = (omega (arith, c.requires.0), omega (arith, c.requires.1), c.requires.2.lists)

@@ -29,8 +29,8 @@ took-q-requires c =
     let w : 4 * n + 4 - 4 * n ≡ 4 = omega arith in
     let z : 4 * n - 0 ≡ 4 * n = omega arith in
     let l = length-take-le (4 * n) H (omega (arith, c.requires.0)) in
-    let front : length t.new.run.1.0 ≡ 4 * n = t.ensures.heads.0 ∙ rw z l in
-    (rw (w, between-part n H t.new.run.1.0 c.requires.0 front) c.requires.3.run, c.requires.2)
+    let front : length t.new.heads ≡ 4 * n = t.ensures.heads.0 ∙ rw z l in
+    (rw (w, between-part n H t.new.heads c.requires.0 front) c.requires.3.run, c.requires.2)
 
 pub added-total-requires : goal.added-total-requires
 added-total-requires c =
@@ -51,8 +51,8 @@ returns c =
     let z : 4 * n - 0 ≡ 4 * n = omega arith in
     let fits : 4 * n ≤ length H = omega (arith, c.requires.0) in
     let l = length-take-le (4 * n) H fits in
-    let X = t.new.run.1.0 in
-    let Y = q.new.run.1.0 in
+    let X = t.new.heads in
+    let Y = q.new.head in
     let front : length X ≡ 4 * n = t.ensures.heads.0 ∙ rw z l in
     let tt = rw (z, parts-take 4 n H fits) at t.ensures in
     let qq = rw (w, between-part n H X c.requires.0 front) at q.ensures in

@@ -10,4 +10,4 @@ returns c =
     let r = c.open_run in
     let n = c.args.s.partitions.used in
     let w : 4 * n + 4 - 4 * n ≡ 4 = omega arith in
-    opened (words c.args.card.now) c.args.run.now c.args.s c.args.id l.new.run.1.0 r.new.run.1.0 (l.ensures.0 ∙ c.requires.1) l.ensures.1 l.ensures.2 r.ensures.0 r.ensures.1
+    opened (words c.args.card.now) c.args.run.now c.args.s c.args.id l.new.heads r.new.head (l.ensures.0 ∙ c.requires.1) l.ensures.1 l.ensures.2 r.ensures.0 r.ensures.1

@@ -43,9 +43,9 @@ loop-i-preserved c =
     let inside : 4 * i + 4 ≤ length c.loop-i.heads = omega (arith, v.1, c.requires.1, c.loop-i-test.true) in
     let same = ap (map (posted c.args.id)) (h.1 ∙ place-comes W R l.result l.ensures.1) ∙ l.ensures.0 in (
       v.0,
-      put-length 4 c.loop-i.heads p.new.run.1.0 i inside h.0.four ∙ v.1,
+      put-length 4 c.loop-i.heads p.new.head i inside h.0.four ∙ v.1,
       omega (arith, c.loop-i-test.true),
-      put_next (Kept W R) (listed W R c.args.id) (λ p. under c.args.id (postings_of W p)) i c.loop-i.heads p.new.run.1.0 c.args.ps.records no_partition v.3 inside h.0.four (omega (arith, v.0, c.requires.0, c.loop-i-test.true)) h.0 same,
+      put_next (Kept W R) (listed W R c.args.id) (λ p. under c.args.id (postings_of W p)) i c.loop-i.heads p.new.head c.args.ps.records no_partition v.3 inside h.0.four (omega (arith, v.0, c.requires.0, c.loop-i-test.true)) h.0 same,
     )
 
 pub shape_of-heads : goal.shape_of-heads
