@@ -54,16 +54,21 @@ cost-replaced (v ∷ vs) ps R =
 unfoldable pub Fits : ℕ → Account → Type 0
 Fits blocks a = blocks_in a + blocks_ahead a ≤ blocks
 
--- the output in progress keeps its blocks in a flush
+-- the output in progress keeps its blocks in a flush, where a merge is
+ahead-merging : (a : Account) → Progress a → (vs : List ℕ) → due_of a ≡ vs → 1 ≤ a.steps → blocks_ahead (flushed_account a) ≡ blocks_ahead a
+unfolding blocks_ahead flushed_account merged
+ahead-merging a progress [] e some = absurd (progress-due a progress some e)
+ahead-merging a progress (v ∷ vs) e some = ap (λ l. cond (eqb a.steps 0) 0 (blocks_of (nonzero (pairs l)))) (inputs-flushed a v vs e)
+
+-- and where none is
+ahead-idle : (a : Account) → eqb a.steps 0 ≡ true → blocks_ahead (flushed_account a) ≡ blocks_ahead a
+unfolding blocks_ahead flushed_account
+ahead-idle a y = rw y
+
 pub ahead-flushed : (a : Account) → Progress a → blocks_ahead (flushed_account a) ≡ blocks_ahead a
 ahead-flushed a progress =
-    by-test (eqb a.steps 0)
-    (λ y. unfold blocks_ahead flushed_account in rw y)
-    (λ n. let d = eqb-false a.steps 0 n in go (due_of a) refl (omega arith))
-  where
-    go : (vs : List ℕ) → due_of a ≡ vs → 1 ≤ a.steps → blocks_ahead (flushed_account a) ≡ blocks_ahead a
-    go [] e some = absurd (progress-due a progress some e)
-    go (v ∷ vs) e some = unfold blocks_ahead flushed_account merged in ap (λ l. cond (eqb a.steps 0) 0 (blocks_of (nonzero (pairs l)))) (inputs-flushed a v vs e)
+    by-test (eqb a.steps 0) (ahead-idle a)
+    (λ n. let d = eqb-false a.steps 0 n in ahead-merging a progress (due_of a) refl (omega arith))
 
 -- a flush takes one block
 pub blocks-flushed : (a : Account) → length a.buffer ≤ 128 → empty a.buffer ≡ false → blocks_in (flushed_account a) ≡ blocks_in a + 1

@@ -1,5 +1,5 @@
 -- Entries from the numbers of postings are the entries of the partition's layout.
-use Rattle.lists.proofs.Prelude.{true, false, not, true≢false, List, [], ◌∷◌, map, ◌≡◌, refl, sym, ap, ◌∙◌, ℕ, zero, suc, ◌+◌, ◌*◌, ◌<◌, arith, eqb, ltb, leb, length, eqb-true, eqb-false, ne_eqb, ltb-true, ltb-false, lt-ltb, le-ltb, leb-true, le-leb, keep, every, elem, joined, rising, up_to, by-test, and_left, and_right, and_both, or_right, every-from, keep_same, every-elem, elem-keep, length-joined}
+use Rattle.lists.proofs.Prelude.{subst, true, false, not, true≢false, List, [], ◌∷◌, map, ◌≡◌, refl, sym, ap, ◌∙◌, ℕ, zero, suc, ◌+◌, ◌*◌, ◌<◌, arith, eqb, ltb, leb, length, eqb-true, eqb-false, ne_eqb, ltb-true, ltb-false, lt-ltb, le-ltb, leb-true, le-leb, keep, every, elem, joined, rising, up_to, by-test, and_left, and_right, and_both, or_right, every-from, keep_same, every-elem, elem-keep, length-joined}
 use Rattle.postings.specs.declared.Posting.{Posting}
 use Rattle.postings.specs.Order.{ordered}
 use Rattle.postings.specs.Sums.{under}
@@ -39,13 +39,13 @@ rising-kept (n ∷ l) i (suc k) a f t =
     by-test (eqb n i)
     (λ y. let z = eqb-true n i y in
     let low : every (λ j. leb (suc i) j) l ≡ true = every-from (ltb n) (ltb n) (λ j. leb (suc i) j) (λ j u v. le-leb (suc i) j (omega (arith, ltb-true n j u))) l above above in
-    rw y (ap (λ (r : List ℕ). i ∷ r) (later-keep n l (suc i) k (omega arith) ∙ rising-kept l (suc i) k (and_right (every (ltb n) l) _ a) low (rw e at (and_right (ltb n (i + suc k)) _ t))) ∙ rw z))
+    rw y (ap (λ (r : List ℕ). i ∷ r) (later-keep n l (suc i) k (omega arith) ∙ rising-kept l (suc i) k (and_right (every (ltb n) l) _ a) low (subst (λ (m : ℕ). every (λ j. ltb j m) l ≡ true) e (and_right (ltb n (i + suc k)) _ t))) ∙ rw z))
     (λ g. let z = eqb-false n i g in
     let low : every (λ j. leb (suc i) j) (n ∷ l) ≡ true =
     and_both (leb (suc i) n) _ (le-leb (suc i) n (omega (arith, z)))
     (every-from (ltb n) (ltb n) (λ j. leb (suc i) j) (λ j u v. le-leb (suc i) j (omega (arith, ltb-true n j u))) l above above) in
     let m : elem i l ≡ false = not-below i l (every-from (ltb n) (ltb n) (ltb i) (λ j u v. lt-ltb i j (omega (arith, ltb-true n j u))) l above above) in
-    rw (g, m) (rising-kept (n ∷ l) (suc i) k a low (rw e at t)))
+    rw (g, m) (rising-kept (n ∷ l) (suc i) k a low (subst (λ (m : ℕ). every (λ j. ltb j m) (n ∷ l) ≡ true) e t)))
 
 -- The identifiers of postings -------------------------------------------------------------------------------------------
 

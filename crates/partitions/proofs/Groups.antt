@@ -1,5 +1,5 @@
 -- Ordered postings stand in groups, one for each identifier, by rising identifier.
-use Rattle.lists.proofs.Prelude.{Bool, true, not, List, [], ◌∷◌, ◌++◌, map, tail-eq_of_cons-eq, ◌⊎◌, inl, inr, ◌≡◌, refl, sym, ap, ◌∙◌, ℕ, suc, ◌+◌, ◌<◌, ◌≤◌, add-zero, arith, eqb, ltb, leb, length, ltb-true, ltb-false, leb-true, eqb-true, eqb-false, lt-ltb, le-ltb, le-leb, eq-eqb, ne_eqb, not-true, keep, every, total_by, joined, by-test, and_left, and_right, and_both, every-from, every-keep, every-kept, keep_all, keep-none, none_from, map-where, length-all}
+use Rattle.lists.proofs.Prelude.{subst, Bool, true, not, List, [], ◌∷◌, ◌++◌, map, tail-eq_of_cons-eq, ◌⊎◌, inl, inr, ◌≡◌, refl, sym, ap, ◌∙◌, ℕ, suc, ◌+◌, ◌<◌, ◌≤◌, add-zero, arith, eqb, ltb, leb, length, ltb-true, ltb-false, leb-true, eqb-true, eqb-false, lt-ltb, le-ltb, le-leb, eq-eqb, ne_eqb, not-true, keep, every, total_by, joined, by-test, and_left, and_right, and_both, every-from, every-keep, every-kept, keep_all, keep-none, none_from, map-where, length-all}
 use Rattle.postings.specs.declared.Posting.{Posting}
 use Rattle.postings.specs.Order.{precedes, ordered}
 use Rattle.postings.specs.Sums.{under}
@@ -55,7 +55,8 @@ after p (q ∷ qs) o =
     (λ y. let e : q.id ≡ p.id = eqb-true q.id p.id y in
     let t : ℕ → Bool = λ i. not (eqb i p.id) in
     let k : keep t (keep t (identifiers_of qs)) ≡ keep t (identifiers_of qs) = keep_all t (keep t (identifiers_of qs)) (every-kept t (identifiers_of qs)) in
-    inl (rw (e, eq-eqb p.id p.id refl, k)))
+    let P : ℕ → Type 0 = λ m. (m ∷ keep (λ i. not (eqb i m)) (identifiers_of qs)) ≡ p.id ∷ keep t (m ∷ keep (λ i. not (eqb i m)) (identifiers_of qs)) in
+    inl (subst P (sym e) (rw (eq-eqb p.id p.id refl, k))))
     (λ n. let d : q.id ≡ p.id → ⊥ = eqb-false q.id p.id n in
     let l : p.id ≤ q.id = leb-true p.id q.id (and_left _ _ (rest_from p (q ∷ qs) o)) in
     let g = rest_from q qs (rest-ordered p (q ∷ qs) o) in

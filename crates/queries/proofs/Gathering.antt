@@ -27,6 +27,8 @@ module _ (W R : List ℕ) (s : State) (st : Stretch) (live : ℕ) where
 
   served-more : (is : List ℕ) (ts : List Term) (i : ℕ) (t : Term) → Serving W s st live is ts → Serves W s st live i t → Serving W s st live (is ++ (i ∷ [])) (ts ++ (t ∷ []))
   served-more [] [] i t none w = more w none
+  served-more [] (u ∷ ts) i t x w = elim x [ ]
+  served-more (j ∷ is) [] i t x w = elim x [ ]
   served-more (j ∷ is) (u ∷ ts) i t (more v r) w = more v (served-more is ts i t r w)
 
   -- at first none

@@ -28,10 +28,14 @@ module _ (W : List ℕ) (s : State) (st : Stretch) (live : ℕ) where
 
   pub served-falls : (is : List ℕ) (ts : List Term) → Serving W s st live is ts → all_fall_all 65536 (groups_in ts) ≡ true
   served-falls [] [] none = refl
+  served-falls [] (t ∷ ts) x = elim x [ ]
+  served-falls (i ∷ is) [] x = elim x [ ]
   served-falls (i ∷ is) (t ∷ ts) (more v r) = and_both (all_fall 65536 t.lists) _ v.falls (served-falls is ts r)
 
   pub served-ranges : (w : ℕ) (is : List ℕ) (ts : List Term) → Serving W s st live is ts → every in_range (map (sums w) (groups_in ts)) ≡ true
   served-ranges w [] [] none = refl
+  served-ranges w [] (t ∷ ts) x = elim x [ ]
+  served-ranges w (i ∷ is) [] x = elim x [ ]
   served-ranges w (i ∷ is) (t ∷ ts) (more v r) = and_both (in_range (sums w t.lists)) _ (ap in_range (v.totals w) ∙ v.ranges w) (served-ranges w is ts r)
 
   -- ---- what they count and weigh
@@ -39,6 +43,8 @@ module _ (W : List ℕ) (s : State) (st : Stretch) (live : ℕ) where
   served-any : (w : ℕ) (is : List ℕ) (ts : List Term) → Serving W s st live is ts → any is_above (map (sums w) (groups_in ts)) ≡ any (λ i. ltb 0 (count_in W s i w)) is
   unfolding count_in
   served-any w [] [] none = refl
+  served-any w [] (t ∷ ts) x = elim x [ ]
+  served-any w (i ∷ is) [] x = elim x [ ]
   served-any w (i ∷ is) (t ∷ ts) (more v r) = ap₂ ◌||◌ (ap is_above (v.totals w)) (served-any w is ts r)
 
   -- what an identifier adds to the score of a window
@@ -51,12 +57,16 @@ module _ (W : List ℕ) (s : State) (st : Stretch) (live : ℕ) where
 
   served-score : (w : ℕ) (is : List ℕ) (ts : List Term) → Serving W s st live is ts → weigh_all (weights_in ts) (map (sums w) (groups_in ts)) ≡ total_by (adds w) is
   served-score w [] [] none = refl
+  served-score w [] (t ∷ ts) x = elim x [ ]
+  served-score w (i ∷ is) [] x = elim x [ ]
   served-score w (i ∷ is) (t ∷ ts) (more v r) = ap₂ ◌+◌ (served-one w i t v) (served-score w is ts r)
 
   -- nothing is stored of window 0
   served-none : (is : List ℕ) (ts : List Term) → Serving W s st live is ts → any (λ i. ltb 0 (count_in W s i 0)) is ≡ false
   unfolding count_in
   served-none [] [] none = refl
+  served-none [] (t ∷ ts) x = elim x [ ]
+  served-none (i ∷ is) [] x = elim x [ ]
   served-none (i ∷ is) (t ∷ ts) (more v r) = rw v.none (served-none is ts r)
 
 -- ---- the windows found are those that show and match

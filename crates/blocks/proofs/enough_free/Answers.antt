@@ -35,7 +35,7 @@ pub returns : goal.returns
 returns c =
     let W = words c.args.card.now in
     ⊎_elim
-    (λ w. let z : c.loop-i.missing ≡ 0 = omega (arith, ltb-false 0 c.loop-i.missing w.1.left) in
+    (λ w. let z : c.loop-i.missing ≡ 0 = omega (arith, ltb-false 0 c.loop-i.missing w.if-missing-gt0.false-raw) in
     eq-eqb c.loop-i.missing 0 z ∙ sym (c.loop-i.invariant.1 ∙ le-leb c.loop-i.missing _ (omega arith)))
-    (λ w. sym (c.loop-i.invariant.1 ∙ rw (free-none W c.args.blocks c.args.taken c.loop-i.i c.requires.2 w.left) (leb-none c.loop-i.missing)))
-    c.loop-i-test.branch
+    (λ w. sym (c.loop-i.invariant.1 ∙ rw (free-none W c.args.blocks c.args.taken c.loop-i.i c.requires.2 w.loop-i-test.false) (leb-none c.loop-i.missing)))
+    c.loop-i-test.branch-raw

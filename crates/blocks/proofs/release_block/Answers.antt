@@ -19,7 +19,7 @@ loop-i-preserved c =
     let n : 1024 - (c.loop-i.i + 1) ≡ 1024 - c.loop-i.i - 1 = omega arith in
     let k : 1024 * c.args.block + (c.loop-i.i + 1) ≡ 1024 * c.args.block + c.loop-i.i + 1 = omega arith in (
       omega arith,
-      put.auto.0 ∙ v.1,
+      put.auto.card ∙ v.1,
       v.2 ∙ ones-more (words c.loop-i.card) (1024 * c.args.block + c.loop-i.i) (1024 - c.loop-i.i) (omega arith) ∙ rw (put.ensures, n, k),
     )
 

@@ -24,7 +24,7 @@ loop-left-preserved c =
     let v = c.loop-left.invariant in
     let freed = c.release_block in
     let m = release-more (words c.loop-left.card) c.loop-left.next c.loop-left.left (omega arith) v.1 v.2 in
-    rw (freed.ensures, c.block_word-next.ensures) (freed.auto.0 ∙ v.0, m.0, m.1, v.3 ∙ m.2)
+    rw (freed.ensures, c.block_word-next.ensures) (freed.auto.card ∙ v.0, m.0, m.1, v.3 ∙ m.2)
 
 pub shape_of-card : goal.shape_of-card
 shape_of-card c = c.loop-left.invariant.0

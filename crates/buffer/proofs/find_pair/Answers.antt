@@ -28,6 +28,6 @@ returns c =
     let u = canonical-used b c.requires in
     found_before p (buffered b) c.requires.in_order k no_posting c.rank_of-k.ensures
     (⊎_elim
-    (λ w h. rw (get_or-take b.used b.postings k no_posting (omega arith)) (sym w.2.ensures ∙ w.3.left))
+    (λ w h. rw (get_or-take b.used b.postings k no_posting (omega arith)) (sym w.is_pair.ensures ∙ w.if-is_pair.false))
     (λ w h. absurd (omega arith))
     c.if-k-b.branch-raw)

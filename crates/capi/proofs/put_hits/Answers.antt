@@ -13,7 +13,7 @@ pub put_word-requires : goal.put_word-requires
 put_word-requires c = omega (arith, length-words c.loop-i.hits)
 
 pub put_word-requires-in-loop-i : goal.put_word-requires-in-loop-i
-put_word-requires-in-loop-i c = omega (arith, length-words c.put_word.new.bytes, c.put_word.auto.0)
+put_word-requires-in-loop-i c = omega (arith, length-words c.put_word.new.bytes, c.put_word.auto.bytes)
 
 pub loop-i-preserved : goal.loop-i-preserved
 loop-i-preserved c =
@@ -23,10 +23,10 @@ loop-i-preserved c =
     let x = c.put_word-in-loop-i in
     let h : get_or (take t.used t.hits) c.loop-i.i no_hit ≡ get_or t.hits c.loop-i.i no_hit = get_or-take t.used t.hits c.loop-i.i no_hit (omega arith) in
     let few : length (listed_hits t) ≡ t.used = length-take-le t.used t.hits (omega (arith, v.0)) in
-    let q : length (words w.new.bytes) ≡ length (words c.args.hits.now) = omega (arith, length-words w.new.bytes, length-words c.args.hits.now, w.auto.0, v.1) in
+    let q : length (words w.new.bytes) ≡ length (words c.args.hits.now) = omega (arith, length-words w.new.bytes, length-words c.args.hits.now, w.auto.bytes, v.1) in
     let q' : length (words c.loop-i.hits) ≡ length (words c.args.hits.now) = omega (arith, length-words c.loop-i.hits, length-words c.args.hits.now, v.1) in (
       v.0,
-      x.auto.0 ∙ w.auto.0 ∙ v.1,
+      x.auto.bytes ∙ w.auto.bytes ∙ v.1,
       omega arith,
       v.3 ∙ hits-turn (words c.loop-i.hits) (listed_hits t) c.loop-i.i no_hit (omega (arith, few)) ∙ rw (x.ensures.put, w.ensures.put, h),
       (rw q at x.ensures.rest) ∙ (rw q' at w.ensures.rest) ∙ v.4,

@@ -20,10 +20,12 @@ pub returns-then-is_marked : goal.returns-then-is_marked
 returns-then-is_marked c =
     let W = words c.args.card.now in
     let e = chain_more W c.loop-i.next c.loop-i.i (omega arith) in
-    let hit = sym c.is_marked.ensures ∙ c.if-is_marked.true in (
-      sym (c.loop-i.invariant.1 ∙ rw e (apart-hit (marked c.loop-i.marks) c.loop-i.next (chain W (link W c.loop-i.next) (c.loop-i.i - 1)) hit)),
-      (λ no. refl, λ no. never no),
-    )
+    let hit = sym c.is_marked.ensures ∙ c.if-is_marked.true in
+    record {
+      apart = sym (c.loop-i.invariant.1 ∙ rw e (apart-hit (marked c.loop-i.marks) c.loop-i.next (chain W (link W c.loop-i.next) (c.loop-i.i - 1)) hit));
+      kept = λ no. refl;
+      marks = λ no. never no;
+    }
 
 pub mark-marks-requires : goal.mark-marks-requires
 mark-marks-requires c = (chained_more (words c.args.card.now) c.loop-i.next c.loop-i.i (omega arith) c.loop-i.invariant.0).0.few
@@ -48,4 +50,8 @@ pub returns : goal.returns
 returns c =
     let W = words c.args.card.now in
     let e = chain-none W c.loop-i.next c.loop-i.i (omega arith) in
-    (sym (c.loop-i.invariant.1 ∙ rw e), (λ no. never (sym no), λ yes b. sym (c.loop-i.invariant.2 b ∙ rw e (or-false (marked c.loop-i.marks b)))))
+    record {
+      apart = sym (c.loop-i.invariant.1 ∙ rw e);
+      kept = λ no. never (sym no);
+      marks = λ yes b. sym (c.loop-i.invariant.2 b ∙ rw e (or-false (marked c.loop-i.marks b)));
+    }

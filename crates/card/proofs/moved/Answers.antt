@@ -17,4 +17,4 @@ pub returns-then-left-gt1 : goal.returns-then-left-gt1
 returns-then-left-gt1 c = rw (eq-eqb _ _ c.if-word-eq1022.true, c.if-left-gt1.true-raw, c.next_block-next.ensures)
 
 pub returns-else-word-eq1022 : goal.returns-else-word-eq1022
-returns-else-word-eq1022 c = ⊎_elim (λ w. rw (eq-eqb _ _ w.if-word-eq1022.true, w.if-left-gt1.false-raw)) (λ w. rw (ne_eqb _ _ w.left)) c.else-word-eq1022.branch-raw
+returns-else-word-eq1022 c = ⊎_elim (λ w. rw (eq-eqb _ _ w.if-word-eq1022.true, w.if-left-gt1.false-raw)) (λ w. rw (ne_eqb _ _ w.if-word-eq1022.false)) c.else-word-eq1022.branch-raw

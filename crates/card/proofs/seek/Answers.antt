@@ -19,11 +19,11 @@ loop-k-preserved c =
     (omega arith, rw c.next_block-block.ensures p.2, rw (c.next_block-block.ensures, ← p.3) c.loop-k.invariant.2)
 
 pub overflow_cast-result : goal.overflow_cast-result
-overflow_cast-result c = ⊎_elim (λ w. omega (arith, ltb-false)) (λ w. omega arith) c.loop-k-test.branch
+overflow_cast-result c = ⊎_elim (λ w. omega (arith, ltb-false)) (λ w. omega arith) c.loop-k-test.branch-raw
 
 pub returns : goal.returns
 returns c =
     let r =
     ahead-chain (words c.args.card.now) c.args.left c.loop-k.m c.loop-k.block c.loop-k.k
-    (⊎_elim (λ w. inr (ltb-false _ _ w.1.left)) (λ w. inl (omega arith)) c.loop-k-test.branch) c.loop-k.invariant.0 c.loop-k.invariant.1 in
+    (⊎_elim (λ w. inr (ltb-false _ _ w.if-m-gt1.false-raw)) (λ w. inl (omega arith)) c.loop-k-test.branch-raw) c.loop-k.invariant.0 c.loop-k.invariant.1 in
     (r.0 ∙ c.loop-k.invariant.2, r.1)

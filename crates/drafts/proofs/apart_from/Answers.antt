@@ -36,7 +36,7 @@ loop-i-preserved c =
     let b = not-false k.result.apart c.if-not-k.false in
     let e = c.blocks_for.ensures in
     let t = rw e at (sym k.ensures.apart ∙ b) in
-    let u = rw e at (k.ensures.kept.1 b) in
+    let u = rw e at (k.ensures.marks b) in
     (a.invariant.0, omega arith, a.invariant.2 ∙ apart-step W a.m ps.records ps.used a.i no_partition (omega (arith, a.invariant.0, c.requires.0)) c.loop-i-test.true t k.result.marks u)
 
 pub returns : goal.returns

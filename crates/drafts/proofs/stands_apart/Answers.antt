@@ -28,5 +28,5 @@ returns c =
     let y = not-false k.result.apart c.if-not-k.false in
     c.apart_from.ensures
     ∙ sym
-    (sym (unmarked-first none.result (a ++ b) none.ensures) ∙ unmarked-append none.result k.result.marks a b (k.ensures.kept.1 y)
+    (sym (unmarked-first none.result (a ++ b) none.ensures) ∙ unmarked-append none.result k.result.marks a b (k.ensures.marks y)
     ∙ ap (λ (t : Bool). t && unmarked k.result.marks b) (sym k.ensures.apart ∙ y))

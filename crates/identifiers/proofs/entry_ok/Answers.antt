@@ -21,5 +21,5 @@ returns c =
     let q : c.zeros.result ≡ every (λ b. eqb b 0) (drop k e) = c.zeros.ensures ∙ ap (every (λ b. eqb b 0)) (take_rest k e) in
     let l : size e ≤ 64 = c.if-size-gt64.false in
     let n : (c.args.ended && used e) ≡ false =
-    ⊎_elim (λ w. rw (le-ltb 0 (size e) w.if-size-gt0.false) (and-false c.args.ended)) (λ w. rw w.left) c.if-ended.branch-raw in
+    ⊎_elim (λ w. rw (le-ltb 0 (size e) w.if-size-gt0.false) (and-false c.args.ended)) (λ w. rw w.if-ended.false) c.if-ended.branch-raw in
     rw (q, n, le-leb (size e) 64 l) (sym (and-true (every (λ b. eqb b 0) (drop (1 + size e) e))))

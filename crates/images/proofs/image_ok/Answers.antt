@@ -17,7 +17,7 @@ word_at-requires c = omega (arith, length-words c.args.image.now)
 pub loop-at-preserved : goal.loop-at-preserved
 loop-at-preserved c =
     let w = words c.args.image.now in
-    (c.loop-at.invariant.0, omega arith, c.loop-at.invariant.2 ∙ rw (c.is_IsWide.ensures, c.word_at.ensures) (fits-turn (fits w) c.loop-at.ok c.loop-at.at (omega arith)))
+    (c.loop-at.invariant.0, omega arith, c.loop-at.invariant.2 ∙ rw (c.is_wide.ensures, c.word_at.ensures) (fits-turn (fits w) c.loop-at.ok c.loop-at.at (omega arith)))
 
 pub returns : goal.returns
 returns c =

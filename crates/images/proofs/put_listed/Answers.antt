@@ -8,7 +8,7 @@ pub put_word-requires : goal.put_word-requires
 put_word-requires c = omega (arith, length-words c.args.image.now)
 
 pub loop-i-init : goal.loop-i-init
-loop-i-init c = (search (unmapped, rules), c.put_word.auto.0 ∙ c.requires, omega arith, refl)
+loop-i-init c = (search (unmapped, rules), c.put_word.auto.bytes ∙ c.requires, omega arith, refl)
 
 pub put_word-requires-in-loop-i : goal.put_word-requires-in-loop-i
 put_word-requires-in-loop-i c = omega (arith, length-words c.loop-i.image)
@@ -18,7 +18,7 @@ loop-i-preserved c =
     let v = c.loop-i.invariant in
     let put = c.put_word-in-loop-i in
     let k : 7 + (c.loop-i.i + 1) ≡ 7 + c.loop-i.i + 1 = omega arith in
-    (v.0, put.auto.0 ∙ v.1, omega arith, v.3 ∙ sets-turn (words c.loop-i.image) (7 + c.loop-i.i) c.args.l.ids c.loop-i.i 0 (omega arith) ∙ rw (put.ensures.put, k))
+    (v.0, put.auto.bytes ∙ v.1, omega arith, v.3 ∙ sets-turn (words c.loop-i.image) (7 + c.loop-i.i) c.args.l.ids c.loop-i.i 0 (omega arith) ∙ rw (put.ensures.put, k))
 
 pub shape_of-image : goal.shape_of-image
 shape_of-image c = c.loop-i.invariant.1 ∙ sym c.requires

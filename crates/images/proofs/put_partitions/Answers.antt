@@ -10,7 +10,7 @@ pub put_word-requires : goal.put_word-requires
 put_word-requires c = omega (arith, length-words c.args.image.now)
 
 pub loop-i-init : goal.loop-i-init
-loop-i-init c = (search (unmapped, rules), c.put_word.auto.0 ∙ c.requires, refl)
+loop-i-init c = (search (unmapped, rules), c.put_word.auto.bytes ∙ c.requires, refl)
 
 pub put_record-requires : goal.put_record-requires
 put_record-requires c = (c.loop-i.invariant.1, omega arith)
@@ -19,7 +19,7 @@ pub loop-i-preserved : goal.loop-i-preserved
 loop-i-preserved c =
     let v = c.loop-i.invariant in
     let put = c.put_record in
-    (v.0, put.auto.0 ∙ v.1, v.2 ∙ parts-turn record_words 5 457 (words c.loop-i.image) c.args.ps.records c.loop-i.i no_partition (omega arith) refl ∙ rw put.ensures)
+    (v.0, put.auto.image ∙ v.1, v.2 ∙ parts-turn record_words 5 457 (words c.loop-i.image) c.args.ps.records c.loop-i.i no_partition (omega arith) refl ∙ rw put.ensures)
 
 pub shape_of-image : goal.shape_of-image
 shape_of-image c = c.loop-i.invariant.1 ∙ sym c.requires

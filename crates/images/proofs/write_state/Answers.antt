@@ -17,5 +17,5 @@ returns c =
     let z : Sized c.args.s = record { ids = i.ensures.1; postings = b.ensures.1; records = p.ensures.1 } in
     let e : words l.new.image ≡ image_of c.args.s =
     rw (l.ensures, p.ensures.0, b.ensures.0, i.ensures.0, n.ensures) (parts_whole c.args.s z w (omega (arith, length-words c.args.image.now, c.requires))) in
-    let m : length l.new.image % 4 ≡ 0 = omega (arith, l.auto.0, p.auto.0, b.auto.0, i.auto.0, n.auto.0, c.requires) in
+    let m : length l.new.image % 4 ≡ 0 = omega (arith, l.auto.image, p.auto.image, b.auto.image, i.auto.image, n.auto.image, c.requires) in
     sym (bytes-words l.new.image (λ i. omega (arith, c.slice_known-6-1.given i)) m) ∙ ap bytes e

@@ -69,7 +69,7 @@ loop-i-preserved c =
     let w = words-next c.args.m i was on p h e in
     let d = c.compare-d in (
       omega arith,
-      t.auto.1.0 ∙ v.1,
+      t.auto.heads ∙ v.1,
       t.ensures.1,
       d.ensures.1,
       rw c.both-same.ensures (compare-more _ _ _ _ _ v.4 (out_words 1 (p ∷ [])) (out_words (c.args.m - (i + 1)) on) (ahead W d.result.out) d.result.same w d.ensures.0),

@@ -42,7 +42,7 @@ pairs-preserved c =
     let h : c.pairs.i < 16 = omega (arith, v.0, c.if-i-eq16.false) in (
       omega arith,
       omega (arith, k.ensures.1, v.1),
-      t.auto.1.0 ∙ v.2,
+      t.auto.heads ∙ v.2,
       t.ensures.1,
       batch-more _ (batched c.pairs.b) c.pairs.i was on t.result.pair h e (batched k.result) k.ensures.0 v.4,
       batch-count [] [] c.pairs.i was on t.result.pair h e _ v.5,

@@ -129,7 +129,7 @@ loop-top-preserved c =
     let u = c.tally-t in
     let now : tally_of was first ≡ record { totals = u.result; counts = u.new.counts } = ap (tally_of was) (sym p) ∙ sym (ap₂ (λ x y. record { totals = x; counts = y }) u.ensures.0 u.ensures.1) in (
       d.ensures.heads.0 ∙ v.0,
-      u.auto.1.0 ∙ v.1,
+      u.auto.counts ∙ v.1,
       record { few = v.2.few; fits = omega (arith, d.ensures.heads.0, v.2.fits); kept = d.ensures.heads.1; top = d.ensures.taken.2 },
       subst (λ (x : Tally). Room x.totals x.counts k) now (room-more c.loop-top.t c.loop-top.counts c.loop-top.bound k (head_vals k ls) v.3 low window),
       v.4 ∙ went_on c.loop-top.bound ls was k top low fine e ∙ ap₂ (resumed k) (sym d.ensures.heads.2) now,

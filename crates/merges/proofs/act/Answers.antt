@@ -94,7 +94,7 @@ pub finish-last-requires : goal.finish-last-requires
 finish-last-requires c =
     let s = start c.before.before.before.before.before.before.before.before.before.before.before in
     let w = card-words s.args.s s.args.card.now s.requires.rule s.requires.size in
-    (omega (arith, c.prepare-p.auto.1.0, w), record { state = s.args.s; due = due c.before.before.before.before.before; steps = refl; level = s.requires.level })
+    (omega (arith, c.prepare-p.auto.card, w), record { state = s.args.s; due = due c.before.before.before.before.before; steps = refl; level = s.requires.level })
 
 pub returns : goal.returns
 returns c =

@@ -38,7 +38,7 @@ abbrev stored : Joined1 → State → List ℕ
 stored i st = let a = (start i).args in store (words a.card.now) (chain (words a.card.now) a.o.first a.o.blocks) (content i st)
 
 kept : (i : Joined1) → length i.if-o-gt0.card ≡ length (start i).args.card.now
-kept i = ⊎_elim {C = length i.if-o-gt0.card ≡ length (start i).args.card.now} (λ w. ap length w.card-is ∙ w.put_output.kept.0) (λ w. ap length w.card-is) i.if-o-gt0.branch-raw
+kept i = ⊎_elim {C = length i.if-o-gt0.card ≡ length (start i).args.card.now} (λ w. ap length w.card-is ∙ w.put_output.auto.card) (λ w. ap length w.card-is) i.if-o-gt0.branch-raw
 
 -- whether the step is the last
 told : (i : Joined1) (st : State) → Dues i st → (start i).args.steps ≡ st.merge.steps
@@ -75,14 +75,14 @@ release_inputs-requires c =
     (omega (arith, kept c.before.before.before, (start c.before.before.before).requires.0), omega (arith, inputs-few W d.state a.is a.t g), rw (f, w) y.0, rw (f, w) y.1)
 
 pub shape_of-card-then-last : goal.shape_of-card-then-last
-shape_of-card-then-last c = c.release_inputs.auto.0 ∙ kept c.before.before.before.before.before.before
+shape_of-card-then-last c = c.release_inputs.auto.card ∙ kept c.before.before.before.before.before.before
 
 pub returns-then-last : goal.returns-then-last
 returns-then-last c =
     let a = (start c.before.before.before.before.before.before).args in
     let W = words a.card.now in
     let freed = c.release_inputs in
-    let q : length freed.new.card % 4 ≡ 0 = omega (arith, freed.auto.0, kept c.before.before.before.before.before.before, (start c.before.before.before.before.before.before).requires.0) in
+    let q : length freed.new.card % 4 ≡ 0 = omega (arith, freed.auto.card, kept c.before.before.before.before.before.before, (start c.before.before.before.before.before.before).requires.0) in
     record {
       last = told c.before.before.before.before.before.before;
       card = λ st d es el.

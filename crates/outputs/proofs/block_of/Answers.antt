@@ -14,5 +14,5 @@ pub returns : goal.returns
 returns c =
     ⊎_elim
     (λ w. rw (lt-ltb _ _ w.if-k-gt0.true, w.if-k-eq0.false-raw))
-    (λ w. let k = c.args.k in rw (le-ltb 0 k (omega (arith, w.left))))
+    (λ w. let k = c.args.k in rw (le-ltb 0 k (omega (arith, w.if-k-gt0.false))))
     c.else-k-gt0.branch-raw

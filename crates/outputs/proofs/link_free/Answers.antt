@@ -24,7 +24,7 @@ pub loop-count-preserved : goal.loop-count-preserved
 loop-count-preserved c =
     let found = c.free_after-next in
     let put = c.put_block_word in (
-      put.auto.0 ∙ c.loop-count.invariant.0,
+      put.auto.card ∙ c.loop-count.invariant.0,
       linking-on (words c.args.card.now) c.args.blocks c.args.taken c.args.n c.requires.3 c.requires.2 c.requires.1 c.requires.5 (words c.loop-count.card) c.loop-count.last c.loop-count.count c.loop-count.invariant.1
           c.loop-count-test.true found.result found.ensures (words put.new.card) put.ensures,
     )

@@ -16,7 +16,7 @@ pub loop-i-preserved : goal.loop-i-preserved
 loop-i-preserved c =
     let freed = c.release_chain in
     let e = rw c.blocks_for.ensures at freed.ensures in
-    (c.loop-i.invariant.0, freed.auto.0 ∙ c.loop-i.invariant.1, freeing-on (words c.args.card.now) c.args.ps.records c.args.ps.used (omega (arith, c.loop-i.invariant.0, c.requires.1)) (words c.loop-i.card) c.loop-i.i no_partition c.loop-i.invariant.2 c.loop-i-test.true (words freed.new.card) e)
+    (c.loop-i.invariant.0, freed.auto.card ∙ c.loop-i.invariant.1, freeing-on (words c.args.card.now) c.args.ps.records c.args.ps.used (omega (arith, c.loop-i.invariant.0, c.requires.1)) (words c.loop-i.card) c.loop-i.i no_partition c.loop-i.invariant.2 c.loop-i-test.true (words freed.new.card) e)
 
 pub shape_of-card : goal.shape_of-card
 shape_of-card c = c.loop-i.invariant.1

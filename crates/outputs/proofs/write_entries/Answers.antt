@@ -29,8 +29,8 @@ loop-i-preserved c =
     ⊎_elim
     (λ w. rw (w.card-is, w.at-is, w.sum-is) (
       c.loop-i.invariant.0,
-      w.write_words.kept.0 ∙ c.loop-i.invariant.1,
-      entering-on (words c.args.card.now) c.args.first c.args.n c.args.counts.now (words c.loop-i.card) c.loop-i.at c.loop-i.sum c.loop-i.i c.loop-i.invariant.2 h _ refl w.if-count-ne0.true (words w.write_words.last.card) (omega (arith, f)) w.write_words.ensures,
+      w.write_words.auto.card ∙ c.loop-i.invariant.1,
+      entering-on (words c.args.card.now) c.args.first c.args.n c.args.counts.now (words c.loop-i.card) c.loop-i.at c.loop-i.sum c.loop-i.i c.loop-i.invariant.2 h _ refl w.if-count-ne0.true (words w.write_words.new.card) (omega (arith, f)) w.write_words.ensures,
     ))
     (λ w. rw (w.card-is, w.at-is, w.sum-is) (c.loop-i.invariant.0, c.loop-i.invariant.1, entering-past (words c.args.card.now) c.args.first c.args.n c.args.counts.now (words c.loop-i.card) c.loop-i.at c.loop-i.sum c.loop-i.i c.loop-i.invariant.2 h w.if-count-ne0.false))
     c.if-count-ne0.branch-raw

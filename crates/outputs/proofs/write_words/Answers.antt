@@ -23,7 +23,7 @@ pub loop-i-preserved : goal.loop-i-preserved
 loop-i-preserved c =
     let put = c.put_block_word in
     let d = c.block_of-block in
-    (put.auto.0 ∙ c.loop-i.invariant.0, writing-on (words c.args.card.now) c.args.first c.args.n c.args.offset c.args.content.now (words c.loop-i.card) c.loop-i.block c.loop-i.i c.requires.2 c.loop-i.invariant.1 c.loop-i-test.true d.result d.ensures (words put.new.card) put.ensures)
+    (put.auto.card ∙ c.loop-i.invariant.0, writing-on (words c.args.card.now) c.args.first c.args.n c.args.offset c.args.content.now (words c.loop-i.card) c.loop-i.block c.loop-i.i c.requires.2 c.loop-i.invariant.1 c.loop-i-test.true d.result d.ensures (words put.new.card) put.ensures)
 
 pub shape_of-card : goal.shape_of-card
 shape_of-card c = c.loop-i.invariant.0

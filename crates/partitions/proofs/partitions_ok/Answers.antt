@@ -42,7 +42,7 @@ loop-i-preserved c =
     let ps = c.args.ps in
     let b = not-false c.mark_chain-m.result.apart c.if-not-m.false in
     let t = rw c.blocks_for.ensures at (sym c.mark_chain-m.ensures.apart ∙ b) in
-    let u = rw c.blocks_for.ensures at (c.mark_chain-m.ensures.kept.1 b) in
+    let u = rw c.blocks_for.ensures at (c.mark_chain-m.ensures.marks b) in
     (c.loop-i.invariant.0, omega arith, c.loop-i.invariant.2 ∙ formed-step (words c.args.card.now) c.args.blocks c.loop-i.marks ps.records ps.used c.loop-i.i no_partition (omega (arith, c.loop-i.invariant.0)) c.loop-i-test.true (passed c.partition_ok.ensures c.if-not-partition_ok.false-raw) t c.mark_chain-m.result.marks u)
 
 pub returns : goal.returns

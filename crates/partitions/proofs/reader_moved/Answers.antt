@@ -17,11 +17,10 @@ returns-then-e-eq0 c =
     reader-step (words c.args.card.now) c.args.r c.requires.0 c.requires.1 _
     (rw (le-ltb 1 c.args.r.here c.if-here-gt1.false, le-ltb 0 c.args.r.entries.left (omega arith), c.moved-next.ensures))
 
-pub LOST-overflow-cast-t10 : goal.LOST-overflow-cast-t10
-LOST-overflow-cast-t10 c =
-    let s = c.before.before.before.before.before.before.before.before.before in
-    let n = numbered_more (words s.args.card.now) s.args.r.entries (omega (arith, s.requires.1.threes)) s.requires.1.numbers in
-    rw c.before.before.entry_at.ensures (omega (arith, n.0))
+pub overflow_cast-result : goal.overflow_cast-result
+overflow_cast-result c =
+    let n = numbered_more (words c.args.card.now) c.args.r.entries (omega (arith, c.requires.1.threes)) c.requires.1.numbers in
+    rw c.entry_at-entry.ensures (omega (arith, n.0))
 
 pub returns : goal.returns
 unfolding moved_reader

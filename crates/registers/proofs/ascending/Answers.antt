@@ -56,4 +56,4 @@ loop-k-preserved c =
     )
 
 pub returns : goal.returns
-returns-then-not-less c e m h = c.loop-k.invariant.1 m (omega (arith, c.loop-k-test.false))
+returns c e m h = c.loop-k.invariant.1 m (omega (arith, c.loop-k-test.false))

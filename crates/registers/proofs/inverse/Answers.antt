@@ -35,4 +35,4 @@ loop-p-preserved c =
     (omega arith, λ q h. by-test (eqb q l.p) (λ y. rw (eqb-true q l.p y) c.if-order-k.false) (λ n. l.invariant.1 q (omega (arith, eqb-false q l.p n))))
 
 pub returns : goal.returns
-returns-then-order-k c e q h = let l = c.loop-p in l.invariant.1 q (omega (arith, c.loop-p-test.false))
+returns c e q h = let l = c.loop-p in l.invariant.1 q (omega (arith, c.loop-p-test.false))

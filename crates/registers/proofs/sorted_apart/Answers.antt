@@ -30,6 +30,12 @@ overflow_mul-width c =
     let b = names-bound c.args.register.now c.requires.0 c.requires.1 in
     omega (arith, b, u, c.loop-width-test.true)
 
+pub overflow_mul-width-in-loop-width : goal.overflow_mul-width-in-loop-width
+overflow_mul-width-in-loop-width c =
+    let u = c.count_used-n.ensures in
+    let b = names-bound c.args.register.now c.requires.0 c.requires.1 in
+    omega (arith, b, u, c.loop-width-test.true)
+
 pub pass-requires-in-loop-width : goal.pass-requires-in-loop-width
 pass-requires-in-loop-width c =
     let u = c.count_used-n.ensures in
@@ -64,7 +70,7 @@ ascending-requires c =
     (omega (arith, u, names-within c.args.register.now c.requires.0), omega (arith, u, b), c.loop-width.invariant.1)
 
 pub returns : goal.returns
-returns-then-n-eq0 c e =
+returns c e =
     let n = c.count_used-n.ensures in
     let i = c.inverse.ensures (not-false _ c.if-not-inverse.false-raw) in
     let r = c.rank in

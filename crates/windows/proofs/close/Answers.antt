@@ -33,7 +33,7 @@ pub returns : goal.returns
 unfolding close_of closed
 returns c =
     let s = c.args.s in
-    let last : c.if-s-eq0-2.new ≡ cond (eqb s.windows.events 0) (s.windows.last - 1) s.windows.last =
+    let last : c.if-s-eq0-2.last ≡ cond (eqb s.windows.events 0) (s.windows.last - 1) s.windows.last =
     ⊎_elim (λ w. rw (eq-eqb s.windows.events 0 w.if-s-eq0-2.true) w.last-is) (λ w. rw (ne_eqb s.windows.events 0 w.if-s-eq0-2.false) w.last-is) c.if-s-eq0-2.branch-raw in
     let live : c.if-s-eq0-2.live ≡ cond (eqb s.windows.events 0) s.windows.live (suc s.windows.live) =
     ⊎_elim (λ w. rw (eq-eqb s.windows.events 0 w.if-s-eq0-2.true) w.live-is) (λ w. rw (ne_eqb s.windows.events 0 w.if-s-eq0-2.false) (w.live-is ∙ add-one s.windows.live)) c.if-s-eq0-2.branch-raw in

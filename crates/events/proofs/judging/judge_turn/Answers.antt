@@ -1,6 +1,7 @@
 -- `events::judging::judge_turn` meets its contract: refused for its length, or judged by its number.
 use Rattle.lists.proofs.Prelude.{[], ◌∷◌, sym, ◌∙◌, subst, ℕ, ◌/◌, length, rules}
-use Rattle.identifiers.specs.Names.{bad_length}
+use Rattle.identifiers.specs.Names.{bad_length, number_of}
+use Rattle.identifiers.specs.Register.{names}
 use Rattle.events.specs.Verdicts.{number_tests, Weighed}
 use Rattle.events.proofs.Weighed.{weighed-on}
 use Rattle.events.proofs.judging.judge_turn.Goals as goal
@@ -11,5 +12,5 @@ returns-then-bad_length c = rw (sym c.bad_length.ensures ∙ c.if-bad_length.tru
 pub returns : goal.returns
 returns c =
     let a = c.args in
-    weighed-on 4 (bad_length a.id.now) (5 ∷ 6 ∷ 8 ∷ 9 ∷ []) _ _ c.judge_number.result (sym c.bad_length.ensures ∙ c.if-bad_length.false)
+    weighed-on 4 (bad_length a.id.now) (5 ∷ 6 ∷ 8 ∷ 9 ∷ []) (number_tests a.w a.l (length a.register.now / 65) (number_of (names a.register.now) a.id.now)) (number_of (names a.register.now) a.id.now) c.judge_number.result (sym c.bad_length.ensures ∙ c.if-bad_length.false)
     (subst (λ (i : ℕ). Weighed (5 ∷ 6 ∷ 8 ∷ 9 ∷ []) (number_tests a.w a.l (length a.register.now / 65) i) i c.judge_number.result) c.find.ensures c.judge_number.ensures)

@@ -23,14 +23,14 @@ places s = search (unmapped, rules)
 
 pub write_header-requires : goal.write_header-requires
 write_header-requires c =
-    let k = c.put_block_word.auto.0 in
+    let k = c.put_block_word.auto.card in
     (omega (arith, c.requires.0, k), omega arith, search rules, alone-chained c.args.card.now _ c.args.block k c.requires.1)
 
 pub write_entries-requires : goal.write_entries-requires
 write_entries-requires c =
     let ps = buffered c.args.b in
-    let l = c.put_block_word.auto.0 in
-    let h = c.write_header.auto.0 in
+    let l = c.put_block_word.auto.card in
+    let h = c.write_header.auto.card in
     let n = c.tally-terms.ensures.1 in (
       omega (arith, c.requires.0, l, h),
       omega arith,
@@ -43,9 +43,9 @@ pub write_words-requires : goal.write_words-requires
 write_words-requires c =
     let u = c.args.b.used in
     let ps = buffered c.args.b in
-    let l = c.put_block_word.auto.0 in
-    let h = c.write_header.auto.0 in
-    let e = c.write_entries.auto.0 in (
+    let l = c.put_block_word.auto.card in
+    let h = c.write_header.auto.card in
+    let e = c.write_entries.auto.card in (
       omega (arith, c.requires.0, l, h, e),
       omega arith,
       omega (arith, c.tally-terms.ensures.0, terms-most ps, length-take u c.args.b.postings, length-take (u - 0) c.tally-terms.new.content, c.requires.3),
@@ -70,5 +70,5 @@ returns c =
     let stored : words w.new.card ≡ store W (c.args.block ∷ []) (encode 0 ps) =
     alone-stored W (length card / 4096) c.args.block ps long c.requires.1 c.requires.2 (omega (arith, c.requires.3)) c.requires.4 c.requires.6
     _ _ _ _ _ _ _ _ _ _ counted.0 (sym n) c.requires.7 c.requires.8 counted.1 ws link.ensures h.ensures e.ensures w.ensures in
-    let m : length w.new.card % 4 ≡ 0 = omega (arith, w.auto.0, e.auto.0, h.auto.0, link.auto.0, c.requires.0) in
+    let m : length w.new.card % 4 ≡ 0 = omega (arith, w.auto.card, e.auto.card, h.auto.card, link.auto.card, c.requires.0) in
     (counted.0, sym (bytes-words w.new.card (λ i. omega (arith, c.slice_known-5-1.given i)) m) ∙ ap bytes stored)

@@ -23,6 +23,6 @@ returns c =
     let a = c.args in
     let ms = names_with a.register.now a.plan.now a.places.now a.known in
     let n = identifier_at a.plan.now a.at in
-    weighed-on 4 (bad_length n) (5 ∷ 6 ∷ 8 ∷ 9 ∷ []) _ _ c.judge_number.result (sym c.is_bad.ensures ∙ c.if-is_bad.false)
+    weighed-on 4 (bad_length n) (5 ∷ 6 ∷ 8 ∷ 9 ∷ []) (number_tests a.w a.l (length a.register.now / 65) (number_of ms n)) (number_of ms n) c.judge_number.result (sym c.is_bad.ensures ∙ c.if-is_bad.false)
     (subst (λ (i : ℕ). Weighed (5 ∷ 6 ∷ 8 ∷ 9 ∷ []) (number_tests a.w a.l (length a.register.now / 65) i) i c.judge_number.result)
     (c.find-i.ensures ∙ ap (number_of ms) c.identifier_at-id.ensures) c.judge_number.ensures)

@@ -12,7 +12,7 @@ write_entries-requires c =
     let o = c.args.o in
     let h = c.write_header in
     let hs = header c.args.level c.args.t.terms c.args.t.postings c.args.t.lowest c.args.t.highest in
-    (omega (arith, h.auto.0, c.requires.0), c.requires.1, c.requires.3, rw h.ensures (chained-written (chain W o.first o.blocks) W 0 hs o.first o.blocks c.requires.4), c.requires.5)
+    (omega (arith, h.auto.card, c.requires.0), c.requires.1, c.requires.3, rw h.ensures (chained-written (chain W o.first o.blocks) W 0 hs o.first o.blocks c.requires.4), c.requires.5)
 
 pub returns : goal.returns
 returns c =

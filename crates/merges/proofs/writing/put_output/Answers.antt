@@ -13,7 +13,7 @@ complete-requires c =
     let o = c.args.o in
     let f = c.requires.1 in
     let a = c.add_batch in
-    (omega (arith, a.auto.0, c.requires.0), f.some, f.small, f.entries, rw a.ensures (chained-written (chain W o.first o.blocks) W _ (map word_of (batched c.args.b)) o.first o.blocks f.chained), f.long)
+    (omega (arith, a.auto.card, c.requires.0), f.some, f.small, f.entries, rw a.ensures (chained-written (chain W o.first o.blocks) W _ (map word_of (batched c.args.b)) o.first o.blocks f.chained), f.long)
 
 pub returns-then-last : goal.returns-then-last
 returns-then-last c = rw (c.if-last.true, ← c.add_batch.ensures) c.complete.ensures

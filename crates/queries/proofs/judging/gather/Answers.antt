@@ -64,7 +64,7 @@ loop-i-preserved c =
     (λ q. let g : number_of ms (get_or ns c.loop-i.i []) < length ms = omega (arith, q.if-number-used.true) in
     let o = q.keep_one-known in
     rw (q.heads-is, q.spare-is, q.known-is)
-    (q.heads-1.given ∙ v.0, q.spare-1.given ∙ v.1, gathering-more W a.run.now a.s a.t a.live ms ns c.loop-i.i c.loop-i.known c.loop-i.heads h v.2 g o.result o.last.1.1.1.0 (subst (λ (j : ℕ). KeptOf W a.run.now a.s a.t a.live c.loop-i.known c.loop-i.heads j o.result o.last.1.1.1.0) e o.ensures) (not-false _ q.if-not-fine.false-raw)))
+    (q.heads-1.given ∙ v.0, q.spare-1.given ∙ v.1, gathering-more W a.run.now a.s a.t a.live ms ns c.loop-i.i c.loop-i.known c.loop-i.heads h v.2 g o.result o.new.heads (subst (λ (j : ℕ). KeptOf W a.run.now a.s a.t a.live c.loop-i.known c.loop-i.heads j o.result o.new.heads) e o.ensures) (not-false _ q.if-not-fine.false-raw)))
     (λ q. let g : length ms ≤ number_of ms (get_or ns c.loop-i.i []) = omega (arith, q.if-number-used.false) in
     rw (q.heads-is, q.spare-is, q.known-is) (v.0, v.1, gathering-unknown W a.run.now a.s a.t a.live ms ns c.loop-i.i c.loop-i.known c.loop-i.heads h v.2 g))
     c.if-number-used.branch-raw
