@@ -31,7 +31,7 @@ After-lists-ok = lts.After-lists_ok tie.the-claims reads.Pre reads.Post
 
 -- Admitted ---------------------------------------------------------------------------------------------------------------
 abbrev start : At-match-keys2 → Start
-start i = i.before.before.before.before.before
+start i = i.before.before.before.before.before.before
 
 abbrev state : At-match-keys2 → State
 state i = (start i).args.s

@@ -24,9 +24,6 @@ use Rattle.batches.proofs.list_flush.Reads as reads
 abbrev After-next-free : Type 0
 After-next-free = lts.After-next_free tie.the-claims reads.Pre reads.Post
 
-abbrev Start : Type 0
-Start = lts.Start tie.the-claims reads.Pre reads.Post
-
 pub returns-then-not-flush : goal.returns-then-not-flush
 returns-then-not-flush c = rw (not-true c.args.flush c.if-not-flush.true-raw) (record { partitions = refl; taken = refl; written = refl })
 
@@ -36,12 +33,9 @@ chosen card n last b ps w d e =
     let same : first_free card n last ≡ next_free w.state (words card) = rw (w.blocks, w.taken) in
     subst (Chosen w.state (words card)) (sym (e ∙ same)) w.chosen
 
--- where a flush is needed
-abbrev start : After-next-free → Start
-start m = m.before.before.before.before
 
-writable : (m : After-next-free) → Writable (start m).args.card.now (start m).args.blocks (start m).args.taken (start m).args.b (start m).args.ps
-writable m = (start m).requires (not-false _ m.if-not-flush.false-raw)
+writable : (m : After-next-free) → Writable m.args.card.now m.args.blocks m.args.taken m.args.b m.args.ps
+writable m = m.requires (not-false _ m.if-not-flush.false-raw)
 
 pub next_free-free-requires : goal.next_free-free-requires
 next_free-free-requires c =
@@ -50,12 +44,12 @@ next_free-free-requires c =
     rw (← w.blocks, ← w.taken) (omega (arith, length-words c.args.card.now, k.lengths.card, w.size), k.lengths.most_blocks, omega (arith, k.taken))
 
 -- the block is the first free one
-found : (m : After-next-free) (d : ℕ) → m.next_free-free.result ≡ Free.Block d → d ≡ first_free (start m).args.card.now (start m).args.blocks (start m).args.taken
-found m d e = (block-found (free_blocks (words (start m).args.card.now) (start m).args.blocks (start m).args.taken) d (sym e ∙ m.next_free-free.ensures)).1
+found : (m : After-next-free) (d : ℕ) → m.next_free-free.result ≡ Free.Block d → d ≡ first_free m.args.card.now m.args.blocks m.args.taken
+found m d e = (block-found (free_blocks (words m.args.card.now) m.args.blocks m.args.taken) d (sym e ∙ m.next_free-free.ensures)).1
 
 pub flush-list-requires : goal.flush-list-requires
 flush-list-requires c =
-    let a = (start c.before.before.before.before.before).args in
+    let a = c.before.before.before.before.before.args in
     let w = writable c.before.before.before.before.before in
     let s = w.state in
     let k = state-kept s w.rule in
@@ -78,7 +72,7 @@ flush-list-requires c =
 pub returns-in-Nothing : goal.returns-in-Nothing
 returns-in-Nothing c =
     let w = writable c.before.before.before in
-    let free = free_blocks (words (start c.before.before.before).args.card.now) (start c.before.before.before).args.blocks (start c.before.before.before).args.taken in
+    let free = free_blocks (words c.before.before.before.args.card.now) c.before.before.before.args.blocks c.before.before.before.args.taken in
     let none = none_found (tag_of the_type) (λ v. refl) free (ap (tag_of the_type) (sym c.next_free-free.ensures) ∙ c.in-Nothing.in-Nothing-own.keys1) in
     absurd (omega (arith, ap length (empty-is free none), rw (w.blocks, w.taken) at w.chosen.there))
 
@@ -86,4 +80,4 @@ pub returns-in-Block : goal.returns-in-Block
 returns-in-Block c =
     let f = c.flush-list in
     let e = found c.before.before.before.before.before.before.before.before c.in-Block.block c.in-Block.is in
-    rw (not-false (start c.before.before.before.before.before.before.before.before).args.flush c.if-not-flush.false-raw) (record { partitions = rw (← e) f.ensures.0; taken = e; written = rw (← e) f.ensures.1 })
+    rw (not-false c.before.before.before.before.before.before.before.before.args.flush c.if-not-flush.false-raw) (record { partitions = rw (← e) f.ensures.0; taken = e; written = rw (← e) f.ensures.1 })

@@ -74,7 +74,7 @@ returns-then-not-k c =
     let g = c.loop-at.invariant in
     let k = c.take_led-k in
     not-told _ _ _ c.malformed-then-not-k.result
-    (stop-formed g c.if-at-used.front (shown c.before.before.before.before.before.before.before.before.before.before) c.larger-top.result c.larger-top.ensures (c.larger-top.result - 1) (omega (arith, c.if-top-eq0.false)) c.if-bound-top.false k.result.fine k.ensures.taken.0.1 (not-true _ c.if-not-k.true))
+    (stop-formed g c.if-at-used.front (shown c.before.before.before.before.before.before.before.before.before.before) c.larger-top.result c.larger-top.ensures (c.larger-top.result - 1) (omega (arith, c.if-top-eq0.false)) c.if-bound-top.false k.result.fine k.ensures.taken.1 (not-true _ c.if-not-k.true))
     c.malformed-then-not-k.ensures.0 c.malformed-then-not-k.ensures.1
 
 pub added-total-requires : goal.added-total-requires
@@ -82,7 +82,7 @@ added-total-requires c =
     let v = c.loop-at.invariant in
     let k = c.take_led-k in
     let fs : SFits w32 k.result.sum = record { sfits = omega (arith, c.struct_told-1.given) } in
-    rw (to_z-of_z fs) (omega (arith, k.ensures.taken.0.3, v.few))
+    rw (to_z-of_z fs) (omega (arith, k.ensures.taken.3, v.few))
 
 pub mark_window-windows-requires : goal.mark_window-windows-requires
 mark_window-windows-requires c = c.loop-at.invariant.covers
@@ -112,11 +112,11 @@ loop-at-preserved c =
     let fc : SFits w16 u.result = record { sfits = u.type_inv } in
     let fx : SFits w32 x.result = record { sfits = x.type_inv } in
     let total : x.result ≡ head_vals k (views (words c.args.card.now) c.args.n l.heads) +ℤ head_val k (buffer_items c.args.b l.at) =
-    x.ensures ∙ rw (to_z-of_z fs, to_z-of_z fc, u.ensures, shown-under (shown c.before.before.before.before.before.before.before.before.before.before.before.before.before.before.before.before.before.before) c.larger-top.result k h, t.ensures.taken.0.0) in
+    x.ensures ∙ rw (to_z-of_z fs, to_z-of_z fc, u.ensures, shown-under (shown c.before.before.before.before.before.before.before.before.before.before.before.before.before.before.before.before.before.before) c.larger-top.result k h, t.ensures.taken.0) in
     let step = rw (to_z-of_z fx, c.key_window.ensures) at m.ensures in
-    goes_on g c.if-at-used.front (shown c.before.before.before.before.before.before.before.before.before.before.before.before.before.before.before.before.before.before) c.larger-top.result c.larger-top.ensures k h c.if-bound-top.false t.result.fine t.ensures.taken.0.1 (not-false _ c.if-not-k.false) x.result total m.result _ step
+    goes_on g c.if-at-used.front (shown c.before.before.before.before.before.before.before.before.before.before.before.before.before.before.before.before.before.before) c.larger-top.result c.larger-top.ensures k h c.if-bound-top.false t.result.fine t.ensures.taken.1 (not-false _ c.if-not-k.false) x.result total m.result _ step
     _ _ _ _ _ t.ensures.heads.0 t.ensures.heads.1 t.ensures.heads.2
-    (buffer-past c.args.b g.ok l.at g.len g.place c.if-at-used.front (shown c.before.before.before.before.before.before.before.before.before.before.before.before.before.before.before.before.before.before) c.larger-top.result k h c.past-at.result c.past-at.ensures) t.ensures.taken.0.2 t.ensures.taken.1
+    (buffer-past c.args.b g.ok l.at g.len g.place c.if-at-used.front (shown c.before.before.before.before.before.before.before.before.before.before.before.before.before.before.before.before.before.before) c.larger-top.result k h c.past-at.result c.past-at.ensures) t.ensures.taken.2 t.ensures.lead
 
 pub shape_of-heads-then-top-eq0 : goal.shape_of-heads-then-top-eq0
 shape_of-heads-then-top-eq0 c = c.loop-at.invariant.long

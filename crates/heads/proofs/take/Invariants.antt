@@ -10,7 +10,7 @@ use Rattle.heads.specs.Heads.{view, Kept}
 use Rattle.heads.proofs.take.Given as goal
 
 abbrev pub invariant-loop-i : goal.invariant-loop-i
-invariant-loop-i l = (l.i ≤ l.n) × Turn (view (words l.card) l.run) (Kept (words l.card) l.run) 4 l.key l.initial.heads l.i l.heads (to_z w32 l.sum) l.fine l.next
+invariant-loop-i l = (l.i ≤ l.n) × Turn (view (words l.card) l.run) (Kept (words l.card) l.run) 4 l.key l.initial.heads l.i l.heads l.sum l.fine l.next
 
 abbrev pub decreases-loop-i : goal.decreases-loop-i
 decreases-loop-i l = l.n - l.i

@@ -1,4 +1,3 @@
--- `inputs::sixteen` meets its contract. The invariant: what is kept, and what is kept of the pairs still to take, is what is kept of all.
 use Rattle.lists.proofs.Prelude.{[], ◌++◌, ◌≡◌, refl, sym, ap, ◌∙◌, ◌+◌, ◌-◌, ◌<◌, ◌≤◌, arith, length, take, drop}
 use Rattle.words.specs.Words.{words}
 use Rattle.words.proofs.Views.{words-below}
@@ -7,19 +6,6 @@ use Rattle.inputs.specs.Ahead.{pairs_ahead, Formed, batched}
 use Rattle.inputs.proofs.Taking.{ahead_none}
 use Rattle.inputs.proofs.Batches.{take_none, take-empty, drop-none, drop-empty, drop-next, batch-more, batch-count, batch-done}
 use Rattle.inputs.proofs.sixteen.Goals as goal
-use Rattle.inputs.proofs.sixteen.Lts as lts
-use Rattle.inputs.proofs.sixteen.Tie as tie
-use Rattle.inputs.proofs.sixteen.Reads as reads
-
-abbrev invariant-pairs : tie.invariant-pairs
-invariant-pairs card heads₀ n first top₀ b₀ i₀ heads top b i =
-    (i ≤ 16) × (b.used ≤ i) × (length heads ≡ length heads₀) × Formed (words card) n heads top
-    × (nonzero (take 16 (pairs_ahead (words card) n heads₀)) ≡ batched b ++ nonzero (take (16 - i) (pairs_ahead (words card) n heads)))
-    × (length (take 16 (pairs_ahead (words card) n heads₀)) ≡ i + length (take (16 - i) (pairs_ahead (words card) n heads)))
-    × (drop 16 (pairs_ahead (words card) n heads₀) ≡ drop (16 - i) (pairs_ahead (words card) n heads))
-
-abbrev decreases-pairs : tie.decreases-pairs
-decreases-pairs card heads₀ n first top₀ b₀ i₀ heads top b i = 16 - i
 
 pub pairs-init : goal.pairs-init
 pairs-init c = (omega arith, omega arith, refl, c.requires, refl, omega arith, refl)

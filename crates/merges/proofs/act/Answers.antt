@@ -26,9 +26,6 @@ After-struct-known = lts.After-struct_known tie.the-claims reads.Pre reads.Post
 abbrev Else1 : Type 0
 Else1 = lts.Else1 tie.the-claims reads.Pre reads.Post
 
-abbrev Start : Type 0
-Start = lts.Start tie.the-claims reads.Pre reads.Post
-
 abbrev Else2 : Type 0
 Else2 = lts.Else2 tie.the-claims reads.Pre reads.Post
 
@@ -38,25 +35,22 @@ told c =
     let f = ap finished c.requires.are ∙ finished-of (inputs c.args.s) in
     rw f at (ap (λ (t : Totals). t.fine) c.judge-t.ensures.0 ∙ judged-fine (words c.args.card.now) (finished c.args.is))
 
--- past that
-abbrev start : Else1 → Start
-start e = e.before.before.before.before.before.before.before.before.before
 
-formed : (e : Else1) → inputs_formed (words (start e).args.card.now) (inputs (start e).args.s) ≡ true
+formed : (e : Else1) → inputs_formed (words e.args.card.now) (inputs e.args.s) ≡ true
 formed e = sym (told e.before) ∙ not-false _ e.if-not-t.false
 
-known : (e : Else1) → Judged (words (start e).args.card.now) (start e).args.s (start e).args.is e.judge-t.result
+known : (e : Else1) → Judged (words e.args.card.now) e.args.s e.args.is e.judge-t.result
 known e =
-    let a = (start e).args in
-    let p = (start e).requires in
+    let a = e.args in
+    let p = e.requires in
     let j = e.judge-t in
     judged a.s a.card.now p.rule p.size p.formed (formed e) a.is j.result p.are j.ensures.0 j.ensures.2
 
 -- and where the plan is ready
-due : (i : Else2) → Due (words i.prepare-p.new.card) (start i.before.before.before.before.before.before).args.s (start i.before.before.before.before.before.before).args.is i.judge-t.result
+due : (i : Else2) → Due (words i.prepare-p.new.card) i.before.before.before.before.before.before.args.s i.before.before.before.before.before.before.args.is i.judge-t.result
     i.judge-t.new.counts i.prepare-p.result.output i.prepare-p.result.batch
 due i =
-    let a = (start i.before.before.before.before.before.before).args in
+    let a = i.before.before.before.before.before.before.args in
     let j = i.judge-t in
     let p = i.prepare-p.ensures in
     let on = not-false _ i.if-not-p.false in
@@ -80,25 +74,24 @@ returns-then-not-t c =
 
 pub prepare-p-requires : goal.prepare-p-requires
 prepare-p-requires c =
-    let a = (start c.before.before).args in
-    let p = (start c.before.before).requires in
+    let a = c.before.before.args in
+    let p = c.before.before.requires in
     (card-words a.s a.card.now p.rule p.size, known c.before.before, formed c.before.before, (state-kept a.s p.rule).taken, p.stands)
 
 pub returns-then-not-p : goal.returns-then-not-p
 returns-then-not-p c =
-    let a = (start c.before.before.before.before.before.before.before.before).args in
+    let a = c.before.before.before.before.before.before.before.before.args in
     let q = c.prepare-p.ensures.stop (not-true _ c.if-not-p.true) in
-    acted-stop a.s a.card.now _ _ c.no_deed-then-not-p.ensures.0 q.0 (rw (c.no_deed-then-not-p.ensures.1, formed-plan (words a.card.now) a.s (start c.before.before.before.before.before.before.before.before).requires.formed (formed c.before.before.before.before.before.before.before.before)) q.1)
+    acted-stop a.s a.card.now _ _ c.no_deed-then-not-p.ensures.0 q.0 (rw (c.no_deed-then-not-p.ensures.1, formed-plan (words a.card.now) a.s c.before.before.before.before.before.before.before.before.requires.formed (formed c.before.before.before.before.before.before.before.before)) q.1)
 
 pub finish-last-requires : goal.finish-last-requires
 finish-last-requires c =
-    let s = start c.before.before.before.before.before.before.before.before.before.before.before in
-    let w = card-words s.args.s s.args.card.now s.requires.rule s.requires.size in
-    (omega (arith, c.prepare-p.auto.card, w), record { state = s.args.s; due = due c.before.before.before.before.before; steps = refl; level = s.requires.level })
+    let w = card-words c.before.before.before.before.before.before.before.before.before.before.before.args.s c.before.before.before.before.before.before.before.before.before.before.before.args.card.now c.before.before.before.before.before.before.before.before.before.before.before.requires.rule c.before.before.before.before.before.before.before.before.before.before.before.requires.size in
+    (omega (arith, c.prepare-p.auto.card, w), record { state = c.before.before.before.before.before.before.before.before.before.before.before.args.s; due = due c.before.before.before.before.before; steps = refl; level = c.before.before.before.before.before.before.before.before.before.before.before.requires.level })
 
 pub returns : goal.returns
 returns c =
-    let a = (start c.before.before.before.before.before.before.before.before.before.before.before.before.before.before).args in
+    let a = c.before.before.before.before.before.before.before.before.before.before.before.before.before.before.args in
     let pr = c.prepare-p in
     let on = not-false _ c.if-not-p.false in
     let j = c.judge-t in
@@ -108,7 +101,7 @@ returns c =
       stop = λ q. never (sym q);
       small = λ q. j.ensures.2;
       early = λ q. pr.ensures.early on;
-      done = λ q. rw (formed-plan (words a.card.now) a.s (start c.before.before.before.before.before.before.before.before.before.before.before.before.before.before).requires.formed (formed c.before.before.before.before.before.before.before.before.before.before.before.before.before.before))
+      done = λ q. rw (formed-plan (words a.card.now) a.s c.before.before.before.before.before.before.before.before.before.before.before.before.before.before.requires.formed (formed c.before.before.before.before.before.before.before.before.before.before.before.before.before.before))
           (pr.ensures.done on (store_of (next_state a.s f.result j.result pr.result.output) f.new.card)
-          (ap (λ l. next_state a.s l j.result pr.result.output) last) (f.ensures.card a.s (due c.before.before.before.before.before.before.before.before) refl (start c.before.before.before.before.before.before.before.before.before.before.before.before.before.before).requires.level));
+          (ap (λ l. next_state a.s l j.result pr.result.output) last) (f.ensures.card a.s (due c.before.before.before.before.before.before.before.before) refl c.before.before.before.before.before.before.before.before.before.before.before.before.before.before.requires.level));
     }

@@ -20,37 +20,31 @@ use Rattle.merges.proofs.finish.Reads as reads
 abbrev Joined1 : Type 0
 Joined1 = lts.Joined1 tie.the-claims reads.Pre reads.Post
 
-abbrev Start : Type 0
-Start = lts.Start tie.the-claims reads.Pre reads.Post
-
--- once the output's words are written
-abbrev start : Joined1 → Start
-start i = i.before.before.before.before.before
 
 abbrev Dues : Joined1 → State → Type 0
 Dues i st =
-    Due (words (start i).args.card.now) st (start i).args.is (start i).args.t (start i).args.counts.now (start i).args.o (start i).args.b
+    Due (words i.args.card.now) st i.args.is i.args.t i.args.counts.now i.args.o i.args.b
 
 abbrev content : Joined1 → State → List ℕ
-content i st = output_content st (taking (words (start i).args.card.now) st) (suc st.merge.steps)
+content i st = output_content st (taking (words i.args.card.now) st) (suc st.merge.steps)
 
 abbrev stored : Joined1 → State → List ℕ
-stored i st = let a = (start i).args in store (words a.card.now) (chain (words a.card.now) a.o.first a.o.blocks) (content i st)
+stored i st = let a = i.args in store (words a.card.now) (chain (words a.card.now) a.o.first a.o.blocks) (content i st)
 
-kept : (i : Joined1) → length i.if-o-gt0.card ≡ length (start i).args.card.now
-kept i = ⊎_elim {C = length i.if-o-gt0.card ≡ length (start i).args.card.now} (λ w. ap length w.card-is ∙ w.put_output.auto.card) (λ w. ap length w.card-is) i.if-o-gt0.branch-raw
+kept : (i : Joined1) → length i.if-o-gt0.card ≡ length i.args.card.now
+kept i = ⊎_elim {C = length i.if-o-gt0.card ≡ length i.args.card.now} (λ w. ap length w.card-is ∙ w.put_output.auto.card) (λ w. ap length w.card-is) i.if-o-gt0.branch-raw
 
 -- whether the step is the last
-told : (i : Joined1) (st : State) → Dues i st → (start i).args.steps ≡ st.merge.steps
-    → i.is_last-last.result ≡ is_last (taking (words (start i).args.card.now) st) (suc st.merge.steps)
+told : (i : Joined1) (st : State) → Dues i st → i.args.steps ≡ st.merge.steps
+    → i.is_last-last.result ≡ is_last (taking (words i.args.card.now) st) (suc st.merge.steps)
 told i st d es =
-    let a = (start i).args in
+    let a = i.args in
     i.is_last-last.ensures ∙ ap (λ m. leb a.t.pairs (16 * m + a.b.taken)) es ∙ last-told (words a.card.now) st a.is a.t d.judged a.o a.b d.acts
 
 -- the card
-wrote : (i : Joined1) (st : State) → Dues i st → (start i).args.steps ≡ st.merge.steps → (start i).args.level ≡ output_level st → words i.if-o-gt0.card ≡ stored i st
+wrote : (i : Joined1) (st : State) → Dues i st → i.args.steps ≡ st.merge.steps → i.args.level ≡ output_level st → words i.if-o-gt0.card ≡ stored i st
 wrote i st d es el =
-    let a = (start i).args in
+    let a = i.args in
     let W = words a.card.now in
     ⊎_elim {C = words i.if-o-gt0.card ≡ stored i st}
     (λ w. ap words w.card-is ∙ w.put_output.ensures ∙ ap₂ (λ l v. output_written W l v a.t a.counts.now a.o a.b) (told i st d es) el
@@ -65,24 +59,24 @@ put_output-requires c =
 
 pub release_inputs-requires : goal.release_inputs-requires
 release_inputs-requires c =
-    let a = (start c.before.before.before).args in
-    let d = (start c.before.before.before).requires.1 in
+    let a = c.before.before.before.args in
+    let d = c.before.before.before.requires.1 in
     let W = words a.card.now in
     let g = d.due.judged in
     let f = ap finished g.are ∙ finished-of (inputs d.state) in
     let w = wrote c.before.before.before d.state d.due d.steps d.level in
     let y = inputs-free W d.state a.is a.t g (stored c.before.before.before d.state) (length-store W _ (content c.before.before.before d.state)) (step_kept W d.state a.is a.t g a.o a.b d.due.acts (content c.before.before.before d.state)) in
-    (omega (arith, kept c.before.before.before, (start c.before.before.before).requires.0), omega (arith, inputs-few W d.state a.is a.t g), rw (f, w) y.0, rw (f, w) y.1)
+    (omega (arith, kept c.before.before.before, c.before.before.before.requires.0), omega (arith, inputs-few W d.state a.is a.t g), rw (f, w) y.0, rw (f, w) y.1)
 
 pub shape_of-card-then-last : goal.shape_of-card-then-last
 shape_of-card-then-last c = c.release_inputs.auto.card ∙ kept c.before.before.before.before.before.before
 
 pub returns-then-last : goal.returns-then-last
 returns-then-last c =
-    let a = (start c.before.before.before.before.before.before).args in
+    let a = c.before.before.before.before.before.before.args in
     let W = words a.card.now in
     let freed = c.release_inputs in
-    let q : length freed.new.card % 4 ≡ 0 = omega (arith, freed.auto.card, kept c.before.before.before.before.before.before, (start c.before.before.before.before.before.before).requires.0) in
+    let q : length freed.new.card % 4 ≡ 0 = omega (arith, freed.auto.card, kept c.before.before.before.before.before.before, c.before.before.before.before.before.before.requires.0) in
     record {
       last = told c.before.before.before.before.before.before;
       card = λ st d es el.
@@ -96,9 +90,9 @@ returns-then-last c =
 
 pub returns-else-last : goal.returns-else-last
 returns-else-last c =
-    let a = (start c.before.before).args in
+    let a = c.before.before.args in
     let W = words a.card.now in
-    let m : length c.if-o-gt0.card % 4 ≡ 0 = omega (arith, kept c.before.before, (start c.before.before).requires.0) in
+    let m : length c.if-o-gt0.card % 4 ≡ 0 = omega (arith, kept c.before.before, c.before.before.requires.0) in
     let low : (n : ℕ) → get_or c.if-o-gt0.card n 0 < 256 =
     λ n. ⊎_elim (λ u. rw u.card-is (omega (arith, u.slice_known-then-o-gt0-1.given n))) (λ u. rw u.card-is (omega (arith, c.slice_known-1.given n))) c.if-o-gt0.branch-raw in
     record {

@@ -64,7 +64,7 @@ by-third i = gives-by (step_of (store_of (state i) (card i))) (third_on (state i
 
 -- past the partitions
 abbrev first : Else1 → At-match-keys2
-first i = i.before.before.before.before.before.before
+first i = i.before.before.before.before.before
 
 formed : (i : Else1) → partitions_formed (words (card (first i))) (blocks (state (first i))) (finished (state (first i)).partitions) ≡ true
 formed i = sym i.partitions_ok.ensures ∙ not-false _ i.if-not-partitions_ok.false-raw

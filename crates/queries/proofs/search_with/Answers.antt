@@ -13,9 +13,6 @@ use Rattle.queries.proofs.search_with.Reads as reads
 abbrev Else3 : Type 0
 Else3 = lts.Else3 tie.the-claims reads.Pre reads.Post
 
-abbrev Start : Type 0
-Start = lts.Start tie.the-claims reads.Pre reads.Post
-
 pub returns-then-not-fine : goal.returns-then-not-fine
 returns-then-not-fine c =
     let a = c.args in
@@ -44,12 +41,9 @@ returns-then-bad_query c =
     (finds-bad a.s a.card.now a.register.now c.requires.0 a.t a.live ns a.places a.run.now H g.result g.ensures (not-false _ c.if-not-fine.false-raw) (sym c.any_bad.ensures ∙ c.if-any_bad.false)
     (sym c.bad_query.ensures ∙ c.if-bad_query.true))
 
--- ---- past refusal 14: the start, the names, what is gathered, and what is known of it
-abbrev start : Else3 → Start
-start m = m.before.before.before.before.before.before.before.before.before.before.before.before.before.before.before.before.before
 
 abbrev named : Else3 → List Name
-named m = map (λ x. x.now) (start m).args.ids.now
+named m = map (λ x. x.now) m.args.ids.now
 
 abbrev known : Else3 → Known
 known m = m.gather-k.result
@@ -63,25 +57,23 @@ fine m = not-false _ m.if-not-fine.false-raw
 lengths : (m : Else3) → any bad_length (named m) ≡ false
 lengths m = sym m.any_bad.ensures ∙ m.if-any_bad.false
 
-asked : (m : Else3) → bad_query (start m).args.places (named m) ≡ false
+asked : (m : Else3) → bad_query m.args.places (named m) ≡ false
 asked m = sym m.bad_query.ensures ∙ m.if-bad_query.false
 
 pub returns-then-t : goal.returns-then-t
 returns-then-t c =
-    let s = start c.before.before.before.before in
-    let a = s.args in
+    let a = c.before.before.before.before.args in
     refused_as _ a.places BadStretch _ c.refuse-then-t.ensures
-    (finds-stretch a.s a.card.now a.register.now s.requires.0 a.t a.live (named c.before.before.before.before) a.places a.run.now (heads c.before.before.before.before) (known c.before.before.before.before) c.gather-k.ensures (fine c.before.before.before.before) (lengths c.before.before.before.before) (asked c.before.before.before.before) (lt-ltb _ _ c.if-t.true))
+    (finds-stretch a.s a.card.now a.register.now c.before.before.before.before.requires.0 a.t a.live (named c.before.before.before.before) a.places a.run.now (heads c.before.before.before.before) (known c.before.before.before.before) c.gather-k.ensures (fine c.before.before.before.before) (lengths c.before.before.before.before) (asked c.before.before.before.before) (lt-ltb _ _ c.if-t.true))
 
 pub overflow_cast-places : goal.overflow_cast-places
-overflow_cast-places c = omega (arith, (proper (start c.before.before.before.before.before.before.before).args.places (named c.before.before.before.before.before.before.before) (asked c.before.before.before.before.before.before.before)).most)
+overflow_cast-places c = omega (arith, (proper c.before.before.before.before.before.before.before.args.places (named c.before.before.before.before.before.before.before) (asked c.before.before.before.before.before.before.before)).most)
 
 pub walk-top-requires : goal.walk-top-requires
 walk-top-requires c =
-    let s = start c.before.before.before.before.before.before.before.before.before in
-    let a = s.args in
+    let a = c.before.before.before.before.before.before.before.before.before.args in
     let q = proper a.places (named c.before.before.before.before.before.before.before.before.before) (asked c.before.before.before.before.before.before.before.before.before) in
-    (terms-walkable a.s a.card.now a.register.now s.requires.0 a.t a.live (named c.before.before.before.before.before.before.before.before.before) a.places a.run.now (heads c.before.before.before.before.before.before.before.before.before) (known c.before.before.before.before.before.before.before.before.before) c.gather-k.ensures (fine c.before.before.before.before.before.before.before.before.before) (lengths c.before.before.before.before.before.before.before.before.before) (asked c.before.before.before.before.before.before.before.before.before) (length a.spare.now) (rw c.heads-1.given s.requires.1), q.some, q.most)
+    (terms-walkable a.s a.card.now a.register.now c.before.before.before.before.before.before.before.before.before.requires.0 a.t a.live (named c.before.before.before.before.before.before.before.before.before) a.places a.run.now (heads c.before.before.before.before.before.before.before.before.before) (known c.before.before.before.before.before.before.before.before.before) c.gather-k.ensures (fine c.before.before.before.before.before.before.before.before.before) (lengths c.before.before.before.before.before.before.before.before.before) (asked c.before.before.before.before.before.before.before.before.before) (length a.spare.now) (rw c.heads-1.given c.before.before.before.before.before.before.before.before.before.requires.1), q.some, q.most)
 
 -- the heads after the walk
 pub shape_of-heads : goal.shape_of-heads
@@ -92,6 +84,5 @@ shape_of-spare c = let g = c.spare-1.given in search rules
 
 pub returns : goal.returns
 returns c =
-    let s = start c.before.before.before.before.before.before.before.before.before.before.before.before in
-    let a = s.args in
-    finds-walked a.s a.card.now a.register.now s.requires.0 a.t a.live (named c.before.before.before.before.before.before.before.before.before.before.before.before) a.places a.run.now (heads c.before.before.before.before.before.before.before.before.before.before.before.before) (known c.before.before.before.before.before.before.before.before.before.before.before.before) c.gather-k.ensures (fine c.before.before.before.before.before.before.before.before.before.before.before.before) (lengths c.before.before.before.before.before.before.before.before.before.before.before.before) (asked c.before.before.before.before.before.before.before.before.before.before.before.before) (le-ltb _ _ c.if-t.false) c.walk-top.result c.walk-top.ensures
+    let a = c.before.before.before.before.before.before.before.before.before.before.before.before.args in
+    finds-walked a.s a.card.now a.register.now c.before.before.before.before.before.before.before.before.before.before.before.before.requires.0 a.t a.live (named c.before.before.before.before.before.before.before.before.before.before.before.before) a.places a.run.now (heads c.before.before.before.before.before.before.before.before.before.before.before.before) (known c.before.before.before.before.before.before.before.before.before.before.before.before) c.gather-k.ensures (fine c.before.before.before.before.before.before.before.before.before.before.before.before) (lengths c.before.before.before.before.before.before.before.before.before.before.before.before) (asked c.before.before.before.before.before.before.before.before.before.before.before.before) (le-ltb _ _ c.if-t.false) c.walk-top.result c.walk-top.ensures

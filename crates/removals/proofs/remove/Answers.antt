@@ -44,7 +44,7 @@ sound i =
 
 -- past the partitions
 abbrev first : Else1 → At-match-keys2
-first e = e.before.before.before.before.before.before
+first e = e.before.before.before.before.before
 
 formed : (e : Else1) → partitions_formed (words (card (first e))) (blocks (state (first e))) (finished (state (first e)).partitions) ≡ true
 formed e = sym e.partitions_ok.ensures ∙ not-false _ e.if-not-partitions_ok.false-raw
@@ -66,23 +66,23 @@ returns-then-not-partitions_ok c =
 
 pub read-read-requires : goal.read-read-requires
 read-read-requires c =
-    let i = first c.before.before in
+    let i = first c.before in
     ((sound i).rule, card-words (state i) (card i) (sound i).rule (sound i).size, formed c.before)
 
 pub returns-then-not-fine : goal.returns-then-not-fine
 returns-then-not-fine c =
-    let i = first c.before.before.before.before.before in
+    let i = first c.before.before.before.before in
     let r = c.read-read in
     rw c.refuse-then-not-fine.ensures (bad-lists (state i) (card i) (window i) (sound i).rule (sound i).size (formed c.before.before.before.before) r.result r.ensures (not-true _ c.if-not-fine.true-raw))
 
 pub remove_counts-requires : goal.remove_counts-requires
 remove_counts-requires c =
-    let i = first c.before.before.before.before.before.before in
+    let i = first c.before.before.before.before.before in
     let r = c.read-read in
     removable (state i) (card i) (window i) (sound i).rule (sound i).size (formed c.before.before.before.before.before) r.result r.ensures (not-false _ c.if-not-fine.false-raw)
 
 pub returns : goal.returns
 returns c =
-    let i = first c.before.before.before.before.before.before.before.before.before in
+    let i = first c.before.before.before.before.before.before.before.before in
     let r = c.read-read in
     goes_on (state i) (card i) (window i) (sound i).rule (sound i).size (formed c.before.before.before.before.before.before.before.before) r.result r.ensures (not-false _ c.if-not-fine.false-raw) c.remove_counts.ensures

@@ -17,21 +17,15 @@ use Rattle.removals.proofs.remove_counts.Reads as reads
 abbrev After-target-of : Type 0
 After-target-of = lts.After-target_of tie.the-claims reads.Pre reads.Post
 
-abbrev Start : Type 0
-Start = lts.Start tie.the-claims reads.Pre reads.Post
 
--- where the flush's target is known
-abbrev start : After-target-of → Start
-start m = m.before.before.before.before.before.before.before.before
-
-shut : (m : After-target-of) → names_open (start m).args.s (start m).args.window ≡ false
+shut : (m : After-target-of) → names_open m.args.s m.args.window ≡ false
 shut m = sym m.names_open.ensures ∙ m.if-names_open.false
 
-live : (m : After-target-of) → no_live_window (start m).args.s (start m).args.window (counts_in (start m).args.c) ≡ false
+live : (m : After-target-of) → no_live_window m.args.s m.args.window (counts_in m.args.c) ≡ false
 live m = sym m.not_live.ensures ∙ m.if-not_live.false
 
-aimed : (m : After-target-of) (t : Target) → m.target_of-target.result ≡ t → Aimed (removal_flushes (start m).args.s (counts_in (start m).args.c)) (start m).args.s (start m).args.card.now t
-aimed m t e = judged (start m).args.s (counts_in (start m).args.c) (start m).args.card.now _ t m.must_flush.ensures (rw e at m.target_of-target.ensures)
+aimed : (m : After-target-of) (t : Target) → m.target_of-target.result ≡ t → Aimed (removal_flushes m.args.s (counts_in m.args.c)) m.args.s m.args.card.now t
+aimed m t e = judged m.args.s (counts_in m.args.c) m.args.card.now _ t m.must_flush.ensures (rw e at m.target_of-target.ensures)
 
 pub returns-then-names_open : goal.returns-then-names_open
 returns-then-names_open c =
@@ -50,34 +44,34 @@ must_flush-requires c =
 
 pub flushed-t-requires : goal.flushed-t-requires
 flushed-t-requires c =
-    ((start c.before.before.before.before.before).requires.rule, (start c.before.before.before.before.before).requires.size, (rw c.in-Block.is at c.target_of-target.ensures).1)
+    (c.before.before.before.before.before.requires.rule, c.before.before.before.before.before.requires.size, (rw c.in-Block.is at c.target_of-target.ensures).1)
 
 pub without-requires : goal.without-requires
 without-requires c =
-    let a = (start c.before.before.before.before.before.before.before.before).args in
+    let a = c.before.before.before.before.before.before.before.before.args in
     rw c.flushed-t.ensures.0
-    (takeable-flushed a.s a.card.now a.window a.c (start c.before.before.before.before.before.before.before.before).requires _, rw (live-flushed a.s a.card.now a.window a.c (start c.before.before.before.before.before.before.before.before).requires _) (some-live a.s a.card.now a.window (counts_in a.c) (shut c.before.before.before.before.before.before.before.before) (live c.before.before.before.before.before.before.before.before)))
+    (takeable-flushed a.s a.card.now a.window a.c c.before.before.before.before.before.before.before.before.requires _, rw (live-flushed a.s a.card.now a.window a.c c.before.before.before.before.before.before.before.before.requires _) (some-live a.s a.card.now a.window (counts_in a.c) (shut c.before.before.before.before.before.before.before.before) (live c.before.before.before.before.before.before.before.before)))
 
 pub without-requires-in-Nothing : goal.without-requires-in-Nothing
 without-requires-in-Nothing c =
-    let a = (start c.before.before.before).args in
+    let a = c.before.before.before.args in
     let none = nothing-told (tag_of the_type) (λ x. refl) (λ x. refl) c.target_of-target.result c.in-Nothing.in-Nothing-own.keys3 in
-    (takeable-plain a.s a.card.now a.window a.c (start c.before.before.before).requires (aimed c.before.before.before Target.Nothing none), some-live a.s a.card.now a.window (counts_in a.c) (shut c.before.before.before) (live c.before.before.before))
+    (takeable-plain a.s a.card.now a.window a.c c.before.before.before.requires (aimed c.before.before.before Target.Nothing none), some-live a.s a.card.now a.window (counts_in a.c) (shut c.before.before.before) (live c.before.before.before))
 
 pub returns-in-Refused : goal.returns-in-Refused
 returns-in-Refused c =
-    let a = (start c.before.before.before.before.before).args in
+    let a = c.before.before.before.before.before.args in
     rw c.refuse-in-Refused.ensures (flush-barred a.s a.card.now a.window (counts_in a.c) (shut c.before.before.before.before.before) (live c.before.before.before.before.before) c.in-Refused.why (aimed c.before.before.before.before.before (Target.Refused c.in-Refused.why) c.in-Refused.is))
 
 pub returns-in-Block : goal.returns-in-Block
 returns-in-Block c =
-    let a = (start c.before.before.before.before.before.before.before.before.before.before).args in
+    let a = c.before.before.before.before.before.before.before.before.before.before.args in
     let f = c.flushed-t in
     rw (c.done.ensures, c.without.ensures, f.ensures.0, f.ensures.1)
     (removed-flushed a.s a.card.now a.window (counts_in a.c) (shut c.before.before.before.before.before.before.before.before.before.before) (live c.before.before.before.before.before.before.before.before.before.before) c.in-Block.b (aimed c.before.before.before.before.before.before.before.before.before.before (Target.Block c.in-Block.b) c.in-Block.is))
 
 pub returns-in-Nothing : goal.returns-in-Nothing
 returns-in-Nothing c =
-    let a = (start c.before.before.before.before.before).args in
+    let a = c.before.before.before.before.before.args in
     let none = nothing-told (tag_of the_type) (λ x. refl) (λ x. refl) c.target_of-target.result c.in-Nothing.in-Nothing-own.keys3 in
     rw (c.done-in-Nothing.ensures, c.without-in-Nothing.ensures) (removed-plain a.s a.card.now a.window (counts_in a.c) (shut c.before.before.before.before.before) (live c.before.before.before.before.before) (aimed c.before.before.before.before.before Target.Nothing none))

@@ -55,7 +55,7 @@ returns c =
     put_some (words c.args.card.now) c.args.head.now c.requires.0 r n c.requires.1 (omega arith) c.head-word.result c.head-word.ensures
 
 pub shape_of-head-then-p-eq0 : goal.shape_of-head-then-p-eq0
-shape_of-head-then-p-eq0 c = (returns-then-p-eq0 c.before).0.ten ∙ sym c.requires.0
+shape_of-head-then-p-eq0 c = (returns-then-p-eq0 c).0.ten ∙ sym c.requires.0
 
 pub shape_of-head : goal.shape_of-head
-shape_of-head c = (returns c.before).0.ten ∙ sym c.requires.0
+shape_of-head c = (returns c).0.ten ∙ sym c.requires.0

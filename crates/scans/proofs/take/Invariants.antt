@@ -10,7 +10,7 @@ use Rattle.kway.proofs.Turns.{Turn, turn-none, turn_more}
 use Rattle.scans.proofs.take.Given as goal
 
 abbrev pub invariant-loop-i : goal.invariant-loop-i
-invariant-loop-i l = (l.i ≤ l.n) × Turn (view (words l.card)) (Kept (words l.card)) 10 l.key l.initial.heads l.i l.heads (to_z w32 l.sum) l.fine l.next
+invariant-loop-i l = (l.i ≤ l.n) × Turn (view (words l.card)) (Kept (words l.card)) 10 l.key l.initial.heads l.i l.heads l.sum l.fine l.next
 
 abbrev pub decreases-loop-i : goal.decreases-loop-i
 decreases-loop-i l = l.n - l.i

@@ -37,26 +37,29 @@ returns-then-place-n c =
     let X = t.new.head in
     let f : SFits w16 t.result.count = search rules in
     let g : SFits w32 c.added-sum.result = record { sfits = c.added-sum.type_inv } in
-    let sum = c.added-sum.ensures ∙ +ℤ_idl _ ∙ to_z-of_z f in (
-      (
+    let sum = c.added-sum.ensures ∙ +ℤ_idl _ ∙ to_z-of_z f in
+    record {
+      heads = (
         put-length 4 H X p (omega (arith, c.requires.0)) e.0.four,
         led-kept (view W R) (Kept W R) 4 n H c.requires.0 p c.args.others k c.requires.3 c.requires.4 h low X e.0.four e.0 e.1,
         led-rests (view W R) (Kept W R) 4 n H c.requires.0 p c.args.others k c.requires.3 c.requires.4 h low X e.0.four e.0 e.1,
-      ),
-      (
-        (
-          to_z-of_z g ∙ sum ∙ e.2 ∙ sym (led-sum (view W R) (Kept W R) 4 n H c.requires.0 p c.args.others k c.requires.3 c.requires.4 h low X e.0.four e.0 e.1),
-          e.3 ∙ sym (led-fine (view W R) (Kept W R) 4 n H c.requires.0 p c.args.others k c.requires.3 c.requires.4 h low X e.0.four e.0 e.1),
-          c.larger-next.ensures ∙ rw e.4 (led-top (view W R) (Kept W R) 4 n H c.requires.0 p c.args.others k c.requires.3 c.requires.4 h low X e.0.four e.0 e.1),
-          rw (to_z-of_z g, sum) (omega (arith, f.sfits)),
-        ),
-        led-leads (view W R) (Kept W R) 4 n H c.requires.0 p c.args.others k c.requires.3 c.requires.4 h low X e.0.four e.0 e.1,
-      ),
-    )
+      );
+      taken = (
+        to_z-of_z g ∙ sum ∙ e.2 ∙ sym (led-sum (view W R) (Kept W R) 4 n H c.requires.0 p c.args.others k c.requires.3 c.requires.4 h low X e.0.four e.0 e.1),
+        e.3 ∙ sym (led-fine (view W R) (Kept W R) 4 n H c.requires.0 p c.args.others k c.requires.3 c.requires.4 h low X e.0.four e.0 e.1),
+        c.larger-next.ensures ∙ rw e.4 (led-top (view W R) (Kept W R) 4 n H c.requires.0 p c.args.others k c.requires.3 c.requires.4 h low X e.0.four e.0 e.1),
+        rw (to_z-of_z g, sum) (omega (arith, f.sfits)),
+      );
+      lead = led-leads (view W R) (Kept W R) 4 n H c.requires.0 p c.args.others k c.requires.3 c.requires.4 h low X e.0.four e.0 e.1;
+    }
 
 pub returns : goal.returns
 returns c =
     let t = c.take-t in
     let l = c.leader-l.ensures in
     let f : SFits w32 t.result.sum = search rules in
-    (t.ensures.heads, ((to_z-of_z f ∙ t.ensures.taken.0, t.ensures.taken.1, l.0, rw (to_z-of_z f) t.ensures.taken.3), l.1))
+    record {
+      heads = t.ensures.heads;
+      taken = (to_z-of_z f ∙ t.ensures.taken.0, t.ensures.taken.1, l.0, rw (to_z-of_z f) t.ensures.taken.3);
+      lead = l.1;
+    }

@@ -20,27 +20,21 @@ use Rattle.plans.proofs.judging.output_ok.Reads as reads
 abbrev Else3 : Type 0
 Else3 = lts.Else3 tie.the-claims reads.Pre reads.Post
 
-abbrev Start : Type 0
-Start = lts.Start tie.the-claims reads.Pre reads.Post
 
--- past its tests, the output has blocks, and they stand
-abbrev start : Else3 → Start
-start i = i.before.before.before.before.before.before.before.before.before.before
-
-many : (i : Else3) → i.blocks_for-n.result ≡ blocks_for (length_from (start i).args.t)
+many : (i : Else3) → i.blocks_for-n.result ≡ blocks_for (length_from i.args.t)
 many i = i.blocks_for-n.ensures ∙ ap blocks_for i.output_length-length.ensures
 
-some : (i : Else3) → blocks_for (length_from (start i).args.t) ≡ 0 → ⊥
+some : (i : Else3) → blocks_for (length_from i.args.t) ≡ 0 → ⊥
 some i z = i.if-n-eq0.false (many i ∙ z)
 
-long : (i : Else3) → (start i).args.s.merge.length ≡ length_from (start i).args.t
+long : (i : Else3) → i.args.s.merge.length ≡ length_from i.args.t
 long i = i.if-job-length.false ∙ i.output_length-length.ensures
 
-stood : (i : Else3) → (chain_rule (words (start i).args.card.now) (blocks (start i).args.s) (start i).args.s.merge.first (blocks_for (length_from (start i).args.t)) ≡ true)
-    × (stands_apart (words (start i).args.card.now) (start i).args.s.merge.first (blocks_for (length_from (start i).args.t)) (finished (start i).args.s.partitions) ≡ true)
+stood : (i : Else3) → (chain_rule (words i.args.card.now) (blocks i.args.s) i.args.s.merge.first (blocks_for (length_from i.args.t)) ≡ true)
+    × (stands_apart (words i.args.card.now) i.args.s.merge.first (blocks_for (length_from i.args.t)) (finished i.args.s.partitions) ≡ true)
 stood i =
-    let a = (start i).args in
-    standing_apart (words a.card.now) a.s a.is a.t (start i).requires.0 (start i).requires.2 (long i) (some i) (start i).requires.3
+    let a = i.args in
+    standing_apart (words a.card.now) a.s a.is a.t i.requires.0 i.requires.2 (long i) (some i) i.requires.3
 
 pub returns-then-t-job : goal.returns-then-t-job
 returns-then-t-job c =
@@ -69,29 +63,27 @@ returns-then-n-eq0 c =
 
 pub read_draft-requires : goal.read_draft-requires
 read_draft-requires c =
-    let s = start c.before.before.before in
-    let W = words s.args.card.now in
-    let g = s.requires.0 in
-    let f = ap finished g.are ∙ finished-of (inputs s.args.s) in
-    let n : c.blocks_for-n.result ≡ blocks_for (length_from s.args.t) = many c.before.before.before in
+    let W = words c.before.before.before.args.card.now in
+    let g = c.before.before.before.requires.0 in
+    let f = ap finished g.are ∙ finished-of (inputs c.before.before.before.args.s) in
+    let n : c.blocks_for-n.result ≡ blocks_for (length_from c.before.before.before.args.t) = many c.before.before.before in
     let small : 1023 * c.blocks_for-n.result < 4294967296 = omega (arith, c.blocks_for-n.ensures) in (
-      inputs-few W s.args.s s.args.is s.args.t g,
-      rw f (readable W s.args.s s.args.is s.args.t g),
-      rw f s.requires.1,
-      rw n (rule-chained W (blocks s.args.s) s.args.s.merge.first _ g.long g.few (stood c.before.before.before).0),
+      inputs-few W c.before.before.before.args.s c.before.before.before.args.is c.before.before.before.args.t g,
+      rw f (readable W c.before.before.before.args.s c.before.before.before.args.is c.before.before.before.args.t g),
+      rw f c.before.before.before.requires.1,
+      rw n (rule-chained W (blocks c.before.before.before.args.s) c.before.before.before.args.s.merge.first _ g.long g.few (stood c.before.before.before).0),
       small,
-      omega (arith, n, ap (λ (l : List Posting). length (nonzero l)) (pairs-read W s.args.s s.args.is s.args.t g), room-held W s.args.s s.args.is s.args.t g c.if-t-job.false (long c.before.before.before) (some c.before.before.before)),
+      omega (arith, n, ap (λ (l : List Posting). length (nonzero l)) (pairs-read W c.before.before.before.args.s c.before.before.before.args.is c.before.before.before.args.t g), room-held W c.before.before.before.args.s c.before.before.before.args.is c.before.before.before.args.t g c.if-t-job.false (long c.before.before.before) (some c.before.before.before)),
     )
 
 pub returns : goal.returns
 returns c =
-    let s = start c.before.before.before.before in
-    let W = words s.args.card.now in
-    let g = s.requires.0 in
+    let W = words c.before.before.before.before.args.card.now in
+    let g = c.before.before.before.before.requires.0 in
     let n = c.blocks_for-n.ensures ∙ ap blocks_for c.output_length-length.ensures in
-    let r = pairs-read W s.args.s s.args.is s.args.t g in
+    let r = pairs-read W c.before.before.before.before.args.s c.before.before.before.before.args.is c.before.before.before.before.args.t g in
     let d = c.read_draft.ensures in
-    let h = d.0 ∙ ap₂ (λ (m : ℕ) (l : List Posting). holds_draft W s.args.s.merge.first m (8 + 3 * s.args.t.terms) (16 * s.args.s.merge.steps) l) n r in (
-      h ∙ rule-held W s.args.s s.args.is s.args.t g c.if-t-job.false (long c.before.before.before.before) (some c.before.before.before.before) (stood c.before.before.before.before).0 (stood c.before.before.before.before).1,
-      λ y. acts-held W s.args.s s.args.is s.args.t g _ _ refl refl (some c.before.before.before.before) (stood c.before.before.before.before).0 (stood c.before.before.before.before).1 (sym h ∙ y) (rw r at d.1) (rw r at d.2) (rw r at d.3) d.4,
+    let h = d.0 ∙ ap₂ (λ (m : ℕ) (l : List Posting). holds_draft W c.before.before.before.before.args.s.merge.first m (8 + 3 * c.before.before.before.before.args.t.terms) (16 * c.before.before.before.before.args.s.merge.steps) l) n r in (
+      h ∙ rule-held W c.before.before.before.before.args.s c.before.before.before.before.args.is c.before.before.before.before.args.t g c.if-t-job.false (long c.before.before.before.before) (some c.before.before.before.before) (stood c.before.before.before.before).0 (stood c.before.before.before.before).1,
+      λ y. acts-held W c.before.before.before.before.args.s c.before.before.before.before.args.is c.before.before.before.before.args.t g _ _ refl refl (some c.before.before.before.before) (stood c.before.before.before.before).0 (stood c.before.before.before.before).1 (sym h ∙ y) (rw r at d.1) (rw r at d.2) (rw r at d.3) d.4,
     )

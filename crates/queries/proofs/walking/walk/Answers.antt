@@ -16,9 +16,6 @@ use Rattle.queries.proofs.walking.walk.Reads as reads
 abbrev After-take-terms : Type 0
 After-take-terms = lts.After-take_terms tie.the-claims reads.Pre reads.Post goal.the-invariant-loop-top goal.the-decreases-loop-top tie.handed_clauses
 
-abbrev Start : Type 0
-Start = lts.Start tie.the-claims reads.Pre reads.Post goal.the-invariant-loop-top goal.the-decreases-loop-top tie.handed_clauses
-
 pub top_terms-top-requires : goal.top_terms-top-requires
 top_terms-top-requires c = let w = c.requires.0 in (w.fits, w.short, w.lists, w.kept)
 
@@ -38,9 +35,6 @@ take_terms-t-requires c =
     let v = c.loop-top.invariant in
     (omega (arith, w.fits, v.long), omega (arith, w.short, v.long), w.lists, w.terms, walk-window W R c.args.m c.args.g (seen c.args.first c.args.last c.args.current) c.args.places H c.loop-top.heads c.loop-top.best c.loop-top.top c.loop-top.invariant k high, v.kept, walk_top W R c.args.m c.args.g (seen c.args.first c.args.last c.args.current) c.args.places H c.loop-top.heads c.loop-top.best c.loop-top.top c.loop-top.invariant k high, walk-ranges W R c.args.m c.args.g (seen c.args.first c.args.last c.args.current) c.args.places H c.loop-top.heads c.loop-top.best c.loop-top.top c.loop-top.invariant k high)
 
--- ---- where the heads of the highest window are taken
-abbrev start : After-take-terms → Start
-start m = m.before.before.before.before.before.before.before.before.before.before
 
 -- that window
 abbrev window : After-take-terms → ℕ
@@ -51,7 +45,7 @@ high m = omega (arith, m.loop-top-test.true)
 
 -- whether it shows and counts
 abbrev counts : After-take-terms → Bool
-counts m = m.take_terms-t.result.counts && seen (start m).args.first (start m).args.last (start m).args.current (window m)
+counts m = m.take_terms-t.result.counts && seen m.args.first m.args.last m.args.current (window m)
 
 -- its hit
 abbrev hit : After-take-terms → Hit
@@ -60,39 +54,39 @@ hit m = record { window = window m; score = m.take_terms-t.result.score }
 -- the windows to come are lower
 lower : (m : After-take-terms) → m.take_terms-t.result.next < m.loop-top.top
 lower m =
-    let a = (start m).args in
+    let a = m.args in
     let l = m.loop-top in
     let t = m.take_terms-t in
     omega (arith, walk-lower (words a.card.now) a.run.now a.m a.g (seen a.first a.last a.current) a.places a.heads.now l.heads l.best l.top l.invariant (window m) (high m) t.new.heads t.result.next t.ensures.heads.0 t.ensures.heads.1 t.ensures.heads.2 t.ensures.scored.2, high m)
 
 -- the walk goes on with these best hits
 abbrev GoesOn : After-take-terms → Top → Type 0
-GoesOn m then = Walking (words (start m).args.card.now) (start m).args.run.now (start m).args.m (start m).args.g (seen (start m).args.first (start m).args.last (start m).args.current) (start m).args.places (start m).args.heads.now m.take_terms-t.new.heads then m.take_terms-t.result.next
+GoesOn m then = Walking (words m.args.card.now) m.args.run.now m.args.m m.args.g (seen m.args.first m.args.last m.args.current) m.args.places m.args.heads.now m.take_terms-t.new.heads then m.take_terms-t.result.next
 
-placed : (m : After-take-terms) → counts m ≡ true → (then : Top) → then ≡ top_of (take (start m).args.places (place (hit m) (listed_hits m.loop-top.best))) → GoesOn m then
+placed : (m : After-take-terms) → counts m ≡ true → (then : Top) → then ≡ top_of (take m.args.places (place (hit m) (listed_hits m.loop-top.best))) → GoesOn m then
 placed m e then f =
-    let a = (start m).args in
+    let a = m.args in
     let l = m.loop-top in
     let t = m.take_terms-t in
     walk-placed (words a.card.now) a.run.now a.m a.g (seen a.first a.last a.current) a.places a.heads.now l.heads l.best l.top l.invariant (window m) (high m) t.new.heads t.result.next t.ensures.heads.0 t.ensures.heads.1 t.ensures.heads.2 t.ensures.scored.2 t.result.score t.ensures.scored.0 (ap (λ (b : Bool). b && seen a.first a.last a.current (window m)) (sym t.ensures.scored.1) ∙ e) then f
 
-out : (m : After-take-terms) → counts m ≡ true → (ltb m.loop-top.best.used (start m).args.places || outranks (hit m) (get_or m.loop-top.best.hits ((start m).args.places - 1) no_hit)) ≡ false → GoesOn m m.loop-top.best
+out : (m : After-take-terms) → counts m ≡ true → (ltb m.loop-top.best.used m.args.places || outranks (hit m) (get_or m.loop-top.best.hits (m.args.places - 1) no_hit)) ≡ false → GoesOn m m.loop-top.best
 out m e f =
-    let a = (start m).args in
+    let a = m.args in
     let l = m.loop-top in
     let t = m.take_terms-t in
     walk-out (words a.card.now) a.run.now a.m a.g (seen a.first a.last a.current) a.places a.heads.now l.heads l.best l.top l.invariant (window m) (high m) t.new.heads t.result.next t.ensures.heads.0 t.ensures.heads.1 t.ensures.heads.2 t.ensures.scored.2 t.result.score t.ensures.scored.0 (ap (λ (b : Bool). b && seen a.first a.last a.current (window m)) (sym t.ensures.scored.1) ∙ e) f _ refl
 
 passed : (m : After-take-terms) → counts m ≡ false → GoesOn m m.loop-top.best
 passed m e =
-    let a = (start m).args in
+    let a = m.args in
     let l = m.loop-top in
     let t = m.take_terms-t in
     walk-passed (words a.card.now) a.run.now a.m a.g (seen a.first a.last a.current) a.places a.heads.now l.heads l.best l.top l.invariant (window m) (high m) t.new.heads t.result.next t.ensures.heads.0 t.ensures.heads.1 t.ensures.heads.2 t.ensures.scored.2 (ap (λ (b : Bool). b && seen a.first a.last a.current (window m)) (sym t.ensures.scored.1) ∙ e) _ refl
 
 pub overflow_cast-hit : goal.overflow_cast-hit
 overflow_cast-hit c =
-    let a = (start c.before.before.before.before.before).args in
+    let a = c.before.before.before.before.before.args in
     let l = c.loop-top in
     omega (arith, walk-window (words a.card.now) a.run.now a.m a.g (seen a.first a.last a.current) a.places a.heads.now l.heads l.best l.top l.invariant (window c.before.before.before.before.before) (high c.before.before.before.before.before))
 

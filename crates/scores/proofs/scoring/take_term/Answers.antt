@@ -22,9 +22,6 @@ use Rattle.scores.proofs.scoring.take_term.Reads as reads
 abbrev After-above : Type 0
 After-above = lts.After-above tie.the-claims reads.Pre reads.Post tie.handed_clauses
 
-abbrev Start : Type 0
-Start = lts.Start tie.the-claims reads.Pre reads.Post tie.handed_clauses
-
 pub returns-then-top-key : goal.returns-then-top-key
 returns-then-top-key c =
     let W = words c.args.card.now in
@@ -58,28 +55,25 @@ bounds-group-3-2 c =
     let F = put_mid 4 (length G - 4) G t.new.heads in
     lt-length-set (set F 0 t.result.next) 2 t.result.at (lt-length-set F 0 t.result.next (omega (arith, r)))
 
-abbrev begun : After-above → Start
-begun c = c.before.before.before.before.before.before.before.before.before.before.before.before.before.before
 
 abbrev lists : After-above → Group
-lists c = let s = begun c in views (words s.args.card.now) s.args.run.now s.args.m (drop 4 s.args.group.now)
+lists c = views (words c.args.card.now) c.args.run.now c.args.m (drop 4 c.args.group.now)
 
 -- what is counted, and that it has 15 bits
-counted : (c : After-above) → (c.above-count.result ≡ above (head_vals (begun c).args.key (lists c))) × (c.above-count.result ≤ 32767)
+counted : (c : After-above) → (c.above-count.result ≡ above (head_vals c.args.key (lists c))) × (c.above-count.result ≤ 32767)
 counted c =
-    let s = begun c in
     let t = c.take_led-t in
-    let u = rw (take_rest 4 s.args.group.now) at t.ensures in
+    let u = rw (take_rest 4 c.args.group.now) at t.ensures in
     let f : SFits w32 t.result.sum = search rules in
-    let n = c.above-count.ensures ∙ ap above (to_z-of_z f ∙ u.1.0.0) in
-    (n, rw n (above_most (head_vals s.args.key (lists c)) s.requires.4))
+    let n = c.above-count.ensures ∙ ap above (to_z-of_z f ∙ u.taken.0) in
+    (n, rw n (above_most (head_vals c.args.key (lists c)) c.requires.4))
 
 pub overflow_cast-count : goal.overflow_cast-count
 overflow_cast-count c = omega (arith, (counted c.before).1)
 
 pub overflow_mul-score : goal.overflow_mul-score
 overflow_mul-score c =
-    let z = product-most c.above-count.result (get_or (begun c.before.before).args.group.now 1 0) (counted c.before.before).1 (begun c.before.before).requires.0.light in
+    let z = product-most c.above-count.result (get_or c.before.before.args.group.now 1 0) (counted c.before.before).1 c.before.before.requires.0.light in
     rw c.tf_weight.ensures.weight (omega (arith, z))
 
 pub returns : goal.returns
@@ -94,13 +88,13 @@ returns c =
     let X = t.new.heads in
     let r = t.result in
     let w = c.tf_weight.ensures.weight in record { group = (
-        after_kept W R c.args.m c.args.key G c.requires.0 X r.next r.at r.others u.0.0 u.0.1 u.0.2 u.1.0.2 u.1.1,
-        after-term W R c.args.m c.args.key G c.requires.0 X r.next r.at r.others u.0.0 u.0.1 u.0.2 u.1.0.2 u.1.1,
+        after_kept W R c.args.m c.args.key G c.requires.0 X r.next r.at r.others u.heads.0 u.heads.1 u.heads.2 u.taken.2 u.lead,
+        after-term W R c.args.m c.args.key G c.requires.0 X r.next r.at r.others u.heads.0 u.heads.1 u.heads.2 u.taken.2 u.lead,
       ); scored = (
         ap (λ (x : ℕ). x * get_or G 1 0) (w ∙ ap tf_weight n),
         rw w z,
         ap (ltb 0) n,
-        after-top W R c.args.m c.args.key G c.requires.0 X r.next r.at r.others u.0.0 u.0.1 u.0.2 u.1.0.2 u.1.1,
+        after-top W R c.args.m c.args.key G c.requires.0 X r.next r.at r.others u.heads.0 u.heads.1 u.heads.2 u.taken.2 u.lead,
       ) }
 
 pub tf_weight-requires : goal.tf_weight-requires

@@ -62,7 +62,7 @@ loop-j-preserved c =
       omega (arith, test),
       rw (c.either-counts.ensures, c.larger-next.ensures)
           (joined-more W R m c.args.key c.args.heads.now j c.loop-j.heads _ _ _ c.loop-j.invariant.1 (omega (arith, e, c.requires.0))
-          t.new.group t.result.score t.result.counts t.result.next u.0.0 u.0.1 u.1.0 u.1.1 u.1.2 u.1.3),
+          t.new.group t.result.score t.result.counts t.result.next u.group.0 u.group.1 u.scored.0 u.scored.1 u.scored.2 u.scored.3),
     )
 
 pub shape_of-heads : goal.shape_of-heads

@@ -20,12 +20,6 @@ use Rattle.terms.proofs.judging.judge.Reads as reads
 abbrev After-shown : Type 0
 After-shown = lts.After-shown tie.the-claims reads.Pre reads.Post goal.the-invariant-loop-top goal.the-decreases-loop-top tie.handed_clauses
 
-abbrev Start : Type 0
-Start = lts.Start tie.the-claims reads.Pre reads.Post goal.the-invariant-loop-top goal.the-decreases-loop-top tie.handed_clauses
-
-abbrev At-loop : Type 0
-At-loop = lts.At-loop tie.the-claims reads.Pre reads.Post goal.the-invariant-loop-top goal.the-decreases-loop-top tie.handed_clauses
-
 pub leader-l-requires : goal.leader-l-requires
 leader-l-requires c = (omega (arith, c.requires.0), omega (arith, c.requires.1), c.requires.2.lists)
 
@@ -65,43 +59,38 @@ returns-then-not-fine c =
     let high : top_all 0 gs ≡ suc k = sym v.2 ∙ omega (arith, test) in
     let low : suc k ≤ c.loop-top.bound = omega (arith, below, test) in
     let t = c.judge_window-t in
-    sym (v.5 ∙ faulty (seen c.args.first c.args.last c.args.current) c.loop-top.bound c.loop-top.windows c.loop-top.total gs k high low (sym t.ensures.judged.0.0 ∙ not-true _ c.if-not-fine.true-raw))
+    sym (v.5 ∙ faulty (seen c.args.first c.args.last c.args.current) c.loop-top.bound c.loop-top.windows c.loop-top.total gs k high low (sym t.ensures.judged.0 ∙ not-true _ c.if-not-fine.true-raw))
 
--- ---- where a window is counted: the start, the turn of the loop, and what was left at it
-abbrev begun : After-shown → Start
-begun m = m.before.before.before.before.before.before.before.before.before.before.before.before.before.before.before.before
 
-abbrev within : After-shown → At-loop
-within m = m.before.before.before.before.before.before.before.before
 
 abbrev window : After-shown → ℕ
-window m = (within m).loop-top.top - 1
+window m = m.loop-top.top - 1
 
 abbrev left : After-shown → List Group
-left m = both (words (begun m).args.card.now) (begun m).args.run.now (begun m).args.n (within m).loop-top.heads
+left m = both (words m.args.card.now) m.args.run.now m.args.n m.loop-top.heads
 
-low : (m : After-shown) → suc (window m) ≤ (within m).loop-top.bound
+low : (m : After-shown) → suc (window m) ≤ m.loop-top.bound
 low m = omega (arith, m.if-bound-top.false, m.loop-top-test.true)
 
 high : (m : After-shown) → top_all 0 (left m) ≡ suc (window m)
-high m = sym (within m).loop-top.invariant.2 ∙ omega (arith, m.loop-top-test.true)
+high m = sym m.loop-top.invariant.2 ∙ omega (arith, m.loop-top-test.true)
 
 -- it is well formed, and this is what it counts
 fine : (m : After-shown) → fine_at (window m) (left m) ≡ true
-fine m = sym m.judge_window-t.ensures.judged.0.0 ∙ not-false _ m.if-not-fine.false-raw
+fine m = sym m.judge_window-t.ensures.judged.0 ∙ not-false _ m.if-not-fine.false-raw
 
-counts : (m : After-shown) → m.shown-count.result ≡ count_at (seen (begun m).args.first (begun m).args.last (begun m).args.current) (window m) (map (head_vals (window m)) (left m))
-counts m = m.shown-count.ensures ∙ ap (λ (n : ℕ). cond (seen (begun m).args.first (begun m).args.last (begun m).args.current (window m)) n 0) m.judge_window-t.ensures.judged.0.1
+counts : (m : After-shown) → m.shown-count.result ≡ count_at (seen m.args.first m.args.last m.args.current) (window m) (map (head_vals (window m)) (left m))
+counts m = m.shown-count.ensures ∙ ap (λ (n : ℕ). cond (seen m.args.first m.args.last m.args.current (window m)) n 0) m.judge_window-t.ensures.judged.1
 
 counts-few : (m : After-shown) → m.shown-count.result ≤ 32767
 counts-few m =
     let a = total-most (map (head_vals (window m)) (left m)) (and_right (heads_fine_all (window m) (left m)) _ (fine m)) in
-    by-test (seen (begun m).args.first (begun m).args.last (begun m).args.current (window m))
+    by-test (seen m.args.first m.args.last m.args.current (window m))
     (λ y. rw (counts m, y) a)
     (λ y. rw (counts m, y) (omega arith))
 
-fits : (m : After-shown) → let l = (within m).loop-top in let c = m.shown-count.result in (l.windows + bool_byte (ltb 0 c) + window m ≤ 65536) × (l.total + c ≤ 32767 * (l.windows + bool_byte (ltb 0 c)))
-fits m = let v = (within m).loop-top.invariant.4 in spread-fits _ _ (within m).loop-top.bound (window m) _ v.0 (low m) v.1 (counts-few m)
+fits : (m : After-shown) → let l = m.loop-top in let c = m.shown-count.result in (l.windows + bool_byte (ltb 0 c) + window m ≤ 65536) × (l.total + c ≤ 32767 * (l.windows + bool_byte (ltb 0 c)))
+fits m = let v = m.loop-top.invariant.4 in spread-fits _ _ m.loop-top.bound (window m) _ v.0 (low m) v.1 (counts-few m)
 
 pub overflow_add-windows : goal.overflow_add-windows
 overflow_add-windows c = omega (arith, (fits c.before).0)
@@ -112,9 +101,9 @@ overflow_add-total c = omega (arith, (fits c.before).0, (fits c.before).1)
 pub loop-top-preserved : goal.loop-top-preserved
 loop-top-preserved c =
     let t = c.judge_window-t.ensures in
-    let l = (within c.before).loop-top in
-    let o = seen (begun c.before).args.first (begun c.before).args.last (begun c.before).args.current in
-    (t.0.0 ∙ l.inv.0, t.0.1, t.1.0.2, t.1.1, fits c.before, l.inv.5 ∙ counted o l.bound l.windows l.total (left c.before) (window c.before) (high c.before) (low c.before) (fine c.before) _ (counts c.before) ∙ ap (resume o (window c.before) (l.windows + bool_byte (ltb 0 c.shown-count.result)) (l.total + c.shown-count.result)) (sym t.0.2))
+    let l = c.before.loop-top in
+    let o = seen c.before.args.first c.before.args.last c.before.args.current in
+    (t.heads.0 ∙ l.invariant.0, t.heads.1, t.judged.2, t.lead, fits c.before, l.invariant.5 ∙ counted o l.bound l.windows l.total (left c.before) (window c.before) (high c.before) (low c.before) (fine c.before) _ (counts c.before) ∙ ap (resume o (window c.before) (l.windows + bool_byte (ltb 0 c.shown-count.result)) (l.total + c.shown-count.result)) (sym t.heads.2))
 
 pub shape_of-heads : goal.shape_of-heads
 shape_of-heads c = c.loop-top.invariant.0

@@ -36,7 +36,7 @@ pub added-total-requires : goal.added-total-requires
 added-total-requires c =
     let t = c.take_led-t in
     let fs : SFits w32 t.result.sum = search rules in
-    rw (to_z-of_z fs) (omega (arith, t.ensures.taken.0.3, c.requires.1))
+    rw (to_z-of_z fs) (omega (arith, t.ensures.taken.3, c.requires.1))
 
 pub returns : goal.returns
 returns c =
@@ -64,15 +64,14 @@ returns c =
     let zt = to_z-of_z ft in
     let total = a.ensures ∙ ap₂ ◌+ℤ◌ (to_z-of_z fs) (to_z-of_z fq ∙ qq.2) in
     let g = views W R n H in
-    let v = view W R (part 4 n H) in (
-      (after-long n H X Y c.requires.0 front four, after-ready n H X Y c.requires.0 front four W R k tt.0.1 qq.0, after_both n H X Y c.requires.0 front four W R k tt.0.2 qq.1),
-      (
-        (
-          ap₂ ◌&&◌ (ap₂ ◌&&◌ tt.1.0.1 qq.3) (ap₂ ◌&&◌ (c.in_range.ensures ∙ ap in_range (to_z-of_z fs)) (c.in_range-2.ensures ∙ ap in_range zt))
-              ∙ fine-step g v k t.result.sum a.result tt.1.0.0 total,
-          c.above-count.ensures ∙ ap above zt ∙ counts_step g v k t.result.sum a.result tt.1.0.0 total,
-          rw (after-parts n H X Y c.requires.0 front four, after-part n H X Y c.requires.0 front four) (sym (top-step (views W R n X) (view W R Y) t.result.next q.result.reach _ tt.1.0.2 qq.4 c.larger-next.ensures)),
-        ),
-        rw (after-parts n H X Y c.requires.0 front four) tt.1.1,
-      ),
-    )
+    let v = view W R (part 4 n H) in
+    record {
+      heads = (after-long n H X Y c.requires.0 front four, after-ready n H X Y c.requires.0 front four W R k tt.heads.1 qq.0, after_both n H X Y c.requires.0 front four W R k tt.heads.2 qq.1);
+      judged = (
+        ap₂ ◌&&◌ (ap₂ ◌&&◌ tt.taken.1 qq.3) (ap₂ ◌&&◌ (c.in_range.ensures ∙ ap in_range (to_z-of_z fs)) (c.in_range-2.ensures ∙ ap in_range zt))
+            ∙ fine-step g v k t.result.sum a.result tt.taken.0 total,
+        c.above-count.ensures ∙ ap above zt ∙ counts_step g v k t.result.sum a.result tt.taken.0 total,
+        rw (after-parts n H X Y c.requires.0 front four, after-part n H X Y c.requires.0 front four) (sym (top-step (views W R n X) (view W R Y) t.result.next q.result.reach _ tt.taken.2 qq.4 c.larger-next.ensures)),
+      );
+      lead = rw (after-parts n H X Y c.requires.0 front four) tt.lead;
+    }
