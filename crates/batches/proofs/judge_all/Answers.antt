@@ -22,53 +22,22 @@ use Rattle.batches.proofs.Chain.{counts_at, reckoned-none, Reached, reached-end,
 use Rattle.batches.proofs.Held.{Loaded, Holding, holding-none, holding-next, loaded-read}
 use Rattle.batches.proofs.Judging.{reached-none, Going, going-refused, Onward, going_on}
 use Rattle.batches.proofs.judge_all.Goals as goal
-use Rattle.batches.proofs.judge_all.Lts as lts
-use Rattle.batches.proofs.judge_all.Tie as tie
-use Rattle.batches.proofs.judge_all.Reads as reads
-
-abbrev At-loop : Type 0
-At-loop = lts.At-loop tie.the-claims reads.Pre reads.Post goal.the-invariant-loop-i goal.the-decreases-loop-i
-
-abbrev After-b : Type 0
-After-b = lts.After-b tie.the-claims reads.Pre reads.Post goal.the-invariant-loop-i goal.the-decreases-loop-i
-
-abbrev Joined1 : Type 0
-Joined1 = lts.Joined1 tie.the-claims reads.Pre reads.Post goal.the-invariant-loop-i goal.the-decreases-loop-i
-
-abbrev After-judge-removal : Type 0
-After-judge-removal = lts.After-judge_removal tie.the-claims reads.Pre reads.Post goal.the-invariant-loop-i goal.the-decreases-loop-i
-
-abbrev At-match-keys2 : Type 0
-At-match-keys2 = lts.At-match-keys2 tie.the-claims reads.Pre reads.Post goal.the-invariant-loop-i goal.the-decreases-loop-i
 
 -- what the loop goes through
-abbrev state : At-loop → State
-state l = l.args.s
-
-abbrev card : At-loop → List ℕ
-card l = l.args.card.now
-
-abbrev named : At-loop → List ℕ
-named l = l.args.named.now
-
-abbrev counted : At-loop → ℕ → List Posting
-counted l = counts_at (state l) (card l)
-
 -- before the loop: refusals 1 to 3 have no cause for any window
-begins : (k : After-b) → Reached (store_of k.args.s k.args.card.now) k.args.named.now (counts_at k.args.s k.args.card.now) k.args.s k.args.card.now 0
-begins k =
-    let wide : length k.args.s.buffer.postings ≡ 128 = search (unmapped, rules, k.well_formed.0.1.1.1.1.1.0.1.1) in
-    let f : Fits w16 k.args.s.windows.last = search rules in
-    reached-none k.args.s k.args.card.now k.args.named.now k.requires wide (λ i. omega (arith, k.shared_slice_known-1.given i)) (omega (arith, f.fits))
-
 pub loop-i-init : goal.loop-i-init
 loop-i-init c =
+    let state : State = c.args.s in
+    let begins : Reached (store_of c.args.s c.args.card.now) c.args.named.now (counts_at c.args.s c.args.card.now) c.args.s c.args.card.now 0 =
+    let wide : length c.args.s.buffer.postings ≡ 128 = search (unmapped, rules, c.well_formed.0.1.1.1.1.1.0.1.1) in
+    let f : Fits w16 c.args.s.windows.last = search rules in
+    reached-none c.args.s c.args.card.now c.args.named.now c.requires wide (λ i. omega (arith, c.shared_slice_known-1.given i)) (omega (arith, f.fits)) in
     (
       omega arith,
       record {
         state = c.args.s;
         after = c.args.card.now;
-        reached = begins c.before;
+        reached = begins;
         reckoned = reckoned-none c.args.s c.args.card.now;
         windows = refl;
         buffer = refl;
@@ -80,42 +49,73 @@ loop-i-init c =
 -- where a portion begins, it is read
 pub read_all-requires : goal.read_all-requires
 read_all-requires c =
+    let begins : Reached (store_of c.args.s c.args.card.now) c.args.named.now (counts_at c.args.s c.args.card.now) c.args.s c.args.card.now 0 =
+    let wide : length c.args.s.buffer.postings ≡ 128 = search (unmapped, rules, c.well_formed.0.1.1.1.1.1.0.1.1) in
+    let f : Fits w16 c.args.s.windows.last = search rules in
+    reached-none c.args.s c.args.card.now c.args.named.now c.requires wide (λ i. omega (arith, c.shared_slice_known-1.given i)) (omega (arith, f.fits)) in
+    let named : List ℕ = c.args.named.now in
+    let state : State = c.args.s in
+    let card : List ℕ = c.args.card.now in
     let n = c.portion-count.result in
-    let h = (begins c.before.before.before.before.before.before.before).standing in
+    let h = begins.standing in
     let e : c.loop-i.i + n - c.loop-i.i ≡ n = omega arith in
-    let long : length (take n (drop c.loop-i.i (named c.before.before.before.before.before.before))) ≡ n = length-take-le n (drop c.loop-i.i (named c.before.before.before.before.before.before)) (omega (arith, length-drop c.loop-i.i (named c.before.before.before.before.before.before), c.portion-count.ensures)) in
-    (h.rule, card-words (state c.before.before.before.before.before.before) (card c.before.before.before.before.before.before) h.rule h.size, h.parts, rw e (omega (arith, long, c.portion-count.ensures)), rw e (omega (arith, long, length-take-le (65 * n - 0) c.loop-i.slots (omega (arith, c.loop-i.invariant.2.long, c.portion-count.ensures)))))
+    let long : length (take n (drop c.loop-i.i named)) ≡ n = length-take-le n (drop c.loop-i.i named) (omega (arith, length-drop c.loop-i.i named, c.portion-count.ensures)) in
+    (h.rule, card-words state card h.rule h.size, h.parts, rw e (omega (arith, long, c.portion-count.ensures)), rw e (omega (arith, long, length-take-le (65 * n - 0) c.loop-i.slots (omega (arith, c.loop-i.invariant.2.long, c.portion-count.ensures)))))
 
 -- so the window has its counts in its slot
-loaded : (j : Joined1) → Loaded (counted j.before.before) (named j.before.before) j.loop-i.i j.if-place-eq0.slots
-loaded j =
-    let i = j.loop-i.i in
-    let h = standing-drop (state j.before.before) (card j.before.before) (named j.before.before) (counted j.before.before) (begins j.before.before.before).standing i in
+pub slice_bounds-counts_of-end : goal.slice_bounds-counts_of-end
+slice_bounds-counts_of-end c =
+    let state : State = c.args.s in
+    let card : List ℕ = c.args.card.now in
+    let counted : ℕ → List Posting = counts_at state card in
+    let named : List ℕ = c.args.named.now in
+    let begins : Reached (store_of c.args.s c.args.card.now) c.args.named.now (counts_at c.args.s c.args.card.now) c.args.s c.args.card.now 0 =
+    let wide : length c.args.s.buffer.postings ≡ 128 = search (unmapped, rules, c.well_formed.0.1.1.1.1.1.0.1.1) in
+    let f : Fits w16 c.args.s.windows.last = search rules in
+    reached-none c.args.s c.args.card.now c.args.named.now c.requires wide (λ i. omega (arith, c.shared_slice_known-1.given i)) (omega (arith, f.fits)) in
+    let loaded : Loaded counted named.loop-i.i c.if-place-eq0.slots = let i = c.loop-i.i in
+    let h = standing-drop state card named counted begins.standing i in
     ⊎_elim
     (λ x. let n = x.portion-count in
     let e : i + n.result - i ≡ n.result = omega arith in
     let a = rw e at x.read_all.ensures in
-    subst (λ (T : List ℕ). Loaded (counted j.before.before) (named j.before.before) i T) (sym x.6)
-    (loaded-read (words (card j.before.before)) (state j.before.before) (counted j.before.before) (named j.before.before) j.requires.once i x.if-place-eq0.true n.result n.ensures x.read_all.result _ j.loop-i.slots a
-    (standing-fine (state j.before.before) (card j.before.before) (drop i (named j.before.before)) (counted j.before.before) h n.result x.read_all.result _ a) j.loop-i.invariant.2.long (λ k p q. refl)))
-    (λ x. subst (λ (T : List ℕ). Loaded (counted j.before.before) (named j.before.before) i T) (sym x.1) (j.loop-i.invariant.2.held x.if-place-eq0.false))
-    j.if-place-eq0.branch-raw
-
-pub slice_bounds-counts_of-end : goal.slice_bounds-counts_of-end
-slice_bounds-counts_of-end c = omega (arith, (loaded c.before).long)
+    subst (λ (T : List ℕ). Loaded counted named i T) (sym x.6)
+    (loaded-read (words card) state counted named.requires.once i x.if-place-eq0.true n.result n.ensures x.read_all.result _ c.loop-i.slots a
+    (standing-fine state card (drop i named) counted h n.result x.read_all.result _ a) c.loop-i.invariant.2.long (λ k p q. refl)))
+    (λ x. subst (λ (T : List ℕ). Loaded counted named i T) (sym x.1) (c.loop-i.invariant.2.held x.if-place-eq0.false))
+    c.if-place-eq0.branch-raw in
+    omega (arith, loaded.long)
 
 pub counts_of-c-requires : goal.counts_of-c-requires
 counts_of-c-requires c =
+    let state : State = c.args.s in
+    let card : List ℕ = c.args.card.now in
+    let counted : ℕ → List Posting = counts_at state card in
+    let named : List ℕ = c.args.named.now in
+    let begins : Reached (store_of c.args.s c.args.card.now) c.args.named.now (counts_at c.args.s c.args.card.now) c.args.s c.args.card.now 0 =
+    let wide : length c.args.s.buffer.postings ≡ 128 = search (unmapped, rules, c.well_formed.0.1.1.1.1.1.0.1.1) in
+    let f : Fits w16 c.args.s.windows.last = search rules in
+    reached-none c.args.s c.args.card.now c.args.named.now c.requires wide (λ i. omega (arith, c.shared_slice_known-1.given i)) (omega (arith, f.fits)) in
+    let loaded : Loaded counted named.loop-i.i c.if-place-eq0.slots = let i = c.loop-i.i in
+    let h = standing-drop state card named counted begins.standing i in
+    ⊎_elim
+    (λ x. let n = x.portion-count in
+    let e : i + n.result - i ≡ n.result = omega arith in
+    let a = rw e at x.read_all.ensures in
+    subst (λ (T : List ℕ). Loaded counted named i T) (sym x.6)
+    (loaded-read (words card) state counted named.requires.once i x.if-place-eq0.true n.result n.ensures x.read_all.result _ c.loop-i.slots a
+    (standing-fine state card (drop i named) counted h n.result x.read_all.result _ a) c.loop-i.invariant.2.long (λ k p q. refl)))
+    (λ x. subst (λ (T : List ℕ). Loaded counted named i T) (sym x.1) (c.loop-i.invariant.2.held x.if-place-eq0.false))
+    c.if-place-eq0.branch-raw in
     let i = c.loop-i.i in
-    rw (width 65 (i % 16)) ((loaded c.before.before.before).tidy i (omega arith) c.loop-i-test.true refl)
+    rw (width 65 (i % 16)) (loaded.tidy i (omega arith) c.loop-i-test.true refl)
 
 -- the buffer so far is a buffer
-used : (c : At-loop) → c.loop-i.b.used ≤ 128
-used c = let g = c.loop-i.invariant.1 in rw (← g.buffer) (state-kept g.state g.reached.standing.rule).buffer.used
-
 -- the numbers that flushes are judged by fit
 roomy : (s : State) (card : List ℕ) → state_rule s ≡ true → length card ≡ s.lengths.card → (r : Room) → (r ≡ room_of s) × (r.low ≤ 65535) × (r.used ≤ 219043332045) → Roomy r s.taken (words card)
 roomy s card rule size r e =
+    let used : s.loop-i.b.used ≤ 128 = let g = s.loop-i.invariant.1 in rw (← g.buffer) (state-kept g.state g.reached.standing.rule).buffer.used in
+    let card : List ℕ = s.args.card.now in
     let k = state-kept s rule in
     record {
       low = e.1;
@@ -127,39 +127,81 @@ roomy s card rule size r e =
 
 pub judge_removal-verdict-requires : goal.judge_removal-verdict-requires
 judge_removal-verdict-requires c =
+    let state : State = c.args.s in
+    let card : List ℕ = c.args.card.now in
+    let used : c.loop-i.b.used ≤ 128 = let g = c.loop-i.invariant.1 in rw (← g.buffer) (state-kept g.state g.reached.standing.rule).buffer.used in
     let p = c.requires in
-    (roomy (state c.before.before.before.before.before.before.before) (card c.before.before.before.before.before.before.before) p.rule p.size c.room_of-room.result c.room_of-room.ensures, omega (arith, c.loop-i.invariant.1.flushes, c.loop-i.invariant.0, c.requires.few), used c.before.before.before.before.before.before.before, c.counts_of-c.ensures.1.few)
+    (roomy state card p.rule p.size c.room_of-room.result c.room_of-room.ensures, omega (arith, c.loop-i.invariant.1.flushes, c.loop-i.invariant.0, c.requires.few), used, c.counts_of-c.ensures.1.few)
 
 -- the counts read are the window's
-counts : (m : After-judge-removal) → counts_in m.counts_of-c.result ≡ counted m.before.before.before.before.before.before.before (get_or (named m.before.before.before.before.before.before.before) m.loop-i.i 0)
-counts m =
-    let i = m.loop-i.i in
-    rw (width 65 (i % 16)) at m.counts_of-c.ensures.0 ∙ (loaded m.before.before.before.before.before).counts i (omega arith) m.loop-i-test.true refl
-
 -- what the removal is judged as
-judged : (m : After-judge-removal) → replied m.judge_removal-verdict.result
-    ≡ answer_of (removal_after (room_of (state m.before.before.before.before.before.before.before)) (state m.before.before.before.before.before.before.before).taken (words (card m.before.before.before.before.before.before.before)) m.loop-i.v m.loop-i.b m.loop-i.flushed (get_or (named m.before.before.before.before.before.before.before) m.loop-i.i 0) (counts_in m.counts_of-c.result))
-judged m = rw m.room_of-room.ensures.0 at m.judge_removal-verdict.ensures
-
 pub returns-in-Refused : goal.returns-in-Refused
 returns-in-Refused c =
-    going-refused (state c.before.before.before.before.before.before.before.before.before.before.before) (card c.before.before.before.before.before.before.before.before.before.before.before) (named c.before.before.before.before.before.before.before.before.before.before.before) c.requires.once c.loop-i.i c.loop-i.flushed c.loop-i.v c.loop-i.b c.loop-i.invariant.1 c.loop-i-test.true _ (rw (← counts c.before.before.before.before) (sym (judged c.before.before.before.before) ∙ ap replied c.in-Refused.is))
+    let state : State = c.args.s in
+    let card : List ℕ = c.args.card.now in
+    let named : List ℕ = c.args.named.now in
+    let counted : ℕ → List Posting = counts_at state card in
+    let begins : Reached (store_of c.args.s c.args.card.now) c.args.named.now (counts_at c.args.s c.args.card.now) c.args.s c.args.card.now 0 =
+    let wide : length c.args.s.buffer.postings ≡ 128 = search (unmapped, rules, c.well_formed.0.1.1.1.1.1.0.1.1) in
+    let f : Fits w16 c.args.s.windows.last = search rules in
+    reached-none c.args.s c.args.card.now c.args.named.now c.requires wide (λ i. omega (arith, c.shared_slice_known-1.given i)) (omega (arith, f.fits)) in
+    let loaded : Loaded counted named.loop-i.i c.if-place-eq0.slots = let i = c.loop-i.i in
+    let h = standing-drop state card named counted begins.standing i in
+    ⊎_elim
+    (λ x. let n = x.portion-count in
+    let e : i + n.result - i ≡ n.result = omega arith in
+    let a = rw e at x.read_all.ensures in
+    subst (λ (T : List ℕ). Loaded counted named i T) (sym x.6)
+    (loaded-read (words card) state counted named.requires.once i x.if-place-eq0.true n.result n.ensures x.read_all.result _ c.loop-i.slots a
+    (standing-fine state card (drop i named) counted h n.result x.read_all.result _ a) c.loop-i.invariant.2.long (λ k p q. refl)))
+    (λ x. subst (λ (T : List ℕ). Loaded counted named i T) (sym x.1) (c.loop-i.invariant.2.held x.if-place-eq0.false))
+    c.if-place-eq0.branch-raw in
+    let counts : counts_in c.counts_of-c.result ≡ counted (get_or named.loop-i.i 0) = let i = c.loop-i.i in
+    rw (width 65 (i % 16)) at c.counts_of-c.ensures.0 ∙ loaded.counts i (omega arith) c.loop-i-test.true refl in
+    let judged : replied c.judge_removal-verdict.result ≡ answer_of (removal_after (room_of state) state.taken (words card) c.loop-i.v c.loop-i.b c.loop-i.flushed (get_or named.loop-i.i 0) (counts_in c.counts_of-c.result)) =
+    rw c.room_of-room.ensures.0 at c.judge_removal-verdict.ensures in
+    going-refused state card named.requires.once c.loop-i.i c.loop-i.flushed c.loop-i.v c.loop-i.b c.loop-i.invariant.1 c.loop-i-test.true _ (rw (← counts) (sym judged ∙ ap replied c.in-Refused.is))
 
 pub must_flush-flush-requires : goal.must_flush-flush-requires
-must_flush-flush-requires c = (used c.before.before.before.before.before.before.before.before.before.before, c.counts_of-c.ensures.1.few)
+must_flush-flush-requires c =
+    let used : c.loop-i.b.used ≤ 128 = let g = c.loop-i.invariant.1 in rw (← g.buffer) (state-kept g.state g.reached.standing.rule).buffer.used in
+    (used, c.counts_of-c.ensures.1.few)
 
 -- a removal that is not refused goes on
 onward : (k : At-match-keys2) (flush : Bool) → flush ≡ ltb 128 (length (buffered k.loop-i.b) + length (counts_in k.counts_of-c.result))
     → Onward (state k.before.before.before.before.before.before.before.before) (card k.before.before.before.before.before.before.before.before) (named k.before.before.before.before.before.before.before.before) k.requires.once k.loop-i.i k.loop-i.flushed k.loop-i.v k.loop-i.b k.loop-i.invariant.1 k.loop-i-test.true flush k.counts_of-c.result
 onward k flush f =
-    going_on (state k.before.before.before.before.before.before.before.before) (card k.before.before.before.before.before.before.before.before) (named k.before.before.before.before.before.before.before.before) k.requires.once k.loop-i.i k.loop-i.flushed k.loop-i.v k.loop-i.b k.loop-i.invariant.1 k.loop-i-test.true k.counts_of-c.result k.counts_of-c.ensures.1 (counts k.before) flush f
-    (sym (judged k.before) ∙ ap replied (reply-done (tag_of the_type) (λ why. refl) k.judge_removal-verdict.result k.in_default.in_default-own.keys2))
+    let state : State = k.args.s in
+    let card : List ℕ = k.args.card.now in
+    let named : List ℕ = k.args.named.now in
+    let counted : ℕ → List Posting = counts_at state card in
+    let begins : Reached (store_of k.args.s k.args.card.now) k.args.named.now (counts_at k.args.s k.args.card.now) k.args.s k.args.card.now 0 =
+    let wide : length k.args.s.buffer.postings ≡ 128 = search (unmapped, rules, k.well_formed.0.1.1.1.1.1.0.1.1) in
+    let f : Fits w16 k.args.s.windows.last = search rules in
+    reached-none k.args.s k.args.card.now k.args.named.now k.requires wide (λ i. omega (arith, k.shared_slice_known-1.given i)) (omega (arith, f.fits)) in
+    let loaded : Loaded counted named.loop-i.i k.if-place-eq0.slots = let i = k.loop-i.i in
+    let h = standing-drop state card named counted begins.standing i in
+    ⊎_elim
+    (λ x. let n = x.portion-count in
+    let e : i + n.result - i ≡ n.result = omega arith in
+    let a = rw e at x.read_all.ensures in
+    subst (λ (T : List ℕ). Loaded counted named i T) (sym x.6)
+    (loaded-read (words card) state counted named.requires.once i x.if-place-eq0.true n.result n.ensures x.read_all.result _ k.loop-i.slots a
+    (standing-fine state card (drop i named) counted h n.result x.read_all.result _ a) k.loop-i.invariant.2.long (λ k p q. refl)))
+    (λ x. subst (λ (T : List ℕ). Loaded counted named i T) (sym x.1) (k.loop-i.invariant.2.held x.if-place-eq0.false))
+    k.if-place-eq0.branch-raw in
+    let counts : counts_in k.counts_of-c.result ≡ counted (get_or named.loop-i.i 0) = let i = k.loop-i.i in
+    rw (width 65 (i % 16)) at k.counts_of-c.ensures.0 ∙ loaded.counts i (omega arith) k.loop-i-test.true refl in
+    let judged : replied k.judge_removal-verdict.result ≡ answer_of (removal_after (room_of state) state.taken (words card) k.loop-i.v k.loop-i.b k.loop-i.flushed (get_or named.loop-i.i 0) (counts_in k.counts_of-c.result)) =
+    rw k.room_of-room.ensures.0 at k.judge_removal-verdict.ensures in
+    going_on state card named.requires.once k.loop-i.i k.loop-i.flushed k.loop-i.v k.loop-i.b k.loop-i.invariant.1 k.loop-i-test.true k.counts_of-c.result k.counts_of-c.ensures.1 counts flush f
+    (sym judged ∙ ap replied (reply-done (tag_of the_type) (λ why. refl) k.judge_removal-verdict.result k.in_default.in_default-own.keys2))
 
 pub take_back-b-requires : goal.take_back-b-requires
-take_back-b-requires c = rw c.begun.ensures (onward c.before.before.before.before _ c.must_flush-flush.ensures).takes
+take_back-b-requires c = rw c.begun.ensures (onward c.before _ c.must_flush-flush.ensures).takes
 
 pub one_less-v-requires : goal.one_less-v-requires
-one_less-v-requires c = (onward c.before.before.before.before.before _ c.must_flush-flush.ensures).live
+one_less-v-requires c = (onward c.before _ c.must_flush-flush.ensures).live
 
 pub counted-flushed-requires : goal.counted-flushed-requires
 counted-flushed-requires c =
@@ -170,10 +212,33 @@ overflow_add-i c = record { fits = omega (arith, c.loop-i.invariant.0, c.require
 
 pub loop-i-preserved : goal.loop-i-preserved
 loop-i-preserved c =
-    let o = onward c.before.before.before.before.before.before.before _ c.must_flush-flush.ensures in
-    (omega arith, rw (c.counted-flushed.ensures, c.one_less-v.ensures, c.take_back-b.ensures, c.begun.ensures) o.next, holding-next _ _ _ _ (loaded c.before.before.before.before.before.before.before.before.before.before.before.before.before))
+    let state : State = c.args.s in
+    let card : List ℕ = c.args.card.now in
+    let counted : ℕ → List Posting = counts_at state card in
+    let named : List ℕ = c.args.named.now in
+    let begins : Reached (store_of c.args.s c.args.card.now) c.args.named.now (counts_at c.args.s c.args.card.now) c.args.s c.args.card.now 0 =
+    let wide : length c.args.s.buffer.postings ≡ 128 = search (unmapped, rules, c.well_formed.0.1.1.1.1.1.0.1.1) in
+    let f : Fits w16 c.args.s.windows.last = search rules in
+    reached-none c.args.s c.args.card.now c.args.named.now c.requires wide (λ i. omega (arith, c.shared_slice_known-1.given i)) (omega (arith, f.fits)) in
+    let loaded : Loaded counted named.loop-i.i c.if-place-eq0.slots = let i = c.loop-i.i in
+    let h = standing-drop state card named counted begins.standing i in
+    ⊎_elim
+    (λ x. let n = x.portion-count in
+    let e : i + n.result - i ≡ n.result = omega arith in
+    let a = rw e at x.read_all.ensures in
+    subst (λ (T : List ℕ). Loaded counted named i T) (sym x.6)
+    (loaded-read (words card) state counted named.requires.once i x.if-place-eq0.true n.result n.ensures x.read_all.result _ c.loop-i.slots a
+    (standing-fine state card (drop i named) counted h n.result x.read_all.result _ a) c.loop-i.invariant.2.long (λ k p q. refl)))
+    (λ x. subst (λ (T : List ℕ). Loaded counted named i T) (sym x.1) (c.loop-i.invariant.2.held x.if-place-eq0.false))
+    c.if-place-eq0.branch-raw in
+    let o = onward c.before _ c.must_flush-flush.ensures in
+    (omega arith, rw (c.counted-flushed.ensures, c.one_less-v.ensures, c.take_back-b.ensures, c.begun.ensures) o.next, holding-next _ _ _ _ loaded)
 
 pub returns : goal.returns
 returns c =
+    let state : State = c.args.s in
+    let card : List ℕ = c.args.card.now in
+    let named : List ℕ = c.args.named.now in
+    let counted : ℕ → List Posting = counts_at state card in
     let g = c.loop-i.invariant.1 in
-    sym (ap answer_of (reached-end (store_of (state c.before.before) (card c.before.before)) (named c.before.before) (counted c.before.before) c.requires.once g.state g.after c.loop-i.i g.reached (search rules)))
+    sym (ap answer_of (reached-end (store_of state card) named counted.requires.once g.state g.after c.loop-i.i g.reached (search rules)))

@@ -17,12 +17,6 @@ use Rattle.flushes.proofs.Rooms.{room-left, chosen-there, chosen-free, counts-fi
 use Rattle.flushes.proofs.Targets.{block-found, none_found}
 use Rattle.batches.specs.Steps.{Writable, first_free}
 use Rattle.batches.proofs.list_flush.Goals as goal
-use Rattle.batches.proofs.list_flush.Lts as lts
-use Rattle.batches.proofs.list_flush.Tie as tie
-use Rattle.batches.proofs.list_flush.Reads as reads
-
-abbrev After-next-free : Type 0
-After-next-free = lts.After-next_free tie.the-claims reads.Pre reads.Post
 
 pub returns-then-not-flush : goal.returns-then-not-flush
 returns-then-not-flush c = rw (not-true c.args.flush c.if-not-flush.true-raw) (record { partitions = refl; taken = refl; written = refl })
@@ -32,10 +26,6 @@ chosen : (card : List ℕ) (n last : ℕ) (b : Buffer) (ps : Partitions) (w : Wr
 chosen card n last b ps w d e =
     let same : first_free card n last ≡ next_free w.state (words card) = rw (w.blocks, w.taken) in
     subst (Chosen w.state (words card)) (sym (e ∙ same)) w.chosen
-
-
-writable : (m : After-next-free) → Writable m.args.card.now m.args.blocks m.args.taken m.args.b m.args.ps
-writable m = m.requires (not-false _ m.if-not-flush.false-raw)
 
 pub next_free-free-requires : goal.next_free-free-requires
 next_free-free-requires c =
@@ -49,13 +39,14 @@ found m d e = (block-found (free_blocks (words m.args.card.now) m.args.blocks m.
 
 pub flush-list-requires : goal.flush-list-requires
 flush-list-requires c =
-    let a = c.before.before.before.before.before.args in
-    let w = writable c.before.before.before.before.before in
+    let writable : Writable c.args.card.now c.args.blocks c.args.taken c.args.b c.args.ps = c.requires (not-false _ c.if-not-flush.false-raw) in
+    let a = c.args in
+    let w = writable in
     let s = w.state in
     let k = state-kept s w.rule in
     let W = words a.card.now in
     let d = c.in-Block.block in
-    let ch : Chosen s W d = chosen a.card.now a.blocks a.taken a.b a.ps w d (found c.before.before.before.before.before d c.in-Block.is) in
+    let ch : Chosen s W d = chosen a.card.now a.blocks a.taken a.b a.ps w d (found c.before d c.in-Block.is) in
     let there = chosen-there s W d ch in (
       omega (arith, w.size, k.lengths.card),
       record { few = omega (arith, k.lengths.most_blocks, there); inside = omega (arith, w.size, k.lengths.card, length-words a.card.now, there) },
@@ -71,13 +62,14 @@ flush-list-requires c =
 
 pub returns-in-Nothing : goal.returns-in-Nothing
 returns-in-Nothing c =
-    let w = writable c.before.before.before in
-    let free = free_blocks (words c.before.before.before.args.card.now) c.before.before.before.args.blocks c.before.before.before.args.taken in
+    let writable : Writable c.args.card.now c.args.blocks c.args.taken c.args.b c.args.ps = c.requires (not-false _ c.if-not-flush.false-raw) in
+    let w = writable in
+    let free = free_blocks (words c.args.card.now) c.args.blocks c.args.taken in
     let none = none_found (tag_of the_type) (λ v. refl) free (ap (tag_of the_type) (sym c.next_free-free.ensures) ∙ c.in-Nothing.in-Nothing-own.keys1) in
     absurd (omega (arith, ap length (empty-is free none), rw (w.blocks, w.taken) at w.chosen.there))
 
 pub returns-in-Block : goal.returns-in-Block
 returns-in-Block c =
     let f = c.flush-list in
-    let e = found c.before.before.before.before.before.before.before.before c.in-Block.block c.in-Block.is in
-    rw (not-false c.before.before.before.before.before.before.before.before.args.flush c.if-not-flush.false-raw) (record { partitions = rw (← e) f.ensures.0; taken = e; written = rw (← e) f.ensures.1 })
+    let e = found c.before c.in-Block.block c.in-Block.is in
+    rw (not-false c.args.flush c.if-not-flush.false-raw) (record { partitions = rw (← e) f.ensures.0; taken = e; written = rw (← e) f.ensures.1 })

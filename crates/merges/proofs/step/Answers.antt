@@ -21,59 +21,19 @@ use Rattle.plans.proofs.Merged.{all-chained}
 use Rattle.plans.proofs.Stepping.{step-barred, step-granted, card-long, formed-first, formed-stands}
 use Rattle.plans.proofs.Planning.{next-told}
 use Rattle.merges.proofs.step.Goals as goal
-use Rattle.merges.proofs.step.Lts as lts
-use Rattle.merges.proofs.step.Tie as tie
-use Rattle.merges.proofs.step.Reads as reads
-
-abbrev At-match-keys2 : Type 0
-At-match-keys2 = lts.At-match-keys2 tie.the-claims reads.Pre reads.Post
-
-abbrev Start : Type 0
-Start = lts.Start tie.the-claims reads.Pre reads.Post
-
-abbrev Else1 : Type 0
-Else1 = lts.Else1 tie.the-claims reads.Pre reads.Post
-
-abbrev Else2 : Type 0
-Else2 = lts.Else2 tie.the-claims reads.Pre reads.Post
-
--- Admitted ---------------------------------------------------------------------------------------------------------------
-abbrev start : At-match-keys2 → Start
-start i = i.before.before.before.before.before
-
-abbrev state : At-match-keys2 → State
-state i = (start i).args.s
-
-abbrev card : At-match-keys2 → List ℕ
-card i = (start i).args.card.now
-
-passes : (i : At-match-keys2) → 0 ≡ first_of (1 ∷ 2 ∷ []) (card_tests (state_rule (state i)) (state i).lengths (card i))
-passes i =
-    rw (goes_on (tag_of the_type) (λ why. refl) i.judge_card-a.result i.in_default.in_default-own.keys2, i.state_ok.ensures) at i.judge_card-a.ensures
-
-sound : (i : At-match-keys2) → CardSound (state_rule (state i)) (state i).lengths (card i)
-sound i = card-sound (state_rule (state i)) (state i).lengths (card i) (passes i)
-
-long : (i : At-match-keys2) → length (words (card i)) ≡ 1024 * blocks (state i)
-long i = card-long (state i) (card i) (sound i).rule (sound i).size
 
 -- the rest decides
 by-third : (i : At-match-keys2) {a : Answer} {after : Store} → Gives (store_of (state i) (card i)) (third_on (state i) (card i)) a after
     → Gives (store_of (state i) (card i)) (step_of (store_of (state i) (card i))) a after
-by-third i = gives-by (step_of (store_of (state i) (card i))) (third_on (state i) (card i)) (step-granted (state i) (card i) (passes i))
+by-third i =
+    let state : State = i.args.s in
+    let card : List ℕ = i.args.card.now in
+    let passes : 0 ≡ first_of (1 ∷ 2 ∷ []) (card_tests (state_rule state) state.lengths card) =
+    rw (goes_on (tag_of the_type) (λ why. refl) i.judge_card-a.result i.in_default.in_default-own.keys2, i.state_ok.ensures) at i.judge_card-a.ensures in
+    gives-by (step_of (store_of state card)) (third_on state card) (step-granted state card passes)
 
 -- past the partitions
-abbrev first : Else1 → At-match-keys2
-first i = i.before.before.before.before.before
-
-formed : (i : Else1) → partitions_formed (words (card (first i))) (blocks (state (first i))) (finished (state (first i)).partitions) ≡ true
-formed i = sym i.partitions_ok.ensures ∙ not-false _ i.if-not-partitions_ok.false-raw
-
 -- past the output's blocks
-abbrev second : Else2 → Else1
-second i = i.before.before.before.before
-
--- Needs ------------------------------------------------------------------------------------------------------------------
 pub returns-in-Refused : goal.returns-in-Refused
 returns-in-Refused c =
     let a = c.args in
@@ -81,47 +41,77 @@ returns-in-Refused c =
 
 pub partitions_ok-requires : goal.partitions_ok-requires
 partitions_ok-requires c =
-    let k = state-kept (state c.before.before.before.before) (sound c.before.before.before.before).rule in
-    (long c.before.before.before.before, k.lengths.most_blocks, k.partitions.used, k.partitions.rules)
+    let state : State = c.args.s in
+    let card : List ℕ = c.args.card.now in
+    let passes : 0 ≡ first_of (1 ∷ 2 ∷ []) (card_tests (state_rule state) state.lengths card) =
+    rw (goes_on (tag_of the_type) (λ why. refl) c.judge_card-a.result c.in_default.in_default-own.keys2, c.state_ok.ensures) at c.judge_card-a.ensures in
+    let sound : CardSound (state_rule state) state.lengths card = card-sound (state_rule state) state.lengths card passes in
+    let long : length (words card) ≡ 1024 * blocks state = card-long state card sound.rule sound.size in
+    let k = state-kept state sound.rule in
+    (long, k.lengths.most_blocks, k.partitions.used, k.partitions.rules)
 
 pub returns-then-not-partitions_ok : goal.returns-then-not-partitions_ok
 returns-then-not-partitions_ok c =
+    let card : List ℕ = c.args.card.now in
+    let state : State = c.args.s in
     rw c.refuse-then-not-partitions_ok.ensures
-    (by-third c.before.before.before.before.before.before.before (stopped _ 3 _ (ap not (formed-first (words (card c.before.before.before.before.before.before.before)) (state c.before.before.before.before.before.before.before) (sym c.partitions_ok.ensures ∙ not-true _ c.if-not-partitions_ok.true-raw)))))
+    (by-third c.before (stopped _ 3 _ (ap not (formed-first (words card) state (sym c.partitions_ok.ensures ∙ not-true _ c.if-not-partitions_ok.true-raw)))))
 
 pub stands-requires : goal.stands-requires
 unfolding partitions_formed
 stands-requires c =
-    let i = first c.before.before.before in
-    let W = words (card i) in
-    let k = state-kept (state i) (sound i).rule in
-    let fin = finished (state i).partitions in
-    (long i, k.lengths.most_blocks, k.partitions.used, all-chained W (blocks (state i)) (long i) k.lengths.most_blocks fin (and_left (every (partition_rule W (blocks (state i))) fin) _ (formed c.before.before.before)))
+    let card : List ℕ = c.args.card.now in
+    let state : State = c.args.s in
+    let passes : 0 ≡ first_of (1 ∷ 2 ∷ []) (card_tests (state_rule state) state.lengths card) =
+    rw (goes_on (tag_of the_type) (λ why. refl) c.judge_card-a.result c.in_default.in_default-own.keys2, c.state_ok.ensures) at c.judge_card-a.ensures in
+    let sound : CardSound (state_rule state) state.lengths card = card-sound (state_rule state) state.lengths card passes in
+    let long : length (words card) ≡ 1024 * blocks state = card-long state card sound.rule sound.size in
+    let formed : partitions_formed (words card) (blocks state) (finished state.partitions) ≡ true = sym c.partitions_ok.ensures ∙ not-false _ c.if-not-partitions_ok.false-raw in
+    let W = words card in
+    let k = state-kept state sound.rule in
+    let fin = finished state.partitions in
+    (long, k.lengths.most_blocks, k.partitions.used, all-chained W (blocks state) long k.lengths.most_blocks fin (and_left (every (partition_rule W (blocks state)) fin) _ formed))
 
 pub returns-then-not-stands : goal.returns-then-not-stands
 returns-then-not-stands c =
-    let i = first c.before.before.before.before.before.before in
+    let card : List ℕ = c.args.card.now in
+    let state : State = c.args.s in
+    let formed : partitions_formed (words card) (blocks state) (finished state.partitions) ≡ true = sym c.partitions_ok.ensures ∙ not-false _ c.if-not-partitions_ok.false-raw in
     rw c.refuse-then-not-stands.ensures
-    (by-third i (stopped _ 3 _ (ap not (formed-stands (words (card i)) (state i) (formed c.before.before.before.before.before.before) (sym c.stands.ensures ∙ not-true _ c.if-not-stands.true-raw)))))
+    (by-third c (stopped _ 3 _ (ap not (formed-stands (words card) state formed (sym c.stands.ensures ∙ not-true _ c.if-not-stands.true-raw)))))
 
 pub inputs_of-is-requires : goal.inputs_of-is-requires
 inputs_of-is-requires c =
-    let i = first (second c.before) in
-    let k = (state-kept (state i) (sound i).rule).partitions in
+    let state : State = c.args.s in
+    let card : List ℕ = c.args.card.now in
+    let passes : 0 ≡ first_of (1 ∷ 2 ∷ []) (card_tests (state_rule state) state.lengths card) =
+    rw (goes_on (tag_of the_type) (λ why. refl) c.judge_card-a.result c.in_default.in_default-own.keys2, c.state_ok.ensures) at c.judge_card-a.ensures in
+    let sound : CardSound (state_rule state) state.lengths card = card-sound (state_rule state) state.lengths card passes in
+    let k = (state-kept state sound.rule).partitions in
     (k.used, k.form)
 
 pub output_level-requires : goal.output_level-requires
 output_level-requires c =
-    let i = first (second c.before.before.before) in
-    (state-kept (state i) (sound i).rule).partitions.used
+    let state : State = c.args.s in
+    let card : List ℕ = c.args.card.now in
+    let passes : 0 ≡ first_of (1 ∷ 2 ∷ []) (card_tests (state_rule state) state.lengths card) =
+    rw (goes_on (tag_of the_type) (λ why. refl) c.judge_card-a.result c.in_default.in_default-own.keys2, c.state_ok.ensures) at c.judge_card-a.ensures in
+    let sound : CardSound (state_rule state) state.lengths card = card-sound (state_rule state) state.lengths card passes in
+    (state-kept state sound.rule).partitions.used
 
 pub act-d-requires : goal.act-d-requires
 act-d-requires c =
-    let k = sound (first (second c.before.before.before.before)) in
+    let state : State = c.args.s in
+    let card : List ℕ = c.args.card.now in
+    let passes : 0 ≡ first_of (1 ∷ 2 ∷ []) (card_tests (state_rule state) state.lengths card) =
+    rw (goes_on (tag_of the_type) (λ why. refl) c.judge_card-a.result c.in_default.in_default-own.keys2, c.state_ok.ensures) at c.judge_card-a.ensures in
+    let sound : CardSound (state_rule state) state.lengths card = card-sound (state_rule state) state.lengths card passes in
+    let formed : partitions_formed (words card) (blocks state) (finished state.partitions) ≡ true = sym c.partitions_ok.ensures ∙ not-false _ c.if-not-partitions_ok.false-raw in
+    let k = sound in
     record {
       rule = k.rule;
       size = k.size;
-      formed = formed (second c.before.before.before.before);
+      formed = formed;
       stands = sym c.stands.ensures ∙ not-false _ c.if-not-stands.false-raw;
       are = c.inputs_of-is.ensures;
       level = c.output_level.ensures;
@@ -130,12 +120,16 @@ act-d-requires c =
 pub returns-then-not-d : goal.returns-then-not-d
 returns-then-not-d c =
     let q = c.act-d.ensures.stop (not-true _ c.if-not-d.true) in
-    rw (c.refuse-then-not-d.ensures, q.0) (by-third (first (second c.before.before.before.before.before.before.before.before.before.before)) q.1)
+    rw (c.refuse-then-not-d.ensures, q.0) (by-third c q.1)
 
 pub list_after-list-requires : goal.list_after-list-requires
 list_after-list-requires c =
-    let i = first (second c.before.before.before.before.before.before.before.before.before.before.before) in
-    let k = (state-kept (state i) (sound i).rule).partitions in
+    let state : State = c.args.s in
+    let card : List ℕ = c.args.card.now in
+    let passes : 0 ≡ first_of (1 ∷ 2 ∷ []) (card_tests (state_rule state) state.lengths card) =
+    rw (goes_on (tag_of the_type) (λ why. refl) c.judge_card-a.result c.in_default.in_default-own.keys2, c.state_ok.ensures) at c.judge_card-a.ensures in
+    let sound : CardSound (state_rule state) state.lengths card = card-sound (state_rule state) state.lengths card passes in
+    let k = (state-kept state sound.rule).partitions in
     (k.used, k.form, c.act-d.ensures.small (not-false _ c.if-not-d.false))
 
 pub job_after-job-requires : goal.job_after-job-requires
@@ -146,10 +140,11 @@ job_after-job-requires c =
 
 pub returns : goal.returns
 returns c =
-    let i = first (second c.before.before.before.before.before.before.before.before.before.before.before.before.before) in
-    let s = state i in
-    let b = card i in
+    let state : State = c.args.s in
+    let card : List ℕ = c.args.card.now in
+    let s = state in
+    let b = card in
     let a = c.act-d in
     let on = not-false _ c.if-not-d.false in
     let e = next-told s a.result.last a.result.totals a.result.output c.list_after-list.result c.job_after-job.result c.list_after-list.ensures c.job_after-job.ensures in
-    by-third i (subst (λ (x : State). Gives (store_of s b) (third_on s b) done (store_of x a.new.card)) (sym e) (a.ensures.done on))
+    by-third c (subst (λ (x : State). Gives (store_of s b) (third_on s b) done (store_of x a.new.card)) (sym e) (a.ensures.done on))

@@ -10,19 +10,6 @@ use Rattle.removals.specs.Removal.{removal_flushes}
 use Rattle.removals.proofs.Given.{names_open, no_live_window, names-the-open, names-no-live, some-live, flush-barred, removed-plain, removed-flushed, judged}
 use Rattle.removals.proofs.Takeables.{takeable-plain, takeable-flushed, live-flushed}
 use Rattle.removals.proofs.remove_counts.Goals as goal
-use Rattle.removals.proofs.remove_counts.Lts as lts
-use Rattle.removals.proofs.remove_counts.Tie as tie
-use Rattle.removals.proofs.remove_counts.Reads as reads
-
-abbrev After-target-of : Type 0
-After-target-of = lts.After-target_of tie.the-claims reads.Pre reads.Post
-
-
-shut : (m : After-target-of) → names_open m.args.s m.args.window ≡ false
-shut m = sym m.names_open.ensures ∙ m.if-names_open.false
-
-live : (m : After-target-of) → no_live_window m.args.s m.args.window (counts_in m.args.c) ≡ false
-live m = sym m.not_live.ensures ∙ m.if-not_live.false
 
 aimed : (m : After-target-of) (t : Target) → m.target_of-target.result ≡ t → Aimed (removal_flushes m.args.s (counts_in m.args.c)) m.args.s m.args.card.now t
 aimed m t e = judged m.args.s (counts_in m.args.c) m.args.card.now _ t m.must_flush.ensures (rw e at m.target_of-target.ensures)
@@ -44,34 +31,44 @@ must_flush-requires c =
 
 pub flushed-t-requires : goal.flushed-t-requires
 flushed-t-requires c =
-    (c.before.before.before.before.before.requires.rule, c.before.before.before.before.before.requires.size, (rw c.in-Block.is at c.target_of-target.ensures).1)
+    (c.requires.rule, c.requires.size, (rw c.in-Block.is at c.target_of-target.ensures).1)
 
 pub without-requires : goal.without-requires
 without-requires c =
-    let a = c.before.before.before.before.before.before.before.before.args in
+    let shut : names_open c.args.s c.args.window ≡ false = sym c.names_open.ensures ∙ c.if-names_open.false in
+    let live : no_live_window c.args.s c.args.window (counts_in c.args.c) ≡ false = sym c.not_live.ensures ∙ c.if-not_live.false in
+    let a = c.args in
     rw c.flushed-t.ensures.0
-    (takeable-flushed a.s a.card.now a.window a.c c.before.before.before.before.before.before.before.before.requires _, rw (live-flushed a.s a.card.now a.window a.c c.before.before.before.before.before.before.before.before.requires _) (some-live a.s a.card.now a.window (counts_in a.c) (shut c.before.before.before.before.before.before.before.before) (live c.before.before.before.before.before.before.before.before)))
+    (takeable-flushed a.s a.card.now a.window a.c c.requires _, rw (live-flushed a.s a.card.now a.window a.c c.requires _) (some-live a.s a.card.now a.window (counts_in a.c) shut live))
 
 pub without-requires-in-Nothing : goal.without-requires-in-Nothing
 without-requires-in-Nothing c =
-    let a = c.before.before.before.args in
+    let shut : names_open c.args.s c.args.window ≡ false = sym c.names_open.ensures ∙ c.if-names_open.false in
+    let live : no_live_window c.args.s c.args.window (counts_in c.args.c) ≡ false = sym c.not_live.ensures ∙ c.if-not_live.false in
+    let a = c.args in
     let none = nothing-told (tag_of the_type) (λ x. refl) (λ x. refl) c.target_of-target.result c.in-Nothing.in-Nothing-own.keys3 in
-    (takeable-plain a.s a.card.now a.window a.c c.before.before.before.requires (aimed c.before.before.before Target.Nothing none), some-live a.s a.card.now a.window (counts_in a.c) (shut c.before.before.before) (live c.before.before.before))
+    (takeable-plain a.s a.card.now a.window a.c c.requires (aimed c.before Target.Nothing none), some-live a.s a.card.now a.window (counts_in a.c) shut live)
 
 pub returns-in-Refused : goal.returns-in-Refused
 returns-in-Refused c =
-    let a = c.before.before.before.before.before.args in
-    rw c.refuse-in-Refused.ensures (flush-barred a.s a.card.now a.window (counts_in a.c) (shut c.before.before.before.before.before) (live c.before.before.before.before.before) c.in-Refused.why (aimed c.before.before.before.before.before (Target.Refused c.in-Refused.why) c.in-Refused.is))
+    let shut : names_open c.args.s c.args.window ≡ false = sym c.names_open.ensures ∙ c.if-names_open.false in
+    let live : no_live_window c.args.s c.args.window (counts_in c.args.c) ≡ false = sym c.not_live.ensures ∙ c.if-not_live.false in
+    let a = c.args in
+    rw c.refuse-in-Refused.ensures (flush-barred a.s a.card.now a.window (counts_in a.c) shut live.in-Refused.why (aimed c.before (Target.Refused c.in-Refused.why) c.in-Refused.is))
 
 pub returns-in-Block : goal.returns-in-Block
 returns-in-Block c =
-    let a = c.before.before.before.before.before.before.before.before.before.before.args in
+    let shut : names_open c.args.s c.args.window ≡ false = sym c.names_open.ensures ∙ c.if-names_open.false in
+    let live : no_live_window c.args.s c.args.window (counts_in c.args.c) ≡ false = sym c.not_live.ensures ∙ c.if-not_live.false in
+    let a = c.args in
     let f = c.flushed-t in
     rw (c.done.ensures, c.without.ensures, f.ensures.0, f.ensures.1)
-    (removed-flushed a.s a.card.now a.window (counts_in a.c) (shut c.before.before.before.before.before.before.before.before.before.before) (live c.before.before.before.before.before.before.before.before.before.before) c.in-Block.b (aimed c.before.before.before.before.before.before.before.before.before.before (Target.Block c.in-Block.b) c.in-Block.is))
+    (removed-flushed a.s a.card.now a.window (counts_in a.c) shut live.in-Block.b (aimed c.before (Target.Block c.in-Block.b) c.in-Block.is))
 
 pub returns-in-Nothing : goal.returns-in-Nothing
 returns-in-Nothing c =
-    let a = c.before.before.before.before.before.args in
+    let shut : names_open c.args.s c.args.window ≡ false = sym c.names_open.ensures ∙ c.if-names_open.false in
+    let live : no_live_window c.args.s c.args.window (counts_in c.args.c) ≡ false = sym c.not_live.ensures ∙ c.if-not_live.false in
+    let a = c.args in
     let none = nothing-told (tag_of the_type) (λ x. refl) (λ x. refl) c.target_of-target.result c.in-Nothing.in-Nothing-own.keys3 in
-    rw (c.done-in-Nothing.ensures, c.without-in-Nothing.ensures) (removed-plain a.s a.card.now a.window (counts_in a.c) (shut c.before.before.before.before.before) (live c.before.before.before.before.before) (aimed c.before.before.before.before.before Target.Nothing none))
+    rw (c.done-in-Nothing.ensures, c.without-in-Nothing.ensures) (removed-plain a.s a.card.now a.window (counts_in a.c) shut live (aimed c.before Target.Nothing none))

@@ -4,26 +4,18 @@ use Rattle.state.specs.Views.{finished, partitions_of, no_partition}
 use Rattle.stretches.specs.Reached.{reaches}
 use Rattle.stretches.proofs.Finding.{found-few, found-more, found-same}
 use Rattle.stretches.proofs.reached.Goals as goal
-use Rattle.stretches.proofs.reached.Lts as lts
-use Rattle.stretches.proofs.reached.Tie as tie
-use Rattle.stretches.proofs.reached.Reads as reads
-
-abbrev Then1 : Type 0
-Then1 = lts.Then1 tie.the-claims reads.Pre reads.Post goal.the-invariant-loop-i goal.the-decreases-loop-i
 
 pub loop-i-init : goal.loop-i-init
 loop-i-init c = (search (unmapped, rules), omega arith, refl)
 
 -- the turn of the loop at which a partition is found: those found before are fewer than 51
-room : (c : Then1) → c.loop-i.found.used < 51
-room c =
-    let ps = c.args.ps in
+pub overflow_add-found : goal.overflow_add-found
+overflow_add-found c =
+    let room : c.loop-i.found.used < 51 = let ps = c.args.ps in
     let v = c.loop-i.invariant in
     let few = found-few (reaches c.args.t) ps.records ps.used c.loop-i.i no_partition (omega (arith, v.0)) c.requires c.loop-i-test.true in
-    omega (arith, few, ap (λ (x : Partitions). x.used) v.2)
-
-pub overflow_add-found : goal.overflow_add-found
-overflow_add-found c = record { fits = omega (arith, room c.before) }
+    omega (arith, few, ap (λ (x : Partitions). x.used) v.2) in
+    record { fits = omega (arith, room) }
 
 pub loop-i-preserved : goal.loop-i-preserved
 loop-i-preserved c =
@@ -47,7 +39,17 @@ returns c =
     v.2 ∙ ap (λ l. partitions_of (keep (reaches c.args.t) l)) (take_all c.loop-i.i (finished ps) (omega (arith, all, c.loop-i-test.false)))
 
 pub overflow_cast-k : goal.overflow_cast-k
-overflow_cast-k c = record { fits = omega (arith, room c.before) }
+overflow_cast-k c =
+    let room : c.loop-i.found.used < 51 = let ps = c.args.ps in
+    let v = c.loop-i.invariant in
+    let few = found-few (reaches c.args.t) ps.records ps.used c.loop-i.i no_partition (omega (arith, v.0)) c.requires c.loop-i-test.true in
+    omega (arith, few, ap (λ (x : Partitions). x.used) v.2) in
+    record { fits = omega (arith, room) }
 
 pub offset_bounds-found-k : goal.offset_bounds-found-k
-offset_bounds-found-k c = record { fits = omega (arith, room c.before) }
+offset_bounds-found-k c =
+    let room : c.loop-i.found.used < 51 = let ps = c.args.ps in
+    let v = c.loop-i.invariant in
+    let few = found-few (reaches c.args.t) ps.records ps.used c.loop-i.i no_partition (omega (arith, v.0)) c.requires c.loop-i-test.true in
+    omega (arith, few, ap (λ (x : Partitions). x.used) v.2) in
+    record { fits = omega (arith, room) }
