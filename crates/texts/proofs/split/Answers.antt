@@ -20,8 +20,8 @@ loop-i-preserved c =
     (λ w.
     let b : c.loop-i.start < c.loop-i.i = omega (arith, i.0.begun, w.if-start-i.false) in
     let m : c.loop-i.n < length c.args.parts.now = omega (arith, i.0.twice, i.0.within) in
-    (rw (w.3, w.4, w.5) (on-space i.0 h _ (eq-eqb _ _ w.if-line-i-eq32.true) b m refl), i.1, i.2))
-    (λ w. (rw (w.1, w.2, w.3) (on-byte i.0 h (ne_eqb _ _ w.if-line-i-eq32.false)), i.1, i.2))
+    (rw (w.parts-is, w.n-is, w.start-is) (on-space i.0 h _ (eq-eqb _ _ w.if-line-i-eq32.true) b m refl), i.1, i.2))
+    (λ w. (rw (w.parts-is, w.n-is, w.start-is) (on-byte i.0 h (ne_eqb _ _ w.if-line-i-eq32.false)), i.1, i.2))
     c.if-line-i-eq32.branch-raw
 
 pub returns-then-start-i-2 : goal.returns-then-start-i-2
