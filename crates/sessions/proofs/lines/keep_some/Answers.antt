@@ -10,8 +10,8 @@ loop-i-preserved c =
     let s = c.loop-i.invariant in
     let h = c.loop-i-test.true in
     let f = c.if-b-eq10.false in
-    ⊎_elim (λ w. keep-as w.1 w.2 (keep-more s h f w.if-n-lt513.true (omega (arith, s.long, c.requires))))
-    (λ w. keep-as w.1 w.2 (keep-past s h f w.if-n-lt513.false (omega (arith, s.long, c.requires)))) c.if-n-lt513.branch-raw
+    ⊎_elim (λ w. keep-as w.line-is w.n-is (keep-more s h f w.if-n-lt513.true (omega (arith, s.long, c.requires))))
+    (λ w. keep-as w.line-is w.n-is (keep-past s h f w.if-n-lt513.false (omega (arith, s.long, c.requires)))) c.if-n-lt513.branch-raw
 
 pub returns-after-loop-i : goal.returns-after-loop-i
 returns-after-loop-i c = keep-stopped c.loop-i.invariant (λ h. omega arith)
