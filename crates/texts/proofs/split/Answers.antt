@@ -1,5 +1,5 @@
-use Rattle.lists.proofs.Prelude.{refl, sym, ◌≤◌, ◌<◌, ◌-◌, arith, rules, length, length-set, eq-eqb, ne_eqb}
-use Rattle.texts.proofs.Splitting.{Splitting, start-split, on-byte, on-space, on-gap, on-nothing, on-last, too_long}
+use Rattle.lists.proofs.Prelude.{refl, sym, ◌<◌, arith, rules, length, length-set, eq-eqb, ne_eqb}
+use Rattle.texts.proofs.Splitting.{start-split, on-byte, on-space, on-gap, on-nothing, on-last, too_long}
 use Rattle.texts.proofs.split.Goals as goal
 use Rattle.texts.proofs.split.Goals.{then-line-i-eq32+else-start-i, else-line-i-eq32}
 

@@ -1,5 +1,5 @@
 -- `texts::writing::put_number` meets its contract.
-use Rattle.lists.proofs.Prelude.{◌∙◌, arith, rules}
+use Rattle.lists.proofs.Prelude.{◌∙◌, arith}
 use Rattle.texts.proofs.Decimals.{fewest-decimal, few-digits}
 use Rattle.texts.proofs.Appending.{wrote_as}
 use Rattle.texts.proofs.writing.put_number.Goals as goal
