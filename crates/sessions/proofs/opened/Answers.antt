@@ -1,7 +1,6 @@
 -- `sessions::opened` meets its contract.
 use Rattle.sessions.proofs.Carried.{on-state, written}
 use Rattle.engine.specs.Calls.{probe_call}
-use borrow.Author.Rules.{rules}
 use Rattle.sessions.proofs.opened.Goals as goal
 
 pub returns : goal.returns

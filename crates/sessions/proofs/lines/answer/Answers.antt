@@ -1,5 +1,5 @@
 -- `sessions::lines::answer` meets its contract.
-use Rattle.lists.proofs.Prelude.{arith, rules}
+use Rattle.lists.proofs.Prelude.{arith}
 use Rattle.sessions.proofs.Taking.{answered}
 use Rattle.sessions.proofs.lines.answer.Goals as goal
 

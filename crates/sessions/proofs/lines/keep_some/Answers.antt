@@ -1,5 +1,5 @@
-use Rattle.lists.proofs.Prelude.{◌-◌, arith, length, rules}
-use Rattle.sessions.proofs.Taking.{Keeping, keep-none, keep-more, keep-past, keep-stopped, keep-as}
+use Rattle.lists.proofs.Prelude.{arith}
+use Rattle.sessions.proofs.Taking.{keep-none, keep-more, keep-past, keep-stopped, keep-as}
 use Rattle.sessions.proofs.lines.keep_some.Goals as goal
 use Rattle.sessions.proofs.lines.keep_some.Goals.{then-n-lt513, else-n-lt513}
 
