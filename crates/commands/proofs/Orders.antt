@@ -4,7 +4,6 @@ use mathlib.Core.Option.{Option, none, some}
 use denote.Ref.{Bor}
 use Rattle.identifiers.proofs.Lent.{nothing, lent_at}
 use Rattle.identifiers.specs.Names.{Name}
-use Rattle.answers.specs.Calls.{Open, Close, Flush, Step}
 use Rattle.texts.specs.Fields.{number_in}
 use Rattle.commands.specs.declared.Change.TheVariants as change
 use Rattle.commands.specs.declared.Order.{Order}

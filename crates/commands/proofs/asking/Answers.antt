@@ -1,5 +1,4 @@
 -- `commands::asking` meets its contract.
-use borrow.Author.Rules.{rules}
 use Rattle.commands.proofs.asking.Goals as goal
 
 pub returns-in-Value : goal.returns-in-Value

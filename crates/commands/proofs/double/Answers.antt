@@ -1,6 +1,5 @@
 -- `commands::double` meets its contract.
 use Rattle.commands.proofs.Orders.{counts, removes, asks, unknown, none-double}
-use borrow.Author.Rules.{rules}
 use Rattle.commands.proofs.double.Goals as goal
 
 pub returns-then-letter-eq69 : goal.returns-then-letter-eq69

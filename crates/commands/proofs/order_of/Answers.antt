@@ -1,5 +1,5 @@
 -- `commands::order_of` meets its contract.
-use Rattle.lists.proofs.Prelude.{arith, refl, rules}
+use Rattle.lists.proofs.Prelude.{arith, refl}
 use Rattle.commands.proofs.Orders.{without-fields, without-letter, one_field, two_fields, more-fields, asks, unknown, none_more}
 use Rattle.commands.proofs.order_of.Goals as goal
 

@@ -1,5 +1,4 @@
 -- `commands::removal` meets its contract.
-use borrow.Author.Rules.{rules}
 use Rattle.commands.proofs.removal.Goals as goal
 
 pub returns-in-Value : goal.returns-in-Value

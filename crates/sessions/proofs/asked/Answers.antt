@@ -1,6 +1,5 @@
 -- `sessions::asked` meets its contract.
 use Rattle.sessions.proofs.Carried.{few-found, written-found}
-use borrow.Author.Rules.{rules}
 use Rattle.sessions.proofs.asked.Goals as goal
 
 pub write_found-used-requires : goal.write_found-used-requires

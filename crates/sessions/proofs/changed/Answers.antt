@@ -1,6 +1,5 @@
 -- `sessions::changed` meets its contract.
 use Rattle.sessions.proofs.Carried.{written}
-use borrow.Author.Rules.{rules}
 use Rattle.sessions.proofs.changed.Goals as goal
 
 pub returns : goal.returns

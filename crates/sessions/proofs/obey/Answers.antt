@@ -1,5 +1,5 @@
 -- `sessions::obey` meets its contract.
-use Rattle.lists.proofs.Prelude.{sym, ap, arith, length-take-le, rules}
+use Rattle.lists.proofs.Prelude.{sym, ap, arith, length-take-le}
 use Rattle.commands.specs.Commands.{call_in}
 use Rattle.sessions.proofs.Carried.{obeys-as}
 use Rattle.sessions.proofs.obey.Goals as goal

@@ -1,7 +1,6 @@
 -- `sessions::obey_fields` meets its contract: by cases of the order.
 use Rattle.sessions.proofs.Carried.{obeys-as}
 use Rattle.sessions.proofs.Fields.{reached, called, called-query}
-use borrow.Author.Rules.{rules}
 use Rattle.sessions.proofs.obey_fields.Goals as goal
 
 pub changed-requires : goal.changed-requires

@@ -2,7 +2,6 @@
 use Rattle.sessions.proofs.Carried.{on-state, on_store}
 use Rattle.identifiers.proofs.Lent.{lent_at}
 use Rattle.engine.specs.Calls.{probe_call}
-use borrow.Author.Rules.{rules}
 use Rattle.sessions.proofs.reply_to.Goals as goal
 
 pub bounds-parts-1 : goal.bounds-parts-1

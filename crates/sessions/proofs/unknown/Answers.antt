@@ -1,5 +1,5 @@
 -- `sessions::unknown` meets its contract.
-use Rattle.lists.proofs.Prelude.{refl, rules}
+use Rattle.lists.proofs.Prelude.{refl}
 use Rattle.sessions.specs.Answering.{text_of, left_of}
 use Rattle.sessions.proofs.unknown.Goals as goal
 

@@ -1,6 +1,6 @@
 -- `texts::read_number` meets its contract: the number of the whole field is that of what is left after the digits read.
-use Rattle.lists.proofs.Prelude.{◌-◌, arith, length, not-true, not-false}
-use Rattle.texts.proofs.Reading.{Reading, none-long, start-reading, digit-range, room, no_digit, on-digit, all_read}
+use Rattle.lists.proofs.Prelude.{◌-◌, length}
+use Rattle.texts.proofs.Reading.{Reading}
 use Rattle.texts.proofs.read_number.Given as goal
 
 abbrev pub invariant-loop-i : goal.invariant-loop-i

@@ -1,6 +1,7 @@
-use Rattle.lists.proofs.Prelude.{⊎_elim, refl, sym, ◌≤◌, ◌<◌, ◌-◌, arith, rules, length, length-set, eq-eqb, ne_eqb}
-use Rattle.texts.proofs.Splitting.{Splitting, start-split, on-byte, on-space, on-gap, on-nothing, on-last, too_long}
+use Rattle.lists.proofs.Prelude.{refl, sym, ◌<◌, arith, rules, length, length-set, eq-eqb, ne_eqb}
+use Rattle.texts.proofs.Splitting.{start-split, on-byte, on-space, on-gap, on-nothing, on-last, too_long}
 use Rattle.texts.proofs.split.Goals as goal
+use Rattle.texts.proofs.split.Goals.{then-line-i-eq32+else-start-i, else-line-i-eq32}
 
 pub returns-then-line-gt512 : goal.returns-then-line-gt512
 returns-then-line-gt512 c = (sym (too_long _ (omega arith)), omega arith, search rules)
@@ -16,13 +17,13 @@ pub loop-i-preserved : goal.loop-i-preserved
 loop-i-preserved c =
     let i = c.loop-i.invariant in
     let h : c.loop-i.i < length c.args.line.now = omega arith in
-    ⊎_elim
-    (λ w.
-    let b : c.loop-i.start < c.loop-i.i = omega (arith, i.0.begun, w.if-start-i.false) in
-    let m : c.loop-i.n < length c.args.parts.now = omega (arith, i.0.twice, i.0.within) in
-    (rw (w.3, w.4, w.5) (on-space i.0 h _ (eq-eqb _ _ w.if-line-i-eq32.true) b m refl), i.1, i.2))
-    (λ w. (rw (w.1, w.2, w.3) (on-byte i.0 h (ne_eqb _ _ w.if-line-i-eq32.false)), i.1, i.2))
-    c.if-line-i-eq32.branch-raw
+    elim c.if-line-i-eq32.branch [
+      then-line-i-eq32+else-start-i w ↦
+      let b : c.loop-i.start < c.loop-i.i = omega (arith, i.0.begun, w.if-start-i.false) in
+      let m : c.loop-i.n < length c.args.parts.now = omega (arith, i.0.twice, i.0.within) in
+      (rw (w.parts-is, w.n-is, w.start-is) (on-space i.0 h _ (eq-eqb _ _ w.if-line-i-eq32.true) b m refl), i.1, i.2)
+      | else-line-i-eq32 w ↦ (rw (w.parts-is, w.n-is, w.start-is) (on-byte i.0 h (ne_eqb _ _ w.if-line-i-eq32.false)), i.1, i.2)
+    ]
 
 pub returns-then-start-i-2 : goal.returns-then-start-i-2
 returns-then-start-i-2 c =

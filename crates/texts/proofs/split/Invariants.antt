@@ -1,6 +1,6 @@
 -- `texts::split` meets its contract. Each field has a byte at least and a space after it, so that 512 bytes have at most 256.
-use Rattle.lists.proofs.Prelude.{⊎_elim, refl, sym, ◌≤◌, ◌<◌, ◌-◌, arith, rules, length, length-set, eq-eqb, ne_eqb}
-use Rattle.texts.proofs.Splitting.{Splitting, start-split, on-byte, on-space, on-gap, on-nothing, on-last, too_long}
+use Rattle.lists.proofs.Prelude.{◌≤◌, ◌-◌, length}
+use Rattle.texts.proofs.Splitting.{Splitting}
 use Rattle.texts.proofs.split.Given as goal
 
 abbrev pub invariant-loop-i : goal.invariant-loop-i

@@ -1,6 +1,7 @@
-use Rattle.lists.proofs.Prelude.{⊎_elim, ◌-◌, arith, length, rules}
-use Rattle.sessions.proofs.Taking.{Keeping, keep-none, keep-more, keep-past, keep-stopped, keep-as}
+use Rattle.lists.proofs.Prelude.{arith}
+use Rattle.sessions.proofs.Taking.{keep-none, keep-more, keep-past, keep-stopped, keep-as}
 use Rattle.sessions.proofs.lines.keep_some.Goals as goal
+use Rattle.sessions.proofs.lines.keep_some.Goals.{then-n-lt513, else-n-lt513}
 
 pub loop-i-init : goal.loop-i-init
 loop-i-init c = keep-none _ _ _ (omega arith)
@@ -10,8 +11,10 @@ loop-i-preserved c =
     let s = c.loop-i.invariant in
     let h = c.loop-i-test.true in
     let f = c.if-b-eq10.false in
-    ⊎_elim (λ w. keep-as w.1 w.2 (keep-more s h f w.if-n-lt513.true (omega (arith, s.long, c.requires))))
-    (λ w. keep-as w.1 w.2 (keep-past s h f w.if-n-lt513.false (omega (arith, s.long, c.requires)))) c.if-n-lt513.branch-raw
+    elim c.if-n-lt513.branch [
+      then-n-lt513 w ↦ keep-as w.line-is w.n-is (keep-more s h f w.if-n-lt513.true (omega (arith, s.long, c.requires)))
+      | else-n-lt513 w ↦ keep-as w.line-is w.n-is (keep-past s h f w.if-n-lt513.false (omega (arith, s.long, c.requires)))
+    ]
 
 pub returns-after-loop-i : goal.returns-after-loop-i
 returns-after-loop-i c = keep-stopped c.loop-i.invariant (λ h. omega arith)

@@ -1,6 +1,6 @@
 -- `sessions::lines::keep_some` meets its contract: byte by byte, what is kept is what is in hand.
-use Rattle.lists.proofs.Prelude.{⊎_elim, ◌-◌, arith, length, rules}
-use Rattle.sessions.proofs.Taking.{Keeping, keep-none, keep-more, keep-past, keep-stopped, keep-as}
+use Rattle.lists.proofs.Prelude.{◌-◌, length}
+use Rattle.sessions.proofs.Taking.{Keeping}
 use Rattle.sessions.proofs.lines.keep_some.Given as goal
 
 abbrev pub invariant-loop-i : goal.invariant-loop-i

@@ -1,5 +1,5 @@
 -- `sessions::lines::take_end` meets its contract.
-use Rattle.lists.proofs.Prelude.{sym, arith, length-take-le, rules}
+use Rattle.lists.proofs.Prelude.{sym, arith, length-take-le}
 use Rattle.sessions.proofs.Taking.{end_none, end_line}
 use Rattle.sessions.proofs.lines.take_end.Goals as goal
 

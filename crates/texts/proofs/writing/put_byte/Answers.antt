@@ -1,6 +1,5 @@
 -- `texts::writing::put_byte` meets its contract.
 use Rattle.texts.proofs.Appending.{wrote-byte}
-use borrow.Author.Rules.{rules}
 use Rattle.texts.proofs.writing.put_byte.Goals as goal
 
 pub returns : goal.returns

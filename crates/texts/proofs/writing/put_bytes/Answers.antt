@@ -1,5 +1,5 @@
-use Rattle.lists.proofs.Prelude.{◌+◌, ◌≤◌, ◌-◌, rules, arith, length}
-use Rattle.texts.proofs.Appending.{Copying, copy-none, copy_more, copy-all}
+use Rattle.lists.proofs.Prelude.{arith}
+use Rattle.texts.proofs.Appending.{copy-none, copy_more, copy-all}
 use Rattle.texts.proofs.writing.put_bytes.Goals as goal
 
 pub loop-i-init : goal.loop-i-init

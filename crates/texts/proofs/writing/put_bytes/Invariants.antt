@@ -1,6 +1,6 @@
 -- `texts::writing::put_bytes` meets its contract.
-use Rattle.lists.proofs.Prelude.{◌+◌, ◌≤◌, ◌-◌, rules, arith, length}
-use Rattle.texts.proofs.Appending.{Copying, copy-none, copy_more, copy-all}
+use Rattle.lists.proofs.Prelude.{◌+◌, ◌≤◌, ◌-◌, length}
+use Rattle.texts.proofs.Appending.{Copying}
 use Rattle.texts.proofs.writing.put_bytes.Given as goal
 
 abbrev pub invariant-loop-i : goal.invariant-loop-i

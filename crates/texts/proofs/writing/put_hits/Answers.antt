@@ -1,5 +1,5 @@
-use Rattle.lists.proofs.Prelude.{◌≡◌, ◌-◌, arith, rules, unmapped}
-use Rattle.texts.proofs.Hits.{Listing, list-none, list-more}
+use Rattle.lists.proofs.Prelude.{◌≡◌, arith, rules, unmapped}
+use Rattle.texts.proofs.Hits.{list-none, list-more}
 use Rattle.texts.proofs.writing.put_hits.Goals as goal
 
 pub loop-i-init : goal.loop-i-init

@@ -1,6 +1,6 @@
 -- `texts::writing::put_hits` meets its contract.
-use Rattle.lists.proofs.Prelude.{◌≡◌, ◌-◌, arith, rules, unmapped}
-use Rattle.texts.proofs.Hits.{Listing, list-none, list-more}
+use Rattle.lists.proofs.Prelude.{◌-◌}
+use Rattle.texts.proofs.Hits.{Listing}
 use Rattle.texts.proofs.writing.put_hits.Given as goal
 
 abbrev pub invariant-loop-i : goal.invariant-loop-i

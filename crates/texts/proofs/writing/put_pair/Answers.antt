@@ -1,5 +1,5 @@
 -- `texts::writing::put_pair` meets its contract.
-use Rattle.lists.proofs.Prelude.{arith, rules}
+use Rattle.lists.proofs.Prelude.{arith}
 use Rattle.texts.proofs.Appending.{wrote_then}
 use Rattle.texts.proofs.writing.put_pair.Goals as goal
 

@@ -1,5 +1,5 @@
 -- `texts::writing::put_refusal` meets its contract.
-use Rattle.lists.proofs.Prelude.{arith, rules}
+use Rattle.lists.proofs.Prelude.{arith}
 use Rattle.texts.specs.Texts.{answer_text}
 use Rattle.texts.proofs.Appending.{wrote_then, says_all}
 use Rattle.texts.proofs.writing.put_refusal.Goals as goal

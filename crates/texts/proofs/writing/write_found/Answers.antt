@@ -1,5 +1,4 @@
 -- `texts::writing::write_found` meets its contract.
-use borrow.Author.Rules.{rules}
 use Rattle.texts.proofs.writing.write_found.Goals as goal
 
 pub put_found-requires : goal.put_found-requires

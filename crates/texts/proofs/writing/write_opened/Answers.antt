@@ -1,6 +1,5 @@
 -- `texts::writing::write_opened` meets its contract.
 use Rattle.texts.specs.Texts.{answer_text}
-use borrow.Author.Rules.{rules}
 use Rattle.texts.proofs.writing.write_opened.Goals as goal
 
 pub returns-in-Number : goal.returns-in-Number

@@ -1,6 +1,5 @@
 -- `texts::writing::write_reply` meets its contract.
 use Rattle.texts.specs.Texts.{answer_text, decimal, decimal_in}
-use borrow.Author.Rules.{rules}
 use Rattle.texts.proofs.writing.write_reply.Goals as goal
 
 pub returns-in-Done : goal.returns-in-Done

@@ -1,5 +1,5 @@
 -- `texts::writing::write_unknown` meets its contract.
-use Rattle.lists.proofs.Prelude.{arith, rules}
+use Rattle.lists.proofs.Prelude.{arith}
 use Rattle.texts.specs.Texts.{unknown_text}
 use Rattle.texts.proofs.Appending.{wrote_then, says_all}
 use Rattle.texts.proofs.writing.write_unknown.Goals as goal
