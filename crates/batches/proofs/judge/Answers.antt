@@ -14,8 +14,6 @@ use Rattle.removals.proofs.Turns.{card-words}
 use Rattle.batches.proofs.Turns.{batch-barred, bad-partitions, bad-lists, bad-batch, admitted, goes_on}
 use Rattle.batches.proofs.judge.Goals as goal
 
--- past the partitions
--- past the lists
 pub returns-in-Refused : goal.returns-in-Refused
 returns-in-Refused c =
     let a = c.args in
@@ -60,7 +58,7 @@ returns-then-not-lists_ok c =
     card-sound (state_rule state) state.lengths card
     (rw (granted (tag_of the_type) (λ why. refl) c.judge_card-a.result c.in_default.in_default-own.keys2, c.state_ok.ensures) at c.judge_card-a.ensures) in
     let formed : partitions_formed (words card) (blocks state) (finished state.partitions) ≡ true = sym c.partitions_ok.ensures ∙ not-false _ c.if-not-partitions_ok.false-raw in
-    bad-lists state card named sound.rule sound.size formed.lists_ok.result c.lists_ok.ensures (not-true _ c.if-not-lists_ok.true-raw)
+    bad-lists state card named sound.rule sound.size formed c.lists_ok.result c.lists_ok.ensures (not-true _ c.if-not-lists_ok.true-raw)
 
 pub returns-then-not-batch_ok : goal.returns-then-not-batch_ok
 returns-then-not-batch_ok c =
@@ -71,7 +69,7 @@ returns-then-not-batch_ok c =
     card-sound (state_rule state) state.lengths card
     (rw (granted (tag_of the_type) (λ why. refl) c.judge_card-a.result c.in_default.in_default-own.keys2, c.state_ok.ensures) at c.judge_card-a.ensures) in
     let formed : partitions_formed (words card) (blocks state) (finished state.partitions) ≡ true = sym c.partitions_ok.ensures ∙ not-false _ c.if-not-partitions_ok.false-raw in
-    bad-batch state card named sound.rule sound.size formed.lists_ok.result c.lists_ok.ensures (not-false _ c.if-not-lists_ok.false-raw) (sym c.batch_ok.ensures ∙ not-true _ c.if-not-batch_ok.true-raw)
+    bad-batch state card named sound.rule sound.size formed c.lists_ok.result c.lists_ok.ensures (not-false _ c.if-not-lists_ok.false-raw) (sym c.batch_ok.ensures ∙ not-true _ c.if-not-batch_ok.true-raw)
 
 pub judge_all-requires : goal.judge_all-requires
 judge_all-requires c =
@@ -82,7 +80,7 @@ judge_all-requires c =
     card-sound (state_rule state) state.lengths card
     (rw (granted (tag_of the_type) (λ why. refl) c.judge_card-a.result c.in_default.in_default-own.keys2, c.state_ok.ensures) at c.judge_card-a.ensures) in
     let formed : partitions_formed (words card) (blocks state) (finished state.partitions) ≡ true = sym c.partitions_ok.ensures ∙ not-false _ c.if-not-partitions_ok.false-raw in
-    admitted state card named sound.rule sound.size formed.lists_ok.result c.lists_ok.ensures (not-false _ c.if-not-lists_ok.false-raw) (sym c.batch_ok.ensures ∙ not-false _ c.if-not-batch_ok.false-raw)
+    admitted state card named sound.rule sound.size formed c.lists_ok.result c.lists_ok.ensures (not-false _ c.if-not-lists_ok.false-raw) (sym c.batch_ok.ensures ∙ not-false _ c.if-not-batch_ok.false-raw)
 
 pub returns : goal.returns
 returns c =
@@ -93,4 +91,4 @@ returns c =
     card-sound (state_rule state) state.lengths card
     (rw (granted (tag_of the_type) (λ why. refl) c.judge_card-a.result c.in_default.in_default-own.keys2, c.state_ok.ensures) at c.judge_card-a.ensures) in
     let formed : partitions_formed (words card) (blocks state) (finished state.partitions) ≡ true = sym c.partitions_ok.ensures ∙ not-false _ c.if-not-partitions_ok.false-raw in
-    c.judge_all.ensures ∙ sym (ap answer_of (goes_on state card named sound.rule sound.size formed.lists_ok.result c.lists_ok.ensures (not-false _ c.if-not-lists_ok.false-raw) (sym c.batch_ok.ensures ∙ not-false _ c.if-not-batch_ok.false-raw)))
+    c.judge_all.ensures ∙ sym (ap answer_of (goes_on state card named sound.rule sound.size formed c.lists_ok.result c.lists_ok.ensures (not-false _ c.if-not-lists_ok.false-raw) (sym c.batch_ok.ensures ∙ not-false _ c.if-not-batch_ok.false-raw)))

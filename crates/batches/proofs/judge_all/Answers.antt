@@ -73,16 +73,16 @@ slice_bounds-counts_of-end c =
     let wide : length c.args.s.buffer.postings ≡ 128 = search (unmapped, rules, c.well_formed.0.1.1.1.1.1.0.1.1) in
     let f : Fits w16 c.args.s.windows.last = search rules in
     reached-none c.args.s c.args.card.now c.args.named.now c.requires wide (λ i. omega (arith, c.shared_slice_known-1.given i)) (omega (arith, f.fits)) in
-    let loaded : Loaded counted named.loop-i.i c.if-place-eq0.slots = let i = c.loop-i.i in
+    let loaded : Loaded counted named c.loop-i.i c.if-place-eq0.slots = let i = c.loop-i.i in
     let h = standing-drop state card named counted begins.standing i in
     ⊎_elim
     (λ x. let n = x.portion-count in
     let e : i + n.result - i ≡ n.result = omega arith in
     let a = rw e at x.read_all.ensures in
-    subst (λ (T : List ℕ). Loaded counted named i T) (sym x.6)
-    (loaded-read (words card) state counted named.requires.once i x.if-place-eq0.true n.result n.ensures x.read_all.result _ c.loop-i.slots a
+    subst (λ (T : List ℕ). Loaded counted named i T) (sym x.slots-is)
+    (loaded-read (words card) state counted named c.requires.once i x.if-place-eq0.true n.result n.ensures x.read_all.result _ c.loop-i.slots a
     (standing-fine state card (drop i named) counted h n.result x.read_all.result _ a) c.loop-i.invariant.2.long (λ k p q. refl)))
-    (λ x. subst (λ (T : List ℕ). Loaded counted named i T) (sym x.1) (c.loop-i.invariant.2.held x.if-place-eq0.false))
+    (λ x. subst (λ (T : List ℕ). Loaded counted named i T) (sym x.slots-is) (c.loop-i.invariant.2.held x.if-place-eq0.false))
     c.if-place-eq0.branch-raw in
     omega (arith, loaded.long)
 
@@ -96,16 +96,16 @@ counts_of-c-requires c =
     let wide : length c.args.s.buffer.postings ≡ 128 = search (unmapped, rules, c.well_formed.0.1.1.1.1.1.0.1.1) in
     let f : Fits w16 c.args.s.windows.last = search rules in
     reached-none c.args.s c.args.card.now c.args.named.now c.requires wide (λ i. omega (arith, c.shared_slice_known-1.given i)) (omega (arith, f.fits)) in
-    let loaded : Loaded counted named.loop-i.i c.if-place-eq0.slots = let i = c.loop-i.i in
+    let loaded : Loaded counted named c.loop-i.i c.if-place-eq0.slots = let i = c.loop-i.i in
     let h = standing-drop state card named counted begins.standing i in
     ⊎_elim
     (λ x. let n = x.portion-count in
     let e : i + n.result - i ≡ n.result = omega arith in
     let a = rw e at x.read_all.ensures in
-    subst (λ (T : List ℕ). Loaded counted named i T) (sym x.6)
-    (loaded-read (words card) state counted named.requires.once i x.if-place-eq0.true n.result n.ensures x.read_all.result _ c.loop-i.slots a
+    subst (λ (T : List ℕ). Loaded counted named i T) (sym x.slots-is)
+    (loaded-read (words card) state counted named c.requires.once i x.if-place-eq0.true n.result n.ensures x.read_all.result _ c.loop-i.slots a
     (standing-fine state card (drop i named) counted h n.result x.read_all.result _ a) c.loop-i.invariant.2.long (λ k p q. refl)))
-    (λ x. subst (λ (T : List ℕ). Loaded counted named i T) (sym x.1) (c.loop-i.invariant.2.held x.if-place-eq0.false))
+    (λ x. subst (λ (T : List ℕ). Loaded counted named i T) (sym x.slots-is) (c.loop-i.invariant.2.held x.if-place-eq0.false))
     c.if-place-eq0.branch-raw in
     let i = c.loop-i.i in
     rw (width 65 (i % 16)) (loaded.tidy i (omega arith) c.loop-i-test.true refl)
@@ -114,8 +114,6 @@ counts_of-c-requires c =
 -- the numbers that flushes are judged by fit
 roomy : (s : State) (card : List ℕ) → state_rule s ≡ true → length card ≡ s.lengths.card → (r : Room) → (r ≡ room_of s) × (r.low ≤ 65535) × (r.used ≤ 219043332045) → Roomy r s.taken (words card)
 roomy s card rule size r e =
-    let used : s.loop-i.b.used ≤ 128 = let g = s.loop-i.invariant.1 in rw (← g.buffer) (state-kept g.state g.reached.standing.rule).buffer.used in
-    let card : List ℕ = s.args.card.now in
     let k = state-kept s rule in
     record {
       low = e.1;
@@ -145,22 +143,22 @@ returns-in-Refused c =
     let wide : length c.args.s.buffer.postings ≡ 128 = search (unmapped, rules, c.well_formed.0.1.1.1.1.1.0.1.1) in
     let f : Fits w16 c.args.s.windows.last = search rules in
     reached-none c.args.s c.args.card.now c.args.named.now c.requires wide (λ i. omega (arith, c.shared_slice_known-1.given i)) (omega (arith, f.fits)) in
-    let loaded : Loaded counted named.loop-i.i c.if-place-eq0.slots = let i = c.loop-i.i in
+    let loaded : Loaded counted named c.loop-i.i c.if-place-eq0.slots = let i = c.loop-i.i in
     let h = standing-drop state card named counted begins.standing i in
     ⊎_elim
     (λ x. let n = x.portion-count in
     let e : i + n.result - i ≡ n.result = omega arith in
     let a = rw e at x.read_all.ensures in
-    subst (λ (T : List ℕ). Loaded counted named i T) (sym x.6)
-    (loaded-read (words card) state counted named.requires.once i x.if-place-eq0.true n.result n.ensures x.read_all.result _ c.loop-i.slots a
+    subst (λ (T : List ℕ). Loaded counted named i T) (sym x.slots-is)
+    (loaded-read (words card) state counted named c.requires.once i x.if-place-eq0.true n.result n.ensures x.read_all.result _ c.loop-i.slots a
     (standing-fine state card (drop i named) counted h n.result x.read_all.result _ a) c.loop-i.invariant.2.long (λ k p q. refl)))
-    (λ x. subst (λ (T : List ℕ). Loaded counted named i T) (sym x.1) (c.loop-i.invariant.2.held x.if-place-eq0.false))
+    (λ x. subst (λ (T : List ℕ). Loaded counted named i T) (sym x.slots-is) (c.loop-i.invariant.2.held x.if-place-eq0.false))
     c.if-place-eq0.branch-raw in
-    let counts : counts_in c.counts_of-c.result ≡ counted (get_or named.loop-i.i 0) = let i = c.loop-i.i in
+    let counts : counts_in c.counts_of-c.result ≡ counted (get_or named c.loop-i.i 0) = let i = c.loop-i.i in
     rw (width 65 (i % 16)) at c.counts_of-c.ensures.0 ∙ loaded.counts i (omega arith) c.loop-i-test.true refl in
-    let judged : replied c.judge_removal-verdict.result ≡ answer_of (removal_after (room_of state) state.taken (words card) c.loop-i.v c.loop-i.b c.loop-i.flushed (get_or named.loop-i.i 0) (counts_in c.counts_of-c.result)) =
+    let judged : replied c.judge_removal-verdict.result ≡ answer_of (removal_after (room_of state) state.taken (words card) c.loop-i.v c.loop-i.b c.loop-i.flushed (get_or named c.loop-i.i 0) (counts_in c.counts_of-c.result)) =
     rw c.room_of-room.ensures.0 at c.judge_removal-verdict.ensures in
-    going-refused state card named.requires.once c.loop-i.i c.loop-i.flushed c.loop-i.v c.loop-i.b c.loop-i.invariant.1 c.loop-i-test.true _ (rw (← counts) (sym judged ∙ ap replied c.in-Refused.is))
+    going-refused state card named c.requires.once c.loop-i.i c.loop-i.flushed c.loop-i.v c.loop-i.b c.loop-i.invariant.1 c.loop-i-test.true _ (rw (← counts) (sym judged ∙ ap replied c.in-Refused.is))
 
 pub must_flush-flush-requires : goal.must_flush-flush-requires
 must_flush-flush-requires c =
@@ -168,40 +166,65 @@ must_flush-flush-requires c =
     (used, c.counts_of-c.ensures.1.few)
 
 -- a removal that is not refused goes on
-onward : (k : At-match-keys2) (flush : Bool) → flush ≡ ltb 128 (length (buffered k.loop-i.b) + length (counts_in k.counts_of-c.result))
-    → Onward (state k.before.before.before.before.before.before.before.before) (card k.before.before.before.before.before.before.before.before) (named k.before.before.before.before.before.before.before.before) k.requires.once k.loop-i.i k.loop-i.flushed k.loop-i.v k.loop-i.b k.loop-i.invariant.1 k.loop-i-test.true flush k.counts_of-c.result
-onward k flush f =
-    let state : State = k.args.s in
-    let card : List ℕ = k.args.card.now in
-    let named : List ℕ = k.args.named.now in
+pub take_back-b-requires : goal.take_back-b-requires
+take_back-b-requires c =
+    let state : State = c.args.s in
+    let card : List ℕ = c.args.card.now in
+    let named : List ℕ = c.args.named.now in
     let counted : ℕ → List Posting = counts_at state card in
-    let begins : Reached (store_of k.args.s k.args.card.now) k.args.named.now (counts_at k.args.s k.args.card.now) k.args.s k.args.card.now 0 =
-    let wide : length k.args.s.buffer.postings ≡ 128 = search (unmapped, rules, k.well_formed.0.1.1.1.1.1.0.1.1) in
-    let f : Fits w16 k.args.s.windows.last = search rules in
-    reached-none k.args.s k.args.card.now k.args.named.now k.requires wide (λ i. omega (arith, k.shared_slice_known-1.given i)) (omega (arith, f.fits)) in
-    let loaded : Loaded counted named.loop-i.i k.if-place-eq0.slots = let i = k.loop-i.i in
+    let begins : Reached (store_of c.args.s c.args.card.now) c.args.named.now (counts_at c.args.s c.args.card.now) c.args.s c.args.card.now 0 =
+    let wide : length c.args.s.buffer.postings ≡ 128 = search (unmapped, rules, c.well_formed.0.1.1.1.1.1.0.1.1) in
+    let f : Fits w16 c.args.s.windows.last = search rules in
+    reached-none c.args.s c.args.card.now c.args.named.now c.requires wide (λ i. omega (arith, c.shared_slice_known-1.given i)) (omega (arith, f.fits)) in
+    let loaded : Loaded counted named c.loop-i.i c.if-place-eq0.slots = let i = c.loop-i.i in
     let h = standing-drop state card named counted begins.standing i in
     ⊎_elim
     (λ x. let n = x.portion-count in
     let e : i + n.result - i ≡ n.result = omega arith in
     let a = rw e at x.read_all.ensures in
-    subst (λ (T : List ℕ). Loaded counted named i T) (sym x.6)
-    (loaded-read (words card) state counted named.requires.once i x.if-place-eq0.true n.result n.ensures x.read_all.result _ k.loop-i.slots a
-    (standing-fine state card (drop i named) counted h n.result x.read_all.result _ a) k.loop-i.invariant.2.long (λ k p q. refl)))
-    (λ x. subst (λ (T : List ℕ). Loaded counted named i T) (sym x.1) (k.loop-i.invariant.2.held x.if-place-eq0.false))
-    k.if-place-eq0.branch-raw in
-    let counts : counts_in k.counts_of-c.result ≡ counted (get_or named.loop-i.i 0) = let i = k.loop-i.i in
-    rw (width 65 (i % 16)) at k.counts_of-c.ensures.0 ∙ loaded.counts i (omega arith) k.loop-i-test.true refl in
-    let judged : replied k.judge_removal-verdict.result ≡ answer_of (removal_after (room_of state) state.taken (words card) k.loop-i.v k.loop-i.b k.loop-i.flushed (get_or named.loop-i.i 0) (counts_in k.counts_of-c.result)) =
-    rw k.room_of-room.ensures.0 at k.judge_removal-verdict.ensures in
-    going_on state card named.requires.once k.loop-i.i k.loop-i.flushed k.loop-i.v k.loop-i.b k.loop-i.invariant.1 k.loop-i-test.true k.counts_of-c.result k.counts_of-c.ensures.1 counts flush f
-    (sym judged ∙ ap replied (reply-done (tag_of the_type) (λ why. refl) k.judge_removal-verdict.result k.in_default.in_default-own.keys2))
-
-pub take_back-b-requires : goal.take_back-b-requires
-take_back-b-requires c = rw c.begun.ensures (onward c.before _ c.must_flush-flush.ensures).takes
+    subst (λ (T : List ℕ). Loaded counted named i T) (sym x.slots-is)
+    (loaded-read (words card) state counted named c.requires.once i x.if-place-eq0.true n.result n.ensures x.read_all.result _ c.loop-i.slots a
+    (standing-fine state card (drop i named) counted h n.result x.read_all.result _ a) c.loop-i.invariant.2.long (λ k p q. refl)))
+    (λ x. subst (λ (T : List ℕ). Loaded counted named i T) (sym x.slots-is) (c.loop-i.invariant.2.held x.if-place-eq0.false))
+    c.if-place-eq0.branch-raw in
+    let counts : counts_in c.counts_of-c.result ≡ counted (get_or named c.loop-i.i 0) = let i = c.loop-i.i in
+    rw (width 65 (i % 16)) at c.counts_of-c.ensures.0 ∙ loaded.counts i (omega arith) c.loop-i-test.true refl in
+    let judged : replied c.judge_removal-verdict.result ≡ answer_of (removal_after (room_of state) state.taken (words card) c.loop-i.v c.loop-i.b c.loop-i.flushed (get_or named c.loop-i.i 0) (counts_in c.counts_of-c.result)) =
+    rw c.room_of-room.ensures.0 at c.judge_removal-verdict.ensures in
+    let onward : (flush : Bool) → flush ≡ ltb 128 (length (buffered c.loop-i.b) + length (counts_in c.counts_of-c.result)) → Onward state card named c.requires.once c.loop-i.i c.loop-i.flushed c.loop-i.v c.loop-i.b c.loop-i.invariant.1 c.loop-i-test.true flush c.counts_of-c.result =
+    λ flush f. going_on state card named c.requires.once c.loop-i.i c.loop-i.flushed c.loop-i.v c.loop-i.b c.loop-i.invariant.1 c.loop-i-test.true c.counts_of-c.result c.counts_of-c.ensures.1 counts flush f
+    (sym judged ∙ ap replied (reply-done (tag_of the_type) (λ why. refl) c.judge_removal-verdict.result c.in_default.in_default-own.keys2)) in
+    rw c.begun.ensures (onward _ c.must_flush-flush.ensures).takes
 
 pub one_less-v-requires : goal.one_less-v-requires
-one_less-v-requires c = (onward c.before _ c.must_flush-flush.ensures).live
+one_less-v-requires c =
+    let state : State = c.args.s in
+    let card : List ℕ = c.args.card.now in
+    let named : List ℕ = c.args.named.now in
+    let counted : ℕ → List Posting = counts_at state card in
+    let begins : Reached (store_of c.args.s c.args.card.now) c.args.named.now (counts_at c.args.s c.args.card.now) c.args.s c.args.card.now 0 =
+    let wide : length c.args.s.buffer.postings ≡ 128 = search (unmapped, rules, c.well_formed.0.1.1.1.1.1.0.1.1) in
+    let f : Fits w16 c.args.s.windows.last = search rules in
+    reached-none c.args.s c.args.card.now c.args.named.now c.requires wide (λ i. omega (arith, c.shared_slice_known-1.given i)) (omega (arith, f.fits)) in
+    let loaded : Loaded counted named c.loop-i.i c.if-place-eq0.slots = let i = c.loop-i.i in
+    let h = standing-drop state card named counted begins.standing i in
+    ⊎_elim
+    (λ x. let n = x.portion-count in
+    let e : i + n.result - i ≡ n.result = omega arith in
+    let a = rw e at x.read_all.ensures in
+    subst (λ (T : List ℕ). Loaded counted named i T) (sym x.slots-is)
+    (loaded-read (words card) state counted named c.requires.once i x.if-place-eq0.true n.result n.ensures x.read_all.result _ c.loop-i.slots a
+    (standing-fine state card (drop i named) counted h n.result x.read_all.result _ a) c.loop-i.invariant.2.long (λ k p q. refl)))
+    (λ x. subst (λ (T : List ℕ). Loaded counted named i T) (sym x.slots-is) (c.loop-i.invariant.2.held x.if-place-eq0.false))
+    c.if-place-eq0.branch-raw in
+    let counts : counts_in c.counts_of-c.result ≡ counted (get_or named c.loop-i.i 0) = let i = c.loop-i.i in
+    rw (width 65 (i % 16)) at c.counts_of-c.ensures.0 ∙ loaded.counts i (omega arith) c.loop-i-test.true refl in
+    let judged : replied c.judge_removal-verdict.result ≡ answer_of (removal_after (room_of state) state.taken (words card) c.loop-i.v c.loop-i.b c.loop-i.flushed (get_or named c.loop-i.i 0) (counts_in c.counts_of-c.result)) =
+    rw c.room_of-room.ensures.0 at c.judge_removal-verdict.ensures in
+    let onward : (flush : Bool) → flush ≡ ltb 128 (length (buffered c.loop-i.b) + length (counts_in c.counts_of-c.result)) → Onward state card named c.requires.once c.loop-i.i c.loop-i.flushed c.loop-i.v c.loop-i.b c.loop-i.invariant.1 c.loop-i-test.true flush c.counts_of-c.result =
+    λ flush f. going_on state card named c.requires.once c.loop-i.i c.loop-i.flushed c.loop-i.v c.loop-i.b c.loop-i.invariant.1 c.loop-i-test.true c.counts_of-c.result c.counts_of-c.ensures.1 counts flush f
+    (sym judged ∙ ap replied (reply-done (tag_of the_type) (λ why. refl) c.judge_removal-verdict.result c.in_default.in_default-own.keys2)) in
+    (onward _ c.must_flush-flush.ensures).live
 
 pub counted-flushed-requires : goal.counted-flushed-requires
 counted-flushed-requires c =
@@ -214,24 +237,31 @@ pub loop-i-preserved : goal.loop-i-preserved
 loop-i-preserved c =
     let state : State = c.args.s in
     let card : List ℕ = c.args.card.now in
-    let counted : ℕ → List Posting = counts_at state card in
     let named : List ℕ = c.args.named.now in
+    let counted : ℕ → List Posting = counts_at state card in
     let begins : Reached (store_of c.args.s c.args.card.now) c.args.named.now (counts_at c.args.s c.args.card.now) c.args.s c.args.card.now 0 =
     let wide : length c.args.s.buffer.postings ≡ 128 = search (unmapped, rules, c.well_formed.0.1.1.1.1.1.0.1.1) in
     let f : Fits w16 c.args.s.windows.last = search rules in
     reached-none c.args.s c.args.card.now c.args.named.now c.requires wide (λ i. omega (arith, c.shared_slice_known-1.given i)) (omega (arith, f.fits)) in
-    let loaded : Loaded counted named.loop-i.i c.if-place-eq0.slots = let i = c.loop-i.i in
+    let loaded : Loaded counted named c.loop-i.i c.if-place-eq0.slots = let i = c.loop-i.i in
     let h = standing-drop state card named counted begins.standing i in
     ⊎_elim
     (λ x. let n = x.portion-count in
     let e : i + n.result - i ≡ n.result = omega arith in
     let a = rw e at x.read_all.ensures in
-    subst (λ (T : List ℕ). Loaded counted named i T) (sym x.6)
-    (loaded-read (words card) state counted named.requires.once i x.if-place-eq0.true n.result n.ensures x.read_all.result _ c.loop-i.slots a
+    subst (λ (T : List ℕ). Loaded counted named i T) (sym x.slots-is)
+    (loaded-read (words card) state counted named c.requires.once i x.if-place-eq0.true n.result n.ensures x.read_all.result _ c.loop-i.slots a
     (standing-fine state card (drop i named) counted h n.result x.read_all.result _ a) c.loop-i.invariant.2.long (λ k p q. refl)))
-    (λ x. subst (λ (T : List ℕ). Loaded counted named i T) (sym x.1) (c.loop-i.invariant.2.held x.if-place-eq0.false))
+    (λ x. subst (λ (T : List ℕ). Loaded counted named i T) (sym x.slots-is) (c.loop-i.invariant.2.held x.if-place-eq0.false))
     c.if-place-eq0.branch-raw in
-    let o = onward c.before _ c.must_flush-flush.ensures in
+    let counts : counts_in c.counts_of-c.result ≡ counted (get_or named c.loop-i.i 0) = let i = c.loop-i.i in
+    rw (width 65 (i % 16)) at c.counts_of-c.ensures.0 ∙ loaded.counts i (omega arith) c.loop-i-test.true refl in
+    let judged : replied c.judge_removal-verdict.result ≡ answer_of (removal_after (room_of state) state.taken (words card) c.loop-i.v c.loop-i.b c.loop-i.flushed (get_or named c.loop-i.i 0) (counts_in c.counts_of-c.result)) =
+    rw c.room_of-room.ensures.0 at c.judge_removal-verdict.ensures in
+    let onward : (flush : Bool) → flush ≡ ltb 128 (length (buffered c.loop-i.b) + length (counts_in c.counts_of-c.result)) → Onward state card named c.requires.once c.loop-i.i c.loop-i.flushed c.loop-i.v c.loop-i.b c.loop-i.invariant.1 c.loop-i-test.true flush c.counts_of-c.result =
+    λ flush f. going_on state card named c.requires.once c.loop-i.i c.loop-i.flushed c.loop-i.v c.loop-i.b c.loop-i.invariant.1 c.loop-i-test.true c.counts_of-c.result c.counts_of-c.ensures.1 counts flush f
+    (sym judged ∙ ap replied (reply-done (tag_of the_type) (λ why. refl) c.judge_removal-verdict.result c.in_default.in_default-own.keys2)) in
+    let o = onward _ c.must_flush-flush.ensures in
     (omega arith, rw (c.counted-flushed.ensures, c.one_less-v.ensures, c.take_back-b.ensures, c.begun.ensures) o.next, holding-next _ _ _ _ loaded)
 
 pub returns : goal.returns
@@ -241,4 +271,4 @@ returns c =
     let named : List ℕ = c.args.named.now in
     let counted : ℕ → List Posting = counts_at state card in
     let g = c.loop-i.invariant.1 in
-    sym (ap answer_of (reached-end (store_of state card) named counted.requires.once g.state g.after c.loop-i.i g.reached (search rules)))
+    sym (ap answer_of (reached-end (store_of state card) named counted c.requires.once g.state g.after c.loop-i.i g.reached (search rules)))

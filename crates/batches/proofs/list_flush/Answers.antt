@@ -34,19 +34,18 @@ next_free-free-requires c =
     rw (← w.blocks, ← w.taken) (omega (arith, length-words c.args.card.now, k.lengths.card, w.size), k.lengths.most_blocks, omega (arith, k.taken))
 
 -- the block is the first free one
-found : (m : After-next-free) (d : ℕ) → m.next_free-free.result ≡ Free.Block d → d ≡ first_free m.args.card.now m.args.blocks m.args.taken
-found m d e = (block-found (free_blocks (words m.args.card.now) m.args.blocks m.args.taken) d (sym e ∙ m.next_free-free.ensures)).1
-
 pub flush-list-requires : goal.flush-list-requires
 flush-list-requires c =
     let writable : Writable c.args.card.now c.args.blocks c.args.taken c.args.b c.args.ps = c.requires (not-false _ c.if-not-flush.false-raw) in
+    let found : (d : ℕ) → c.next_free-free.result ≡ Free.Block d → d ≡ first_free c.args.card.now c.args.blocks c.args.taken =
+    λ d e. (block-found (free_blocks (words c.args.card.now) c.args.blocks c.args.taken) d (sym e ∙ c.next_free-free.ensures)).1 in
     let a = c.args in
     let w = writable in
     let s = w.state in
     let k = state-kept s w.rule in
     let W = words a.card.now in
     let d = c.in-Block.block in
-    let ch : Chosen s W d = chosen a.card.now a.blocks a.taken a.b a.ps w d (found c.before d c.in-Block.is) in
+    let ch : Chosen s W d = chosen a.card.now a.blocks a.taken a.b a.ps w d (found d c.in-Block.is) in
     let there = chosen-there s W d ch in (
       omega (arith, w.size, k.lengths.card),
       record { few = omega (arith, k.lengths.most_blocks, there); inside = omega (arith, w.size, k.lengths.card, length-words a.card.now, there) },
@@ -70,6 +69,8 @@ returns-in-Nothing c =
 
 pub returns-in-Block : goal.returns-in-Block
 returns-in-Block c =
+    let found : (d : ℕ) → c.next_free-free.result ≡ Free.Block d → d ≡ first_free c.args.card.now c.args.blocks c.args.taken =
+    λ d e. (block-found (free_blocks (words c.args.card.now) c.args.blocks c.args.taken) d (sym e ∙ c.next_free-free.ensures)).1 in
     let f = c.flush-list in
-    let e = found c.before c.in-Block.block c.in-Block.is in
+    let e = found c.in-Block.block c.in-Block.is in
     rw (not-false c.args.flush c.if-not-flush.false-raw) (record { partitions = rw (← e) f.ensures.0; taken = e; written = rw (← e) f.ensures.1 })

@@ -69,11 +69,11 @@ loaded j =
     ⊎_elim
     (λ x. let n = x.portion-count in
     let e : i + n.result - i ≡ n.result = omega arith in
-    let a = rw e at x.slots-then-place-eq0-1.ensures in
-    subst (λ (T : List ℕ). Loaded (counted j.before.before) (named j.before.before) i T) (sym x.7)
-    (loaded-read (words j.loop-i.card) j.loop-i.t (counted j.before.before) (named j.before.before) (judged j.before.before).admitted.once i x.if-place-eq0.true n.result n.ensures x.slots-then-place-eq0-1.result _ j.loop-i.slots a
-    (standing-fine j.loop-i.t j.loop-i.card (drop i (named j.before.before)) (counted j.before.before) h n.result x.slots-then-place-eq0-1.result _ a) j.loop-i.invariant.2.long (standing-counts j.loop-i.t j.loop-i.card (named j.before.before) (counted j.before.before) i h)))
-    (λ x. subst (λ (T : List ℕ). Loaded (counted j.before.before) (named j.before.before) i T) (sym x.1) (j.loop-i.invariant.2.held x.if-place-eq0.false))
+    let a = rw e at x.read_all.ensures in
+    subst (λ (T : List ℕ). Loaded (counted j.before.before) (named j.before.before) i T) (sym x.slots-is)
+    (loaded-read (words j.loop-i.card) j.loop-i.t (counted j.before.before) (named j.before.before) (judged j.before.before).admitted.once i x.if-place-eq0.true n.result n.ensures x.read_all.result _ j.loop-i.slots a
+    (standing-fine j.loop-i.t j.loop-i.card (drop i (named j.before.before)) (counted j.before.before) h n.result x.read_all.result _ a) j.loop-i.invariant.2.long (standing-counts j.loop-i.t j.loop-i.card (named j.before.before) (counted j.before.before) i h)))
+    (λ x. subst (λ (T : List ℕ). Loaded (counted j.before.before) (named j.before.before) i T) (sym x.slots-is) (j.loop-i.invariant.2.held x.if-place-eq0.false))
     j.if-place-eq0.branch-raw
 
 pub slice_bounds-counts_of-end : goal.slice_bounds-counts_of-end

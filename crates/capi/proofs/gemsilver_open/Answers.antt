@@ -20,4 +20,4 @@ pub returns : goal.returns
 unfolding open_on
 returns c =
     on-state _ c.image_ok.ensures c.if-not-image_ok.false-raw (λ i. omega (arith, c.slice_known-1.given i))
-    _ c.read_state-s.ensures c.settle_open.ensures open_of open-unchanged c.before.before.before.before.before.«open».ensures
+    _ c.read_state-s.ensures c.settle_open.ensures open_of open-unchanged c.open-r.ensures

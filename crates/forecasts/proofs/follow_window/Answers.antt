@@ -9,75 +9,53 @@ use Rattle.forecasts.specs.declared.Sketch.{Sketch}
 use Rattle.forecasts.specs.Sketches.{Opened}
 use Rattle.forecasts.proofs.Opening.{open_number, open-refused, open-room, window-opened, window-stopped, close-room, window-closed, window-early}
 use Rattle.forecasts.proofs.follow_window.Goals as goal
-use Rattle.forecasts.proofs.follow_window.Lts as lts
-use Rattle.forecasts.proofs.follow_window.Tie as tie
-use Rattle.forecasts.proofs.follow_window.Reads as reads
-
-abbrev At-match-keys2 : Type 0
-At-match-keys2 = lts.At-match-keys2 tie.the-claims reads.Pre reads.Post
-
-abbrev Start : Type 0
-Start = lts.Start tie.the-claims reads.Pre reads.Post
-
-abbrev After-follow-events : Type 0
-After-follow-events = lts.After-follow_events tie.the-claims reads.Pre reads.Post
 
 pub returns-in-Refused : goal.returns-in-Refused
 returns-in-Refused c =
     let a = c.args in
     (open-refused a.card a.register.now a.used a.plan.now a.places.now a.q a.from a.to a.window c.requires c.in-Refused.why (rw c.in-Refused.is at c.judge_open-a.ensures), tt)
 
--- past the open
-module _ (m : At-match-keys2) where
-  abbrev start : Start
-  start = m.before.before.before.before.before
-
-  free : 0 ≡ open_number start.args.card start.args.register.now start.args.used start.args.plan.now start.args.places.now start.args.q start.args.from start.args.to start.args.window start.pre
-  free = rw (goes_on (tag_of the_type) (λ why. refl) m.before.judge-open.result m.match.keys2) at m.before.judge-open.ensures
-
-
 pub opened-requires : goal.opened-requires
 opened-requires c =
-    let s = start c.before.before in
-    let a = s.args in
-    open-room a.card a.register.now a.used a.plan.now a.places.now a.q a.from a.to a.window s.pre (free c.before.before)
+    let a = c.args in
+    let free : 0 ≡ open_number a.card a.register.now a.used a.plan.now a.places.now a.q a.from a.to a.window c.requires =
+    rw (goes_on (tag_of the_type) (λ why. refl) c.judge_open-a.result c.in_default.in_default-own.keys2) at c.judge_open-a.ensures in
+    open-room a.card a.register.now a.used a.plan.now a.places.now a.q a.from a.to a.window c.requires free
 
 pub follow_events-t-requires : goal.follow_events-t-requires
 follow_events-t-requires c =
-    let s = start c.before.before.before.before in
-    let a = s.args in
+    let a = c.args in
+    let free : 0 ≡ open_number a.card a.register.now a.used a.plan.now a.places.now a.q a.from a.to a.window c.requires =
+    rw (goes_on (tag_of the_type) (λ why. refl) c.judge_open-a.result c.in_default.in_default-own.keys2) at c.judge_open-a.ensures in
     subst (λ (r : Sketch). Opened a.register.now a.used a.plan.now a.places.now r a.from a.to) (sym c.opened.ensures)
-    (window-opened a.card a.register.now a.used a.plan.now a.places.now a.q a.from a.to a.window s.pre (free c.before.before.before.before))
-
--- past the events
-module _ (n : After-follow-events) where
-  abbrev past : At-match-keys2
-  past = n.before.before.before.before
-
+    (window-opened a.card a.register.now a.used a.plan.now a.places.now a.q a.from a.to a.window c.requires free)
 
 pub closed-requires : goal.closed-requires
 closed-requires c =
-    let s = start (past c.before.before.before.before.before.before) in
-    let a = s.args in
+    let a = c.args in
+    let free : 0 ≡ open_number a.card a.register.now a.used a.plan.now a.places.now a.q a.from a.to a.window c.requires =
+    rw (goes_on (tag_of the_type) (λ why. refl) c.judge_open-a.result c.in_default.in_default-own.keys2) at c.judge_open-a.ensures in
     let f = rw (c.opened.ensures, stops_nowhere (tag_of stop.the_type) (λ w j why. refl) c.follow_events-t.result.stop c.in-Nowhere.in-Nowhere-own.keys2) at c.follow_events-t.ensures in
-    close-room a.card a.register.now a.used a.plan.now a.places.now a.q a.from a.to a.window s.pre (free (past c.before.before.before.before.before.before)) c.follow_events-t.result.sketch _ f.0 f.1
+    close-room a.card a.register.now a.used a.plan.now a.places.now a.q a.from a.to a.window c.requires free c.follow_events-t.result.sketch _ f.0 f.1
 
 pub returns-in-At : goal.returns-in-At
 returns-in-At c =
-    let s = start (past c.before.before.before.before.before.before.before) in
-    let a = s.args in
+    let a = c.args in
+    let free : 0 ≡ open_number a.card a.register.now a.used a.plan.now a.places.now a.q a.from a.to a.window c.requires =
+    rw (goes_on (tag_of the_type) (λ why. refl) c.judge_open-a.result c.in_default.in_default-own.keys2) at c.judge_open-a.ensures in
     let f = rw (c.opened.ensures, c.in-At.is) at c.follow_events-t.ensures in (
-      window-stopped a.card a.register.now a.used a.plan.now a.places.now a.q a.from a.to a.window s.pre (free (past c.before.before.before.before.before.before.before)) c.follow_events-t.result.sketch _
+      window-stopped a.card a.register.now a.used a.plan.now a.places.now a.q a.from a.to a.window c.requires free c.follow_events-t.result.sketch _
           c.in-At.w c.in-At.j c.in-At.why f.0,
       tt,
     )
 
 pub returns-in-Nowhere : goal.returns-in-Nowhere
 returns-in-Nowhere c =
-    let s = start (past c.before.before.before.before.before.before.before) in
-    let a = s.args in
+    let a = c.args in
+    let free : 0 ≡ open_number a.card a.register.now a.used a.plan.now a.places.now a.q a.from a.to a.window c.requires =
+    rw (goes_on (tag_of the_type) (λ why. refl) c.judge_open-a.result c.in_default.in_default-own.keys2) at c.judge_open-a.ensures in
     let f = rw (c.opened.ensures, stops_nowhere (tag_of stop.the_type) (λ w j why. refl) c.follow_events-t.result.stop c.in-Nowhere.in-Nowhere-own.keys2) at c.follow_events-t.ensures in
     rw c.closed.ensures (
-      window-closed a.card a.register.now a.used a.plan.now a.places.now a.q a.from a.to a.window s.pre (free (past c.before.before.before.before.before.before.before)) c.follow_events-t.result.sketch _ f.0 f.1,
-      window-early a.card a.register.now a.used a.plan.now a.places.now a.q a.from a.to a.window s.pre (free (past c.before.before.before.before.before.before.before)) c.follow_events-t.result.sketch _ f.0 f.1,
+      window-closed a.card a.register.now a.used a.plan.now a.places.now a.q a.from a.to a.window c.requires free c.follow_events-t.result.sketch _ f.0 f.1,
+      window-early a.card a.register.now a.used a.plan.now a.places.now a.q a.from a.to a.window c.requires free c.follow_events-t.result.sketch _ f.0 f.1,
     )

@@ -23,17 +23,6 @@ use Rattle.plans.proofs.Planning.{next-told}
 use Rattle.merges.proofs.step.Goals as goal
 
 -- the rest decides
-by-third : (i : At-match-keys2) {a : Answer} {after : Store} → Gives (store_of (state i) (card i)) (third_on (state i) (card i)) a after
-    → Gives (store_of (state i) (card i)) (step_of (store_of (state i) (card i))) a after
-by-third i =
-    let state : State = i.args.s in
-    let card : List ℕ = i.args.card.now in
-    let passes : 0 ≡ first_of (1 ∷ 2 ∷ []) (card_tests (state_rule state) state.lengths card) =
-    rw (goes_on (tag_of the_type) (λ why. refl) i.judge_card-a.result i.in_default.in_default-own.keys2, i.state_ok.ensures) at i.judge_card-a.ensures in
-    gives-by (step_of (store_of state card)) (third_on state card) (step-granted state card passes)
-
--- past the partitions
--- past the output's blocks
 pub returns-in-Refused : goal.returns-in-Refused
 returns-in-Refused c =
     let a = c.args in
@@ -52,10 +41,14 @@ partitions_ok-requires c =
 
 pub returns-then-not-partitions_ok : goal.returns-then-not-partitions_ok
 returns-then-not-partitions_ok c =
-    let card : List ℕ = c.args.card.now in
     let state : State = c.args.s in
+    let card : List ℕ = c.args.card.now in
+    let passes : 0 ≡ first_of (1 ∷ 2 ∷ []) (card_tests (state_rule state) state.lengths card) =
+    rw (goes_on (tag_of the_type) (λ why. refl) c.judge_card-a.result c.in_default.in_default-own.keys2, c.state_ok.ensures) at c.judge_card-a.ensures in
+    let by-third : (a : Answer) (after : Store) → Gives (store_of state card) (third_on state card) a after → Gives (store_of state card) (step_of (store_of state card)) a after =
+    λ a after. gives-by (step_of (store_of state card)) (third_on state card) (step-granted state card passes) in
     rw c.refuse-then-not-partitions_ok.ensures
-    (by-third c.before (stopped _ 3 _ (ap not (formed-first (words card) state (sym c.partitions_ok.ensures ∙ not-true _ c.if-not-partitions_ok.true-raw)))))
+    (by-third _ _ (stopped _ 3 _ (ap not (formed-first (words card) state (sym c.partitions_ok.ensures ∙ not-true _ c.if-not-partitions_ok.true-raw)))))
 
 pub stands-requires : goal.stands-requires
 unfolding partitions_formed
@@ -74,11 +67,15 @@ stands-requires c =
 
 pub returns-then-not-stands : goal.returns-then-not-stands
 returns-then-not-stands c =
-    let card : List ℕ = c.args.card.now in
     let state : State = c.args.s in
+    let card : List ℕ = c.args.card.now in
+    let passes : 0 ≡ first_of (1 ∷ 2 ∷ []) (card_tests (state_rule state) state.lengths card) =
+    rw (goes_on (tag_of the_type) (λ why. refl) c.judge_card-a.result c.in_default.in_default-own.keys2, c.state_ok.ensures) at c.judge_card-a.ensures in
+    let by-third : (a : Answer) (after : Store) → Gives (store_of state card) (third_on state card) a after → Gives (store_of state card) (step_of (store_of state card)) a after =
+    λ a after. gives-by (step_of (store_of state card)) (third_on state card) (step-granted state card passes) in
     let formed : partitions_formed (words card) (blocks state) (finished state.partitions) ≡ true = sym c.partitions_ok.ensures ∙ not-false _ c.if-not-partitions_ok.false-raw in
     rw c.refuse-then-not-stands.ensures
-    (by-third c (stopped _ 3 _ (ap not (formed-stands (words card) state formed (sym c.stands.ensures ∙ not-true _ c.if-not-stands.true-raw)))))
+    (by-third _ _ (stopped _ 3 _ (ap not (formed-stands (words card) state formed (sym c.stands.ensures ∙ not-true _ c.if-not-stands.true-raw)))))
 
 pub inputs_of-is-requires : goal.inputs_of-is-requires
 inputs_of-is-requires c =
@@ -119,8 +116,14 @@ act-d-requires c =
 
 pub returns-then-not-d : goal.returns-then-not-d
 returns-then-not-d c =
+    let state : State = c.args.s in
+    let card : List ℕ = c.args.card.now in
+    let passes : 0 ≡ first_of (1 ∷ 2 ∷ []) (card_tests (state_rule state) state.lengths card) =
+    rw (goes_on (tag_of the_type) (λ why. refl) c.judge_card-a.result c.in_default.in_default-own.keys2, c.state_ok.ensures) at c.judge_card-a.ensures in
+    let by-third : (a : Answer) (after : Store) → Gives (store_of state card) (third_on state card) a after → Gives (store_of state card) (step_of (store_of state card)) a after =
+    λ a after. gives-by (step_of (store_of state card)) (third_on state card) (step-granted state card passes) in
     let q = c.act-d.ensures.stop (not-true _ c.if-not-d.true) in
-    rw (c.refuse-then-not-d.ensures, q.0) (by-third c q.1)
+    rw (c.refuse-then-not-d.ensures, q.0) (by-third _ _ q.1)
 
 pub list_after-list-requires : goal.list_after-list-requires
 list_after-list-requires c =
@@ -142,9 +145,13 @@ pub returns : goal.returns
 returns c =
     let state : State = c.args.s in
     let card : List ℕ = c.args.card.now in
+    let passes : 0 ≡ first_of (1 ∷ 2 ∷ []) (card_tests (state_rule state) state.lengths card) =
+    rw (goes_on (tag_of the_type) (λ why. refl) c.judge_card-a.result c.in_default.in_default-own.keys2, c.state_ok.ensures) at c.judge_card-a.ensures in
+    let by-third : (a : Answer) (after : Store) → Gives (store_of state card) (third_on state card) a after → Gives (store_of state card) (step_of (store_of state card)) a after =
+    λ a after. gives-by (step_of (store_of state card)) (third_on state card) (step-granted state card passes) in
     let s = state in
     let b = card in
     let a = c.act-d in
     let on = not-false _ c.if-not-d.false in
     let e = next-told s a.result.last a.result.totals a.result.output c.list_after-list.result c.job_after-job.result c.list_after-list.ensures c.job_after-job.ensures in
-    by-third c (subst (λ (x : State). Gives (store_of s b) (third_on s b) done (store_of x a.new.card)) (sym e) (a.ensures.done on))
+    by-third _ _ (subst (λ (x : State). Gives (store_of s b) (third_on s b) done (store_of x a.new.card)) (sym e) (a.ensures.done on))

@@ -12,7 +12,6 @@ use Rattle.admission.proofs.Laws.{goes_on as granted, CardSound, card-sound}
 use Rattle.removals.proofs.Turns.{removal-barred, card-words, bad-partitions, bad-lists, removable, goes_on}
 use Rattle.removals.proofs.remove.Goals as goal
 
--- past the partitions
 pub returns-in-Refused : goal.returns-in-Refused
 returns-in-Refused c =
     let a = c.args in

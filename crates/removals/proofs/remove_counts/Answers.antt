@@ -11,9 +11,6 @@ use Rattle.removals.proofs.Given.{names_open, no_live_window, names-the-open, na
 use Rattle.removals.proofs.Takeables.{takeable-plain, takeable-flushed, live-flushed}
 use Rattle.removals.proofs.remove_counts.Goals as goal
 
-aimed : (m : After-target-of) (t : Target) → m.target_of-target.result ≡ t → Aimed (removal_flushes m.args.s (counts_in m.args.c)) m.args.s m.args.card.now t
-aimed m t e = judged m.args.s (counts_in m.args.c) m.args.card.now _ t m.must_flush.ensures (rw e at m.target_of-target.ensures)
-
 pub returns-then-names_open : goal.returns-then-names_open
 returns-then-names_open c =
     let a = c.args in
@@ -43,32 +40,40 @@ without-requires c =
 
 pub without-requires-in-Nothing : goal.without-requires-in-Nothing
 without-requires-in-Nothing c =
+    let aimed : (t : Target) → c.target_of-target.result ≡ t → Aimed (removal_flushes c.args.s (counts_in c.args.c)) c.args.s c.args.card.now t =
+    λ t e. judged c.args.s (counts_in c.args.c) c.args.card.now _ t c.must_flush.ensures (rw e at c.target_of-target.ensures) in
     let shut : names_open c.args.s c.args.window ≡ false = sym c.names_open.ensures ∙ c.if-names_open.false in
     let live : no_live_window c.args.s c.args.window (counts_in c.args.c) ≡ false = sym c.not_live.ensures ∙ c.if-not_live.false in
     let a = c.args in
     let none = nothing-told (tag_of the_type) (λ x. refl) (λ x. refl) c.target_of-target.result c.in-Nothing.in-Nothing-own.keys3 in
-    (takeable-plain a.s a.card.now a.window a.c c.requires (aimed c.before Target.Nothing none), some-live a.s a.card.now a.window (counts_in a.c) shut live)
+    (takeable-plain a.s a.card.now a.window a.c c.requires (aimed Target.Nothing none), some-live a.s a.card.now a.window (counts_in a.c) shut live)
 
 pub returns-in-Refused : goal.returns-in-Refused
 returns-in-Refused c =
     let shut : names_open c.args.s c.args.window ≡ false = sym c.names_open.ensures ∙ c.if-names_open.false in
     let live : no_live_window c.args.s c.args.window (counts_in c.args.c) ≡ false = sym c.not_live.ensures ∙ c.if-not_live.false in
+    let aimed : (t : Target) → c.target_of-target.result ≡ t → Aimed (removal_flushes c.args.s (counts_in c.args.c)) c.args.s c.args.card.now t =
+    λ t e. judged c.args.s (counts_in c.args.c) c.args.card.now _ t c.must_flush.ensures (rw e at c.target_of-target.ensures) in
     let a = c.args in
-    rw c.refuse-in-Refused.ensures (flush-barred a.s a.card.now a.window (counts_in a.c) shut live.in-Refused.why (aimed c.before (Target.Refused c.in-Refused.why) c.in-Refused.is))
+    rw c.refuse-in-Refused.ensures (flush-barred a.s a.card.now a.window (counts_in a.c) shut live c.in-Refused.why (aimed (Target.Refused c.in-Refused.why) c.in-Refused.is))
 
 pub returns-in-Block : goal.returns-in-Block
 returns-in-Block c =
     let shut : names_open c.args.s c.args.window ≡ false = sym c.names_open.ensures ∙ c.if-names_open.false in
     let live : no_live_window c.args.s c.args.window (counts_in c.args.c) ≡ false = sym c.not_live.ensures ∙ c.if-not_live.false in
+    let aimed : (t : Target) → c.target_of-target.result ≡ t → Aimed (removal_flushes c.args.s (counts_in c.args.c)) c.args.s c.args.card.now t =
+    λ t e. judged c.args.s (counts_in c.args.c) c.args.card.now _ t c.must_flush.ensures (rw e at c.target_of-target.ensures) in
     let a = c.args in
     let f = c.flushed-t in
     rw (c.done.ensures, c.without.ensures, f.ensures.0, f.ensures.1)
-    (removed-flushed a.s a.card.now a.window (counts_in a.c) shut live.in-Block.b (aimed c.before (Target.Block c.in-Block.b) c.in-Block.is))
+    (removed-flushed a.s a.card.now a.window (counts_in a.c) shut live c.in-Block.b (aimed (Target.Block c.in-Block.b) c.in-Block.is))
 
 pub returns-in-Nothing : goal.returns-in-Nothing
 returns-in-Nothing c =
     let shut : names_open c.args.s c.args.window ≡ false = sym c.names_open.ensures ∙ c.if-names_open.false in
     let live : no_live_window c.args.s c.args.window (counts_in c.args.c) ≡ false = sym c.not_live.ensures ∙ c.if-not_live.false in
+    let aimed : (t : Target) → c.target_of-target.result ≡ t → Aimed (removal_flushes c.args.s (counts_in c.args.c)) c.args.s c.args.card.now t =
+    λ t e. judged c.args.s (counts_in c.args.c) c.args.card.now _ t c.must_flush.ensures (rw e at c.target_of-target.ensures) in
     let a = c.args in
     let none = nothing-told (tag_of the_type) (λ x. refl) (λ x. refl) c.target_of-target.result c.in-Nothing.in-Nothing-own.keys3 in
-    rw (c.done-in-Nothing.ensures, c.without-in-Nothing.ensures) (removed-plain a.s a.card.now a.window (counts_in a.c) shut live (aimed c.before Target.Nothing none))
+    rw (c.done-in-Nothing.ensures, c.without-in-Nothing.ensures) (removed-plain a.s a.card.now a.window (counts_in a.c) shut live (aimed Target.Nothing none))

@@ -105,14 +105,14 @@ step c =
     let q : c.place_of-place.result ≡ first_place (key_window k) c.args.windows.now = p ∙ rw e in
     ⊎_elim
     (λ x. let fs : SFits w32 t.result.sum = record { sfits = omega (arith, x.struct_told-1.given) } in
-    let fc : SFits w16 x.count_under.result = record { sfits = x.count_under.ok } in
-    let fd : SFits w32 x.added-total.result = record { sfits = x.added-total.ok } in
+    let fc : SFits w16 x.count_under.result = record { sfits = x.count_under.type_inv } in
+    let fd : SFits w32 x.added-total.result = record { sfits = x.added-total.type_inv } in
     let total : x.added-total.result ≡ whole = x.added-total.ensures ∙ rw (to_z-of_z fs, to_z-of_z fc, x.count_under.ensures, shown-under (shown c.before.before.before.before.before.before.before.before.before) c.larger-top.result k h) in
     let here = rw q at x.if-place-named.true in
     let kept = rw (width 65 c.place_of-place.result, q, to_z-of_z fs, to_z-of_z fd, total) at x.keep_total.ensures in
     subst (λ (X : List ℕ). Step c.args.windows.now c.loop-at.slots X k t.result.sum whole t.result.fine c.if-place-named.fine)
-    (sym (x.slots-is ∙ ap (put_in 65 c.loop-at.slots x.keep_total.last.slot) q))
-    (step-own c.args.windows.now c.loop-at.slots k t.result.sum whole v.slots v.tidy here x.keep_total.last.slot x.keep_total.result kept t.result.fine c.if-place-named.fine (x.fine-is ∙ x.both-fine.ensures)))
+    (sym (x.slots-is ∙ ap (put_in 65 c.loop-at.slots x.keep_total.new.slot) q))
+    (step-own c.args.windows.now c.loop-at.slots k t.result.sum whole v.slots v.tidy here x.keep_total.new.slot x.keep_total.result kept t.result.fine c.if-place-named.fine (x.fine-is ∙ x.both-fine.ensures)))
     (λ x. subst (λ (X : List ℕ). Step c.args.windows.now c.loop-at.slots X k t.result.sum whole t.result.fine c.if-place-named.fine) (sym x.slots-is)
     (step_other c.args.windows.now c.loop-at.slots k t.result.sum whole v.slots v.tidy (place-missing (key_window k) c.args.windows.now (rw q at x.if-place-named.false)) t.result.fine c.if-place-named.fine x.fine-is))
     c.if-place-named.branch-raw
