@@ -42,6 +42,6 @@ returns c =
     let a = c.args in
     let m = count-is a.register.now a.used a.plan.now a.places.now a.q a.at a.i c.requires in
     entered-done a.register.now a.used a.plan.now a.places.now a.q a.at a.i c.requires a.card c.must_flush-wanted.result c.must_flush-wanted.ensures
-    (omega (arith, c.fits.card)) (rw (goes_on (tag_of the_type) (λ why. refl) c.judge_flush-a.result c.in_default.in_default-own.keys2) at c.judge_flush-a.ensures)
+    (omega (arith, c.ranges.card)) (rw (goes_on (tag_of the_type) (λ why. refl) c.judge_flush-a.result c.in_default.in_default-own.keys2) at c.judge_flush-a.ensures)
     c.flushed-t.result c.counted.result (a.used + a.q.known) c.note-known.result c.note-known.new.places c.flushed-t.ensures
     (omega (arith, m, c.requires.lent.count)) c.note-known.ensures c.counted.ensures
