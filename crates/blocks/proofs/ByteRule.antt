@@ -1,5 +1,5 @@
 -- Storing to free blocks and releasing blocks move words and bytes only as is allowed.
-use Rattle.lists.proofs.Prelude.{true, List, [], ◌∷◌, ◌⊎◌, inl, inr, ⊎_elim, ◌≡◌, sym, ap, ◌∙◌, ℕ, zero, suc, ◌*◌, ◌/◌, ◌%◌, ◌<◌, arith, length, get_or, get_or-replicate, every, elem, by-test, every-elem}
+use Rattle.lists.proofs.Prelude.{true, List, [], ◌∷◌, inl, inr, ⊎_elim, ◌≡◌, sym, ap, ◌∙◌, ℕ, zero, suc, ◌*◌, ◌/◌, ◌%◌, ◌<◌, arith, length, get_or, get_or-replicate, every, elem, by-test, every-elem}
 use Rattle.words.specs.Words.{words, bytes, all_ones}
 use Rattle.words.proofs.Views.{length-words}
 use Rattle.card.specs.Blocks.{block, is_free}

@@ -1,5 +1,5 @@
 -- What storing and releasing leave: the card's length, every block that they do not name, and every chain of such blocks.
-use Rattle.lists.proofs.Prelude.{Bool, true, false, not, ◌&&◌, List, [], ◌∷◌, ◌++◌, ◌≡◌, refl, sym, ap, ap₂, ◌∙◌, ℕ, zero, suc, ◌+◌, ◌*◌, ◌-◌, ◌<◌, ◌≤◌, arith, eqb, ltb, length, get_or, take, drop, replicate, length-append, length-replicate, length-take, sets, length-sets, ltb-true, ltb-false, eqb-false, eq-eqb, not-true, every, elem, by-test, or_right, or-none, sets-before, sets-past, every-elem}
+use Rattle.lists.proofs.Prelude.{Bool, true, false, not, ◌&&◌, List, [], ◌∷◌, ◌++◌, ◌≡◌, refl, sym, ap, ap₂, ◌∙◌, ℕ, zero, suc, ◌*◌, ◌-◌, ◌<◌, ◌≤◌, arith, eqb, ltb, length, get_or, take, drop, replicate, length-append, length-replicate, length-take, sets, length-sets, ltb-true, ltb-false, eqb-false, eq-eqb, not-true, every, elem, by-test, or_right, or-none, sets-before, sets-past, every-elem}
 use Rattle.words.specs.Words.{all_ones}
 use Rattle.card.specs.Blocks.{no_block, block, link}
 use Rattle.card.specs.Chains.{chain, chain_rule, content}

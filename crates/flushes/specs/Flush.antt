@@ -1,5 +1,5 @@
 -- A flush: the buffer is written as one partition of level 0.
-use Rattle.std.specs.Prelude.{Bool, not, List, [], ◌∷◌, ◌++◌, ℕ, suc, ◌*◌, ltb, leb, length, get_or}
+use Rattle.std.specs.Prelude.{Bool, not, List, [], ◌∷◌, ◌++◌, ℕ, suc, ◌*◌, ltb, leb, get_or}
 use Rattle.lists.specs.Lists.{empty, total_by}
 use Rattle.words.specs.Words.{words, bytes}
 use Rattle.answers.specs.Answers.{Outcome, choose, leave, done}

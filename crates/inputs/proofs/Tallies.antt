@@ -1,5 +1,5 @@
 -- Totals pair by pair are the totals of all pairs.
-use Rattle.lists.proofs.Prelude.{true, cond, List, [], ◌∷◌, ◌++◌, append-nil, append_assoc, ◌≡◌, sym, ap, ◌∙◌, ◌≤◌, leb, length-append, leb-true, every, by-test, and_left, and_right, keep_append}
+use Rattle.lists.proofs.Prelude.{true, cond, List, [], ◌∷◌, ◌++◌, append-nil, append_assoc, ◌≡◌, sym, ap, ◌∙◌, ◌≤◌, length-append, every, by-test, and_left, and_right, keep_append}
 use Rattle.postings.specs.declared.Posting.{Posting}
 use Rattle.postings.specs.Merge.{is_zero, is_counted, nonzero}
 use Rattle.postings.specs.Spans.{lowest, highest}

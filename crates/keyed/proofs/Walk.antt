@@ -1,5 +1,5 @@
 -- The walk by falling key computes the definition: the laws of one step.
-use Rattle.lists.proofs.Prelude.{true, false, ◌&&◌, ◌||◌, List, [], ◌∷◌, map, ◌⊎◌, inl, inr, ⊎_elim, ◌≡◌, refl, sym, ap, ◌∙◌, ℕ, zero, suc, ◌+◌, ◌<◌, ◌≤◌, zero-le, eq-or-lt_of_le, arith, ltb, eqb, ℤ, pos, ◌+ℤ◌, +ℤ_idl, +ℤ_idr, +ℤ_assoc, +ℤ_comm, ltb-true, ltb-false, eqb-true, eqb-false, lt-ltb, eq-eqb, ne_eqb, by-test, and_left, and_right, and-swap, or_right}
+use Rattle.lists.proofs.Prelude.{true, false, ◌&&◌, ◌||◌, List, [], ◌∷◌, map, ◌⊎◌, inl, inr, ⊎_elim, ◌≡◌, refl, sym, ap, ◌∙◌, ℕ, zero, suc, ◌<◌, ◌≤◌, zero-le, eq-or-lt_of_le, arith, ltb, eqb, ℤ, pos, ◌+ℤ◌, +ℤ_idl, +ℤ_idr, +ℤ_assoc, +ℤ_comm, ltb-true, ltb-false, eqb-true, eqb-false, lt-ltb, eq-eqb, ne_eqb, by-test, and_left, and_right, and-swap, or_right}
 use Rattle.keyed.specs.Keys.{Item, falls, all_fall, sum_of, sums, held_in, held, over_keys, add_pair, key_pairs, reach, larger, topmost_from, rest, head_val, head_fine, head_vals, heads_fine}
 
 sum-swap : (a b c d : ℤ) → (a +ℤ b) +ℤ (c +ℤ d) ≡ (a +ℤ c) +ℤ (b +ℤ d)

@@ -1,5 +1,5 @@
 -- The list that leads: what is taken under a key that no other list has.
-use Rattle.lists.proofs.Prelude.{true, and-true, List, [], ◌∷◌, ◌++◌, map, ⊎_elim, ◌≡◌, refl, sym, ap, ap₂, ◌∙◌, ℕ, zero, suc, ◌+◌, ◌*◌, ◌<◌, ◌≤◌, eq-or-lt_of_le, arith, ltb, pos, ◌+ℤ◌, +ℤ_idl, +ℤ_idr, length, get_or, set, length-append, set-append_left, set-append_seam, get_or_at, ltb-true, ltb-false, le-ltb, AllOf, by-test, map-append, set-set, List·getD-append}
+use Rattle.lists.proofs.Prelude.{true, and-true, List, [], ◌∷◌, ◌++◌, map, ⊎_elim, ◌≡◌, refl, sym, ap, ap₂, ◌∙◌, ℕ, zero, suc, ◌+◌, ◌*◌, ◌<◌, ◌≤◌, eq-or-lt_of_le, arith, ltb, pos, +ℤ_idl, +ℤ_idr, length, get_or, set, length-append, set-append_left, set-append_seam, get_or_at, ltb-true, ltb-false, le-ltb, AllOf, by-test, map-append, set-set, List·getD-append}
 use Rattle.keyed.specs.Keys.{Item, reach, larger, topmost_from, rest, head_val, head_fine, head_vals, heads_fine}
 use Rattle.keyed.proofs.Walk.{Under, none, more, under_top, larger-left, larger-right}
 use Rattle.kway.specs.Parts.{part, parts}

@@ -4,7 +4,7 @@ use Rattle.words.specs.Words.{all_ones}
 use Rattle.card.specs.Blocks.{link}
 use Rattle.card.specs.Chains.{chain}
 use Rattle.card.specs.declared.Cursor.{Cursor}
-use Rattle.card.specs.Cursors.{InCard, Chained, ahead_at, ahead, moved_of}
+use Rattle.card.specs.Cursors.{InCard, Chained, ahead_at, ahead}
 use Rattle.card.proofs.Links.{length-chain, chain_next}
 use Rattle.outputs.specs.Contents.{reached, entered}
 

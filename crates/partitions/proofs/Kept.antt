@@ -1,5 +1,5 @@
 -- A partition that is written to free blocks is read back, and every other one is read as before.
-use Rattle.lists.proofs.Prelude.{true, ◌&&◌, List, [], ◌∷◌, ◌++◌, ◌≡◌, refl, sym, ap, ap₂, ◌∙◌, ℕ, ◌+◌, ◌*◌, ◌-◌, ◌≤◌, arith, length, get_or, replicate, eq-eqb, every, different, AllOf, and_left, and_right, and_both, every-from}
+use Rattle.lists.proofs.Prelude.{true, ◌&&◌, List, [], ◌∷◌, ◌++◌, ◌≡◌, refl, sym, ap, ap₂, ◌∙◌, ℕ, ◌*◌, ◌-◌, ◌≤◌, arith, length, get_or, replicate, eq-eqb, every, different, AllOf, and_left, and_right, and_both, every-from}
 use Rattle.words.specs.Words.{all_ones}
 use Rattle.postings.specs.declared.Posting.{Posting}
 use Rattle.postings.specs.Spans.{lowest, highest}

@@ -1,5 +1,5 @@
 -- Sums in range.
-use Rattle.lists.proofs.Prelude.{true, ◌&&◌, List, [], ◌∷◌, ◌≡◌, ℕ, ◌≤◌, arith, eqb, pos, nat_abs, ◌+ℤ◌, +ℤ_idl, +ℤ_idr, leb-true, eqb-true, every, by-test, and_left, and_right}
+use Rattle.lists.proofs.Prelude.{true, ◌&&◌, List, [], ◌∷◌, ◌≡◌, ℕ, ◌≤◌, arith, eqb, pos, nat_abs, +ℤ_idl, +ℤ_idr, leb-true, eqb-true, every, by-test, and_left, and_right}
 use Rattle.postings.specs.declared.Posting.{Posting}
 use Rattle.postings.specs.Order.{precedes, ordered}
 use Rattle.postings.specs.Merge.{pairs}

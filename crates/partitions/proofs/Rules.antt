@@ -3,7 +3,7 @@ use Rattle.lists.proofs.Prelude.{true, List, ◌++◌, map, ◌≡◌, refl, sym
 use Rattle.postings.specs.declared.Posting.{Posting}
 use Rattle.postings.specs.Order.{ordered}
 use Rattle.postings.specs.Sums.{under}
-use Rattle.postings.specs.Spans.{lowest, highest}
+use Rattle.postings.specs.Spans.{lowest}
 use Rattle.state.specs.declared.Partition.{Partition}
 use Rattle.partitions.specs.Layout.{identifiers_of, term_count, total_length, length_of, encode}
 use Rattle.partitions.specs.Reading.{field, entry_number, entry_count, entry_start}

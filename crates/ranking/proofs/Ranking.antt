@@ -2,7 +2,7 @@
 use Rattle.lists.proofs.Prelude.{true, ◌&&◌, not, List, [], foldr, map, ◌⊎◌, inl, inr, ◌≡◌, refl, ℕ, ◌≤◌, ◌<◌, arith, ltb, eqb, take, ltb-true, ltb-false, lt-ltb, le-ltb, eqb-true, eq-eqb, ne_eqb, different, by-test, and_left, and_right, or_right}
 use Rattle.lists.proofs.TopK.{Inserts, Ranks, top_after, top-after}
 use Rattle.answers.specs.declared.Hit.{Hit}
-use Rattle.ranking.specs.Hits.{outranks, place, score}
+use Rattle.ranking.specs.Hits.{outranks, place}
 
 -- ---- the order of hits
 

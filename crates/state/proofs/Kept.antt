@@ -1,5 +1,5 @@
 -- What the rules of the state say, as plain facts, and back.
-use Rattle.lists.proofs.Prelude.{true, false, ◌&&◌, ◌||◌, not, cond, ◌⊎◌, inl, inr, ◌≡◌, ℕ, ◌*◌, ◌/◌, ◌%◌, ◌<◌, ◌≤◌, div-add-mod', mul_comm, arith, eqb, leb, ltb, nat_abs, length, drop, ltb-true, leb-true, eqb-true, eqb-false, lt-ltb, le-leb, eq-eqb, ne_eqb, not-true, every, empty, different, by-test, and_left, and_right, and_both}
+use Rattle.lists.proofs.Prelude.{true, false, ◌&&◌, ◌||◌, not, cond, ◌⊎◌, inl, inr, ◌≡◌, ℕ, ◌*◌, ◌/◌, ◌%◌, ◌<◌, ◌≤◌, div-add-mod', mul_comm, arith, eqb, leb, ltb, nat_abs, length, drop, ltb-true, leb-true, eqb-true, eqb-false, lt-ltb, le-leb, eq-eqb, ne_eqb, not-true, every, empty, different, by-test, and_left, and_right}
 use Rattle.postings.specs.declared.Posting.{Posting}
 use Rattle.postings.specs.Merge.{is_zero}
 use Rattle.postings.specs.Order.{ordered}

@@ -1,6 +1,6 @@
 -- Refusal 1: the rules of "What the probe remembers", one definition a rule. What the width of a field says already (a window number is at
 -- most 65,535) is not said again.
-use Rattle.std.specs.Prelude.{Bool, true, ◌||◌, ◌&&◌, not, cond, List, [], ◌∷◌, ℕ, ◌*◌, ◌/◌, ◌%◌, eqb, ltb, leb, nat_abs, length, drop}
+use Rattle.std.specs.Prelude.{Bool, true, ◌||◌, ◌&&◌, not, cond, List, [], ◌∷◌, ℕ, ◌*◌, ◌/◌, ◌%◌, eqb, ltb, leb, nat_abs, drop}
 use Rattle.lists.specs.Lists.{every, empty, different}
 use Rattle.postings.specs.declared.Posting.{Posting}
 use Rattle.postings.specs.Order.{ordered}

@@ -1,5 +1,5 @@
 -- Partitions kept one after another.
-use Rattle.lists.proofs.Prelude.{Bool, true, false, cond, List, [], ◌∷◌, ◌++◌, append-nil, ◌≡◌, sym, ap, ◌∙◌, ℕ, suc, ◌+◌, ◌<◌, ◌≤◌, add-one, arith, length, get_or, take, set, length-take, length-take-le, get_or-take, take-suc, keep, length-keep, keep_append}
+use Rattle.lists.proofs.Prelude.{Bool, true, false, cond, List, [], ◌∷◌, ◌++◌, append-nil, ◌≡◌, sym, ap, ◌∙◌, ℕ, ◌+◌, ◌<◌, ◌≤◌, add-one, arith, length, get_or, take, set, length-take, length-take-le, get_or-take, take-suc, keep, length-keep, keep_append}
 use Rattle.state.specs.declared.Partition.{Partition}
 use Rattle.state.specs.declared.Partitions.{Partitions}
 use Rattle.state.specs.Views.{finished, partitions_of, no_partition}

@@ -3,7 +3,7 @@ use Rattle.lists.proofs.Prelude.{Bool, true, not, List, [], ◌∷◌, map, ◌�
 use Rattle.postings.specs.declared.Stretch.{Stretch}
 use Rattle.state.specs.declared.Partition.{Partition}
 use Rattle.state.specs.declared.State.{State}
-use Rattle.state.specs.Views.{blocks, finished, partitions_of, no_partition, no_merge}
+use Rattle.state.specs.Views.{blocks, finished, no_partition}
 use Rattle.state.specs.Levels.{levels, level_limit, of_level}
 use Rattle.state.specs.Rules.{record_rule, never_rise, merge_rule, state_rule}
 use Rattle.state.proofs.Rows.{held}

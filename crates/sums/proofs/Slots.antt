@@ -1,5 +1,5 @@
 -- The places at which windows are named, and the slots that hold their counts.
-use Rattle.lists.proofs.Prelude.{true, false, List, [], ◌∷◌, ◌≡◌, sym, ap, ◌∙◌, ℕ, suc, ◌+◌, ◌-◌, ◌*◌, ◌<◌, ◌≤◌, add-one, arith, eqb, ltb, length, length-map, length-drop, length-take-le, get_or, get_or-set_same, get_or-set_other, set, length-set, take, drop, drop-cons, drop_of_length-le, eqb-true, eqb-false, eq-eqb, ne_eqb, ltb-true, ltb-false, elem, by-test, never}
+use Rattle.lists.proofs.Prelude.{true, false, List, [], ◌∷◌, ◌≡◌, sym, ap, ◌∙◌, ℕ, suc, ◌+◌, ◌*◌, ◌<◌, ◌≤◌, add-one, arith, eqb, ltb, length, length-map, length-drop, length-take-le, get_or, get_or-set_same, get_or-set_other, set, length-set, take, drop, drop-cons, drop_of_length-le, eqb-true, eqb-false, eq-eqb, ne_eqb, ltb-true, ltb-false, elem, by-test, never}
 use Rattle.kway.specs.Parts.{part}
 use Rattle.kway.proofs.Parts.{first-of, put_in, put-length, put-here, put-before, put-later}
 use Rattle.sums.specs.Views.{held_in, Tidy, Cleared, first_place, held_for}

@@ -1,5 +1,5 @@
 -- What the walk tells of one window is what a removal reads: its lists, its sums and its counts.
-use Rattle.lists.proofs.Prelude.{Bool, true, false, cond, ◌&&◌, ◌||◌, not, and-true, List, [], ◌∷◌, ◌++◌, map, ◌≡◌, refl, sym, ap, ap₂, ◌∙◌, ℕ, zero, suc, ◌+◌, ◌<◌, ◌≤◌, arith, eqb, ltb, leb, ℤ, pos, nat_abs, ◌+ℤ◌, +ℤ_idl, +ℤ_idr, leb-true, le-leb, eqb-true, eqb-false, eq-eqb, ltb-true, ltb-false, lt-ltb, le-ltb, every, joined, by-test, and_left, and_right, and_both, every-from, every-mem, every-keep, every-kept, every_append, every-member}
+use Rattle.lists.proofs.Prelude.{Bool, true, false, cond, ◌&&◌, ◌||◌, not, and-true, List, [], ◌∷◌, ◌++◌, map, ◌≡◌, refl, sym, ap, ap₂, ◌∙◌, ℕ, zero, suc, ◌<◌, ◌≤◌, arith, eqb, ltb, leb, ℤ, pos, nat_abs, ◌+ℤ◌, +ℤ_idl, +ℤ_idr, leb-true, le-leb, eqb-true, eqb-false, eq-eqb, ltb-true, ltb-false, lt-ltb, le-ltb, every, joined, by-test, and_left, and_right, and_both, every-from, every-mem, every-keep, every-kept, every_append, every-member}
 use Rattle.keyed.specs.Keys.{sum_of, sums, over_keys}
 use Rattle.keyed.specs.Groups.{Group, all_fall_all}
 use Rattle.postings.specs.declared.Posting.{Posting}

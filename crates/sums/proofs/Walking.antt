@@ -1,6 +1,6 @@
 -- The walk's invariant, and its turns.
-use Rattle.lists.proofs.Prelude.{Bool, true, false, cond, ◌&&◌, ◌||◌, not, List, [], ◌∷◌, ◌++◌, map, ◌≡◌, refl, sym, ap, ap₂, ◌∙◌, ℕ, suc, ◌+◌, ◌*◌, ◌<◌, ◌≤◌, arith, eqb, ℤ, ◌+ℤ◌, length, get_or, AllOf, elem, by-test}
-use Rattle.keyed.specs.Keys.{Item, reach, larger, topmost_from, rest, head_val, head_vals, heads_fine}
+use Rattle.lists.proofs.Prelude.{Bool, true, false, cond, ◌&&◌, ◌||◌, not, List, [], ◌∷◌, ◌++◌, map, ◌≡◌, refl, sym, ap, ap₂, ◌∙◌, ℕ, suc, ◌*◌, ◌<◌, ◌≤◌, arith, eqb, ℤ, ◌+ℤ◌, length, get_or, AllOf, elem, by-test}
+use Rattle.keyed.specs.Keys.{Item, larger, topmost_from, rest, head_val, head_vals, heads_fine}
 use Rattle.keyed.specs.Groups.{Group, top_all, heads_fine_all}
 use Rattle.postings.specs.declared.Posting.{Posting}
 use Rattle.postings.specs.Merge.{is_zero}

@@ -1,5 +1,5 @@
 -- A window's sums, and its counts read from them.
-use Rattle.lists.proofs.Prelude.{Bool, true, List, [], ◌∷◌, List-as-Memᴰ, ◌≡◌, refl, sym, ◌∙◌, ℕ, ◌≤◌, eqb, ℤ, pos, nat_abs, ◌+ℤ◌, +ℤ_idl, eqb-true, every, by-test, every-kept, every-keep, every-mem, and-false}
+use Rattle.lists.proofs.Prelude.{Bool, true, List, [], ◌∷◌, List-as-Memᴰ, ◌≡◌, refl, sym, ◌∙◌, ℕ, ◌≤◌, eqb, ℤ, pos, nat_abs, +ℤ_idl, eqb-true, every, by-test, every-kept, every-keep, every-mem, and-false}
 use Rattle.postings.specs.declared.Posting.{Posting}
 use Rattle.postings.specs.Order.{ordered}
 use Rattle.postings.specs.Merge.{counting, is_counted, pairs, nonzero}

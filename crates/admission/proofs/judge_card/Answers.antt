@@ -1,4 +1,4 @@
-use Rattle.lists.proofs.Prelude.{length, rules, eq-eqb, ne_eqb, not-true, not-false}
+use Rattle.lists.proofs.Prelude.{length, eq-eqb, ne_eqb, not-true, not-false}
 use Rattle.admission.proofs.judge_card.Goals as goal
 
 pub returns-then-not-sound : goal.returns-then-not-sound

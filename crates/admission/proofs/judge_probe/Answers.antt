@@ -1,4 +1,4 @@
-use Rattle.lists.proofs.Prelude.{sym, ◌∙◌, arith, rules, not-true, not-false}
+use Rattle.lists.proofs.Prelude.{sym, ◌∙◌, arith, not-true, not-false}
 use Rattle.admission.specs.Admission.{same_lengths}
 use Rattle.admission.proofs.Laws.{register-size}
 use Rattle.admission.proofs.judge_probe.Goals as goal

@@ -1,5 +1,5 @@
 -- `answers::number_of` meets its contract: each case by itself.
-use Rattle.lists.proofs.Prelude.{sym, ap, rules}
+use Rattle.lists.proofs.Prelude.{sym, ap}
 use Rattle.answers.specs.Numbers.{refusal_number}
 use Rattle.answers.proofs.number_of.Goals as goal
 

@@ -1,5 +1,5 @@
 -- `averages::divide` meets its contract.
-use Rattle.lists.proofs.Prelude.{sym, ◌∙◌, arith, eq-eqb, ne_eqb, rules}
+use Rattle.lists.proofs.Prelude.{sym, ◌∙◌, arith, eq-eqb, ne_eqb}
 use Rattle.answers.specs.Answers.{refuse_if}
 use Rattle.averages.specs.Average.{averaging}
 use Rattle.averages.proofs.Division.{left_below, mean-most}

@@ -31,8 +31,7 @@ loop-i-init c =
     let begins : Reached (store_of c.args.s c.args.card.now) c.args.named.now (counts_at c.args.s c.args.card.now) c.args.s c.args.card.now 0 =
     let wide : length c.args.s.buffer.postings ≡ 128 = search (unmapped, rules, c.well_formed.0.1.1.1.1.1.0.1.1) in
     let f : Fits w16 c.args.s.windows.last = search rules in
-    reached-none c.args.s c.args.card.now c.args.named.now c.requires wide (λ i. omega (arith, c.shared_slice_known-1.given i)) (omega (arith, f.fits)) in
-    (
+    reached-none c.args.s c.args.card.now c.args.named.now c.requires wide (λ i. omega (arith, c.shared_slice_known-1.given i)) (omega (arith, f.fits)) in (
       omega arith,
       record {
         state = c.args.s;

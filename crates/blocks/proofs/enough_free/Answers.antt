@@ -1,4 +1,4 @@
-use Rattle.lists.proofs.Prelude.{⊎_elim, ◌≡◌, refl, sym, ◌∙◌, ◌+◌, ◌-◌, ◌<◌, ◌≤◌, arith, leb, length, drop, ltb-true, ltb-false, le-leb, eq-eqb, keep, leb-less, leb-none}
+use Rattle.lists.proofs.Prelude.{⊎_elim, ◌≡◌, refl, sym, ◌∙◌, ◌+◌, ◌<◌, arith, length, drop, ltb-true, ltb-false, le-leb, eq-eqb, keep, leb-less, leb-none}
 use Rattle.words.specs.Words.{words}
 use Rattle.card.specs.Blocks.{is_free, after_taken, free_blocks}
 use Rattle.blocks.proofs.Taking.{free-here, free-not-here, free-none}

@@ -1,8 +1,7 @@
 -- `blocks::enough_free` meets its contract. The invariant: enough are free where what is missing is free in the places from i on.
-use Rattle.lists.proofs.Prelude.{⊎_elim, ◌≡◌, refl, sym, ◌∙◌, ◌+◌, ◌-◌, ◌<◌, ◌≤◌, arith, leb, length, drop, ltb-true, ltb-false, le-leb, eq-eqb, keep, leb-less, leb-none}
+use Rattle.lists.proofs.Prelude.{◌≡◌, ◌-◌, ◌≤◌, leb, length, drop, keep}
 use Rattle.words.specs.Words.{words}
 use Rattle.card.specs.Blocks.{is_free, after_taken, free_blocks}
-use Rattle.blocks.proofs.Taking.{free-here, free-not-here, free-none}
 use Rattle.blocks.proofs.enough_free.Given as goal
 
 abbrev pub invariant-loop-i : goal.invariant-loop-i

@@ -1,6 +1,5 @@
-use Rattle.lists.proofs.Prelude.{◌≡◌, refl, sym, ◌∙◌, ◌-◌, ◌≤◌, arith, eqb, drop, every}
-use Rattle.words.specs.Words.{words, all_ones}
-use Rattle.card.specs.Blocks.{block as block_of, is_free}
+use Rattle.lists.proofs.Prelude.{refl, sym, ◌∙◌, arith}
+use Rattle.words.specs.Words.{words}
 use Rattle.blocks.proofs.Taking.{free-past, free-not, free-end}
 use Rattle.blocks.proofs.is_free.Goals as goal
 

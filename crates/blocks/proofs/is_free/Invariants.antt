@@ -1,8 +1,7 @@
 -- `blocks::is_free` meets its contract. The invariant: the block is free where its words from `at` on are all ones.
-use Rattle.lists.proofs.Prelude.{◌≡◌, refl, sym, ◌∙◌, ◌-◌, ◌≤◌, arith, eqb, drop, every}
+use Rattle.lists.proofs.Prelude.{◌≡◌, ◌-◌, ◌≤◌, eqb, drop, every}
 use Rattle.words.specs.Words.{words, all_ones}
 use Rattle.card.specs.Blocks.{block as block_of, is_free}
-use Rattle.blocks.proofs.Taking.{free-past, free-not, free-end}
 use Rattle.blocks.proofs.is_free.Given as goal
 
 abbrev pub invariant-loop-at : goal.invariant-loop-at

@@ -1,6 +1,6 @@
-use Rattle.lists.proofs.Prelude.{◌≡◌, refl, sym, ap, ◌∙◌, ◌-◌, ◌≤◌, arith, drop, keep}
+use Rattle.lists.proofs.Prelude.{refl, sym, ap, ◌∙◌, arith}
 use Rattle.words.specs.Words.{words}
-use Rattle.card.specs.Blocks.{is_free, after_taken, free_blocks}
+use Rattle.card.specs.Blocks.{free_blocks}
 use Rattle.blocks.specs.Free.{first_of}
 use Rattle.blocks.proofs.Taking.{free-here, free-not-here, free-none}
 use Rattle.blocks.proofs.next_free.Goals as goal

@@ -1,9 +1,7 @@
 -- `blocks::next_free` meets its contract. The invariant: the free blocks are those in the places from i on.
-use Rattle.lists.proofs.Prelude.{◌≡◌, refl, sym, ap, ◌∙◌, ◌-◌, ◌≤◌, arith, drop, keep}
+use Rattle.lists.proofs.Prelude.{◌≡◌, ◌-◌, ◌≤◌, drop, keep}
 use Rattle.words.specs.Words.{words}
 use Rattle.card.specs.Blocks.{is_free, after_taken, free_blocks}
-use Rattle.blocks.specs.Free.{first_of}
-use Rattle.blocks.proofs.Taking.{free-here, free-not-here, free-none}
 use Rattle.blocks.proofs.next_free.Given as goal
 
 abbrev pub invariant-loop-i : goal.invariant-loop-i

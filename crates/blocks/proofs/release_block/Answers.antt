@@ -1,8 +1,7 @@
-use Rattle.lists.proofs.Prelude.{[], ◌∷◌, ◌≡◌, refl, sym, ◌∙◌, ◌+◌, ◌-◌, ◌*◌, ◌≤◌, arith, length, sets}
+use Rattle.lists.proofs.Prelude.{◌≡◌, refl, sym, ◌∙◌, ◌+◌, ◌-◌, ◌*◌, arith}
 use Rattle.words.specs.Words.{words}
 use Rattle.words.proofs.Views.{length-words}
-use Rattle.blocks.specs.Writes.{release}
-use Rattle.blocks.proofs.Releasing.{ones, ones-more, ones_none, release-one}
+use Rattle.blocks.proofs.Releasing.{ones-more, ones_none, release-one}
 use Rattle.blocks.proofs.release_block.Goals as goal
 
 pub loop-i-init : goal.loop-i-init

@@ -1,9 +1,8 @@
 -- `blocks::release_block` meets its contract. The invariant: storing what is left of 1,024 words of all ones gives the freed block.
-use Rattle.lists.proofs.Prelude.{[], ◌∷◌, ◌≡◌, refl, sym, ◌∙◌, ◌+◌, ◌-◌, ◌*◌, ◌≤◌, arith, length, sets}
+use Rattle.lists.proofs.Prelude.{[], ◌∷◌, ◌≡◌, ◌+◌, ◌-◌, ◌*◌, ◌≤◌, length, sets}
 use Rattle.words.specs.Words.{words}
-use Rattle.words.proofs.Views.{length-words}
 use Rattle.blocks.specs.Writes.{release}
-use Rattle.blocks.proofs.Releasing.{ones, ones-more, ones_none, release-one}
+use Rattle.blocks.proofs.Releasing.{ones}
 use Rattle.blocks.proofs.release_block.Given as goal
 
 abbrev pub invariant-loop-i : goal.invariant-loop-i

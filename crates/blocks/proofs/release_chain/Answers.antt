@@ -1,8 +1,5 @@
-use Rattle.lists.proofs.Prelude.{true, ◌≡◌, refl, sym, ◌∙◌, arith, length, different}
+use Rattle.lists.proofs.Prelude.{refl, sym, ◌∙◌, arith}
 use Rattle.words.specs.Words.{words}
-use Rattle.card.specs.Chains.{chain}
-use Rattle.card.specs.Cursors.{Chained}
-use Rattle.blocks.specs.Writes.{release}
 use Rattle.card.proofs.Chains.{chained_more}
 use Rattle.blocks.proofs.Releasing.{release-more, release-none}
 use Rattle.blocks.proofs.release_chain.Goals as goal

@@ -1,12 +1,10 @@
 -- `blocks::release_chain` meets its contract. The invariant: freeing the blocks that are left gives the card with the whole chain freed; they are
 -- different blocks of the card.
-use Rattle.lists.proofs.Prelude.{true, ◌≡◌, refl, sym, ◌∙◌, arith, length, different}
+use Rattle.lists.proofs.Prelude.{true, ◌≡◌, length, different}
 use Rattle.words.specs.Words.{words}
 use Rattle.card.specs.Chains.{chain}
 use Rattle.card.specs.Cursors.{Chained}
 use Rattle.blocks.specs.Writes.{release}
-use Rattle.card.proofs.Chains.{chained_more}
-use Rattle.blocks.proofs.Releasing.{release-more, release-none}
 use Rattle.blocks.proofs.release_chain.Given as goal
 
 abbrev pub invariant-loop-left : goal.invariant-loop-left

@@ -1,5 +1,5 @@
 -- `blocks::tried` meets its contract: upward after the block last taken, then from 0 on.
-use Rattle.lists.proofs.Prelude.{sym, arith, rules}
+use Rattle.lists.proofs.Prelude.{sym, arith}
 use Rattle.blocks.proofs.Taking.{after-up, after-round}
 use Rattle.blocks.proofs.tried.Goals as goal
 

@@ -1,4 +1,4 @@
-use Rattle.lists.proofs.Prelude.{⊎_elim, sym, ◌∙◌, arith, rules, get_or-take}
+use Rattle.lists.proofs.Prelude.{⊎_elim, sym, ◌∙◌, arith, get_or-take}
 use Rattle.state.specs.Views.{buffered, no_posting}
 use Rattle.buffer.specs.Places.{pair}
 use Rattle.buffer.proofs.Canonical.{canonical-used}

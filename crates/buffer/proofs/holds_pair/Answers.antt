@@ -1,4 +1,4 @@
-use Rattle.lists.proofs.Prelude.{◌≡◌, refl, sym, ◌∙◌, ◌≤◌, ◌-◌, arith, rules, length, take, drop, any, unmapped}
+use Rattle.lists.proofs.Prelude.{refl, sym, ◌∙◌, arith, rules, unmapped}
 use Rattle.lists.proofs.Places.{any-turn, any-ended}
 use Rattle.postings.specs.Order.{same_pair}
 use Rattle.state.specs.Views.{no_posting}

@@ -1,7 +1,5 @@
-use Rattle.lists.proofs.Prelude.{◌≡◌, refl, sym, ◌∙◌, ◌≤◌, ◌-◌, arith, rules, length, take, drop, any, unmapped}
-use Rattle.lists.proofs.Places.{any-turn, any-ended}
+use Rattle.lists.proofs.Prelude.{◌≡◌, ◌≤◌, ◌-◌, length, take, drop, any}
 use Rattle.postings.specs.Order.{same_pair}
-use Rattle.state.specs.Views.{no_posting}
 use Rattle.buffer.specs.Places.{pair}
 use Rattle.buffer.proofs.holds_pair.Given as goal
 

@@ -1,8 +1,5 @@
-use Rattle.lists.proofs.Prelude.{List, ◌≡◌, refl, sym, ap, ap₂, ◌∙◌, ℕ, ◌≤◌, ◌+◌, ◌-◌, arith, rules, length, get_or, set, unmapped}
-use Rattle.lists.proofs.Shifts.{raised, raised-none, raised-more}
-use Rattle.postings.specs.declared.Posting.{Posting}
-use Rattle.state.specs.Views.{no_posting}
-use Rattle.buffer.proofs.Canonical.{made, insert-made}
+use Rattle.lists.proofs.Prelude.{◌≡◌, ◌≤◌, length}
+use Rattle.lists.proofs.Shifts.{raised}
 use Rattle.buffer.proofs.insert.Given as goal
 
 abbrev pub invariant-loop-i : goal.invariant-loop-i

@@ -1,6 +1,6 @@
-use Rattle.lists.proofs.Prelude.{◌≡◌, sym, ◌∙◌, ◌≤◌, ◌+◌, ◌-◌, ◌/◌, arith, rules, length, get_or-take, unmapped}
+use Rattle.lists.proofs.Prelude.{sym, ◌∙◌, ◌+◌, ◌/◌, arith, rules, get_or-take, unmapped}
 use Rattle.state.specs.Views.{buffered, no_posting}
-use Rattle.buffer.specs.Places.{pair, places_before}
+use Rattle.buffer.specs.Places.{pair}
 use Rattle.buffer.proofs.Canonical.{canonical-used}
 use Rattle.buffer.proofs.Ranks.{rank-le, rank-above, rank_below}
 use Rattle.buffer.proofs.rank_of.Goals as goal

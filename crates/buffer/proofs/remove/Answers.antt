@@ -1,4 +1,4 @@
-use Rattle.lists.proofs.Prelude.{List, ◌≡◌, refl, sym, ap, ap₂, ◌∙◌, ℕ, ◌≤◌, ◌<◌, ◌+◌, ◌-◌, arith, rules, length, get_or, set, unmapped}
+use Rattle.lists.proofs.Prelude.{List, ◌≡◌, refl, sym, ap, ap₂, ◌∙◌, ℕ, ◌+◌, ◌-◌, arith, rules, get_or, set, unmapped}
 use Rattle.lists.proofs.Shifts.{lowered, lowered_none, lowered-more}
 use Rattle.postings.specs.declared.Posting.{Posting}
 use Rattle.state.specs.Views.{no_posting}

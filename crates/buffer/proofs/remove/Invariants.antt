@@ -1,8 +1,5 @@
-use Rattle.lists.proofs.Prelude.{List, ◌≡◌, refl, sym, ap, ap₂, ◌∙◌, ℕ, ◌≤◌, ◌<◌, ◌+◌, ◌-◌, arith, rules, length, get_or, set, unmapped}
-use Rattle.lists.proofs.Shifts.{lowered, lowered_none, lowered-more}
-use Rattle.postings.specs.declared.Posting.{Posting}
-use Rattle.state.specs.Views.{no_posting}
-use Rattle.buffer.proofs.Canonical.{made, remove-made}
+use Rattle.lists.proofs.Prelude.{◌≡◌, ◌≤◌, ◌<◌, ◌-◌, length}
+use Rattle.lists.proofs.Shifts.{lowered}
 use Rattle.buffer.proofs.remove.Given as goal
 
 abbrev pub invariant-loop-i : goal.invariant-loop-i

@@ -1,4 +1,3 @@
-use borrow.Author.Rules.{rules}
 use Rattle.buffer.proofs.Canonical.{replace-made}
 use Rattle.buffer.proofs.replace.Goals as goal
 

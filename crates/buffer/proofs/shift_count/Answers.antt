@@ -40,7 +40,6 @@ module _ (xs : List Posting) (u k : ℕ) (a r : ℤ) (h : k < u) (fa : SFits w16
       let t : is_zero z ≡ false = by-test (is_zero z) (λ y. absurd (n (ap (of_z w32) (sum_is ∙ is-zero z y)))) (λ m. m) in
       rw (wide, to_z-of_z narrow, ← get_or-take u xs k no_posting h, t, sum_is)
 
-
 pub returns-then-sum-eq0 : goal.returns-then-sum-eq0
 returns-then-sum-eq0 c =
     let b = c.args.b in

@@ -1,6 +1,6 @@
-use Rattle.lists.proofs.Prelude.{◌≡◌, refl, sym, ◌∙◌, ◌≤◌, arith, le-ltb}
+use Rattle.lists.proofs.Prelude.{refl, sym, ◌∙◌, arith, le-ltb}
 use Rattle.words.specs.Words.{words}
-use Rattle.card.proofs.Chains.{rest_rule, rule-rest, rule-none, rest_out, rest-on, rest_end}
+use Rattle.card.proofs.Chains.{rule-rest, rule-none, rest_out, rest-on, rest_end}
 use Rattle.card.proofs.chain_ok.Goals as goal
 
 pub loop-m-init : goal.loop-m-init

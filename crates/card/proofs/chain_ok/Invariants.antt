@@ -1,8 +1,8 @@
 -- `card::chain_ok` meets its contract. The invariant: the rule of the chain is the rule of the m blocks that are left from `next` on.
 --
-use Rattle.lists.proofs.Prelude.{◌≡◌, refl, sym, ◌∙◌, ◌≤◌, arith, le-ltb}
+use Rattle.lists.proofs.Prelude.{◌≡◌, ◌≤◌}
 use Rattle.words.specs.Words.{words}
-use Rattle.card.proofs.Chains.{rest_rule, rule-rest, rule-none, rest_out, rest-on, rest_end}
+use Rattle.card.proofs.Chains.{rest_rule}
 use Rattle.card.proofs.chain_ok.Given as goal
 
 abbrev pub invariant-loop-m : goal.invariant-loop-m

@@ -1,5 +1,5 @@
 -- `card::head` meets its contract: the word to come is in its block, and the block on the card.
-use Rattle.lists.proofs.Prelude.{arith, rules}
+use Rattle.lists.proofs.Prelude.{arith}
 use Rattle.words.specs.Words.{words}
 use Rattle.card.proofs.Cursors.{in_block, in-card}
 use Rattle.card.proofs.head.Goals as goal

@@ -1,7 +1,6 @@
 -- `card::is_marked` meets its contract: a shift and a mask of one bit are a quotient and a remainder.
 use lib.Bits.{and_mask}
 use Rattle.card.specs.Marks.{marked}
-use borrow.Author.Rules.{rules}
 use Rattle.card.proofs.is_marked.Goals as goal
 
 pub returns : goal.returns

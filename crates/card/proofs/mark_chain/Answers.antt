@@ -1,9 +1,8 @@
-use Rattle.lists.proofs.Prelude.{◌||◌, or-false, ◌≡◌, refl, sym, ◌∙◌, ℕ, ◌-◌, arith, elem, never, apart-hit, apart_more, union_more}
+use Rattle.lists.proofs.Prelude.{or-false, refl, sym, ◌∙◌, ◌-◌, arith, never, apart-hit, apart_more, union_more}
 use Rattle.words.specs.Words.{words}
 use Rattle.card.specs.Blocks.{link}
 use Rattle.card.specs.Chains.{chain}
-use Rattle.card.specs.Cursors.{Chained}
-use Rattle.card.specs.Marks.{marked, unmarked}
+use Rattle.card.specs.Marks.{marked}
 use Rattle.card.proofs.Chains.{chain_more, chain-none, chained_more}
 use Rattle.card.proofs.mark_chain.Goals as goal
 

@@ -1,12 +1,10 @@
 -- `card::mark_chain` meets its contract. The invariant: what was asked of the chain and the first marks is what is to be asked of the blocks that
 -- are left and the marks by now.
-use Rattle.lists.proofs.Prelude.{◌||◌, or-false, ◌≡◌, refl, sym, ◌∙◌, ℕ, ◌-◌, arith, elem, never, apart-hit, apart_more, union_more}
+use Rattle.lists.proofs.Prelude.{◌||◌, ◌≡◌, ℕ, elem}
 use Rattle.words.specs.Words.{words}
-use Rattle.card.specs.Blocks.{link}
 use Rattle.card.specs.Chains.{chain}
 use Rattle.card.specs.Cursors.{Chained}
 use Rattle.card.specs.Marks.{marked, unmarked}
-use Rattle.card.proofs.Chains.{chain_more, chain-none, chained_more}
 use Rattle.card.proofs.mark_chain.Given as goal
 
 abbrev pub invariant-loop-i : goal.invariant-loop-i

@@ -1,5 +1,5 @@
 -- `card::moved` meets its contract: a link is followed only where `Good` says that it names a block of the card.
-use Rattle.lists.proofs.Prelude.{⊎_elim, arith, ltb-true, eq-eqb, ne_eqb, rules}
+use Rattle.lists.proofs.Prelude.{⊎_elim, arith, ltb-true, eq-eqb, ne_eqb}
 use Rattle.words.specs.Words.{words}
 use Rattle.card.proofs.Cursors.{in_block, in-card, link-in}
 use Rattle.card.proofs.moved.Goals as goal

@@ -1,7 +1,5 @@
-use Rattle.lists.proofs.Prelude.{inl, inr, ⊎_elim, ◌≡◌, refl, ◌∙◌, ◌≤◌, ◌+◌, ◌*◌, arith, take, drop, ltb-true, ltb-false}
+use Rattle.lists.proofs.Prelude.{inl, inr, ⊎_elim, refl, ◌∙◌, arith, ltb-true, ltb-false}
 use Rattle.words.specs.Words.{words}
-use Rattle.card.specs.Chains.{chain, content}
-use Rattle.card.specs.Cursors.{Chained}
 use Rattle.card.proofs.Seeking.{ahead-chain, past}
 use Rattle.card.proofs.seek.Goals as goal
 

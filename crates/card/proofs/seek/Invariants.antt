@@ -1,10 +1,9 @@
 -- `card::seek` meets its contract. The invariant: what is sought is the same number of words in the content of the blocks still to come, past `k`.
 -- Each turn passes over one block.
-use Rattle.lists.proofs.Prelude.{inl, inr, ⊎_elim, ◌≡◌, refl, ◌∙◌, ◌≤◌, ◌+◌, ◌*◌, arith, take, drop, ltb-true, ltb-false}
+use Rattle.lists.proofs.Prelude.{◌≡◌, ◌≤◌, ◌+◌, ◌*◌, take, drop}
 use Rattle.words.specs.Words.{words}
 use Rattle.card.specs.Chains.{chain, content}
 use Rattle.card.specs.Cursors.{Chained}
-use Rattle.card.proofs.Seeking.{ahead-chain, past}
 use Rattle.card.proofs.seek.Given as goal
 
 abbrev pub invariant-loop-k : goal.invariant-loop-k

@@ -1,5 +1,5 @@
-use Rattle.lists.proofs.Prelude.{◌≡◌, ◌∙◌, ◌≤◌, ◌-◌, arith, length, length-set, rules}
-use Rattle.census.proofs.Marks.{ClearTo, clear-more, clear-all}
+use Rattle.lists.proofs.Prelude.{◌∙◌, arith, length-set, rules}
+use Rattle.census.proofs.Marks.{clear-more, clear-all}
 use Rattle.census.proofs.clear.Goals as goal
 
 pub loop-i-init : goal.loop-i-init

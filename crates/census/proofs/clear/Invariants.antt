@@ -1,6 +1,6 @@
 -- `census::clear` meets its contract. The invariant: the first i numbers are 0.
-use Rattle.lists.proofs.Prelude.{◌≡◌, ◌∙◌, ◌≤◌, ◌-◌, arith, length, length-set, rules}
-use Rattle.census.proofs.Marks.{ClearTo, clear-more, clear-all}
+use Rattle.lists.proofs.Prelude.{◌≡◌, ◌≤◌, ◌-◌, length}
+use Rattle.census.proofs.Marks.{ClearTo}
 use Rattle.census.proofs.clear.Given as goal
 
 abbrev pub invariant-loop-i : goal.invariant-loop-i

@@ -1,5 +1,5 @@
 -- `census::count_part` meets its contract: the heads have the partitions' postings to come.
-use Rattle.lists.proofs.Prelude.{arith, rules}
+use Rattle.lists.proofs.Prelude.{arith}
 use Rattle.words.specs.Words.{words}
 use Rattle.state.specs.Views.{finished}
 use Rattle.state.specs.Shown.{shown_in}

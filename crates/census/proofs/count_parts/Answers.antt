@@ -1,9 +1,9 @@
-use Rattle.lists.proofs.Prelude.{⊎_elim, ◌++◌, ◌≡◌, sym, ◌∙◌, ◌+◌, ◌-◌, ◌≤◌, arith, length, rules, not-true, not-false}
+use Rattle.lists.proofs.Prelude.{⊎_elim, ◌++◌, sym, ◌∙◌, ◌≤◌, arith, rules, not-true, not-false}
 use Rattle.words.specs.Words.{words}
 use Rattle.state.specs.Views.{buffered, finished}
 use Rattle.partitions.specs.Reading.{in_partitions}
 use Rattle.census.proofs.Walking.{not-told}
-use Rattle.census.proofs.Parts.{so_far, so-far-few, so-far-none, part-more, part-last}
+use Rattle.census.proofs.Parts.{so-far-few, so-far-none, part-more, part-last}
 use Rattle.census.proofs.count_parts.Goals as goal
 use Rattle.census.proofs.count_parts.Lts as lts
 use Rattle.census.proofs.count_parts.Tie as tie

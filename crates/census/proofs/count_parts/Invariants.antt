@@ -1,10 +1,9 @@
 -- `census::count_parts` meets its contract. The invariant: the windows of the stretch below `from` are counted.
-use Rattle.lists.proofs.Prelude.{⊎_elim, ◌++◌, ◌≡◌, sym, ◌∙◌, ◌+◌, ◌-◌, ◌≤◌, arith, length, rules, not-true, not-false}
+use Rattle.lists.proofs.Prelude.{◌++◌, ◌≡◌, ◌-◌, ◌≤◌, length}
 use Rattle.words.specs.Words.{words}
 use Rattle.state.specs.Views.{buffered, finished}
 use Rattle.partitions.specs.Reading.{in_partitions}
-use Rattle.census.proofs.Walking.{not-told}
-use Rattle.census.proofs.Parts.{so_far, so-far-few, so-far-none, part-more, part-last}
+use Rattle.census.proofs.Parts.{so_far}
 use Rattle.census.proofs.count_parts.Given as goal
 
 abbrev pub invariant-loop-ps : goal.invariant-loop-ps

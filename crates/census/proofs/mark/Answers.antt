@@ -1,6 +1,6 @@
 -- `census::mark` meets its contract: one bit is set in one number, and a shift and a mask of one bit tell whether it was.
 use lib.Bits.{and_mask}
-use Rattle.lists.proofs.Prelude.{◌%◌, arith, length-set, eq-eqb, ne_eqb, rules}
+use Rattle.lists.proofs.Prelude.{◌%◌, arith, length-set, eq-eqb, ne_eqb}
 use Rattle.card.proofs.Marking.{bits-set, one_at}
 use Rattle.census.proofs.mark.Goals as goal
 

@@ -3,7 +3,7 @@ use mir.Facts.{to_z-of_z}
 use mir.Syntax.{w32}
 use mir.Val.{to_z, of_z, SFits}
 use lib.Signed.{lt_z}
-use Rattle.lists.proofs.Prelude.{Bool, true, ◌&&◌, ◌≡◌, sym, ◌∙◌, ap, ℕ, ℤ, pos, arith, and_left, and_right, rules}
+use Rattle.lists.proofs.Prelude.{Bool, true, ◌&&◌, ◌≡◌, sym, ◌∙◌, ap, ℕ, ℤ, pos, arith, and_left, and_right}
 use Rattle.postings.specs.declared.Stretch.{Stretch}
 use Rattle.postings.specs.Sums.{is_above}
 use Rattle.state.specs.Shown.{shows_in}

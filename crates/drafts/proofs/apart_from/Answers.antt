@@ -1,10 +1,9 @@
-use Rattle.lists.proofs.Prelude.{◌≡◌, refl, sym, ◌∙◌, ◌-◌, ◌≤◌, arith, length, get_or, drop, rules, not-false, unmapped, of-used, failed}
+use Rattle.lists.proofs.Prelude.{refl, sym, ◌∙◌, arith, get_or, rules, not-false, unmapped, of-used, failed}
 use Rattle.words.specs.Words.{words}
-use Rattle.state.specs.Views.{no_partition, finished}
+use Rattle.state.specs.Views.{no_partition}
 use Rattle.card.specs.Chains.{blocks_for, chain}
 use Rattle.card.specs.Cursors.{Chained}
 use Rattle.card.specs.Marks.{unmarked}
-use Rattle.partitions.specs.Formed.{chains_of}
 use Rattle.drafts.proofs.Apart.{apart-fails, apart-step, apart-end}
 use Rattle.drafts.proofs.apart_from.Goals as goal
 

@@ -1,13 +1,10 @@
 -- `drafts::apart_from` meets its contract. The invariant: that all blocks are apart from the marks given is that those of the partitions from i on are
 -- apart from the marks so far.
-use Rattle.lists.proofs.Prelude.{◌≡◌, refl, sym, ◌∙◌, ◌-◌, ◌≤◌, arith, length, get_or, drop, rules, not-false, unmapped, of-used, failed}
+use Rattle.lists.proofs.Prelude.{◌≡◌, ◌-◌, ◌≤◌, length, drop}
 use Rattle.words.specs.Words.{words}
-use Rattle.state.specs.Views.{no_partition, finished}
-use Rattle.card.specs.Chains.{blocks_for, chain}
-use Rattle.card.specs.Cursors.{Chained}
+use Rattle.state.specs.Views.{finished}
 use Rattle.card.specs.Marks.{unmarked}
 use Rattle.partitions.specs.Formed.{chains_of}
-use Rattle.drafts.proofs.Apart.{apart-fails, apart-step, apart-end}
 use Rattle.drafts.proofs.apart_from.Given as goal
 
 abbrev pub invariant-loop-i : goal.invariant-loop-i

@@ -1,5 +1,5 @@
 -- `drafts::first_batch` meets its contract.
-use Rattle.lists.proofs.Prelude.{ap, ◌∙◌, length, take, rules}
+use Rattle.lists.proofs.Prelude.{ap, ◌∙◌, length, take}
 use Rattle.postings.specs.Merge.{nonzero}
 use Rattle.drafts.proofs.first_batch.Goals as goal
 

@@ -1,5 +1,5 @@
 -- `drafts::read_draft` meets its contract.
-use Rattle.lists.proofs.Prelude.{refl, sym, ap, ap₂, ◌∙◌, ◌&&◌, ◌-◌, ◌*◌, ◌≤◌, arith, length, take, drop, rules}
+use Rattle.lists.proofs.Prelude.{refl, sym, ap, ap₂, ◌∙◌, ◌&&◌, ◌-◌, ◌*◌, ◌≤◌, arith, length, take, drop}
 use Rattle.words.specs.Words.{words}
 use Rattle.postings.specs.Merge.{nonzero, pairs}
 use Rattle.state.specs.Views.{finished}

@@ -1,5 +1,5 @@
 -- `drafts::stands_apart` meets its contract.
-use Rattle.lists.proofs.Prelude.{Bool, ◌&&◌, ◌++◌, sym, ap, ◌∙◌, rules, not-false, failed}
+use Rattle.lists.proofs.Prelude.{Bool, ◌&&◌, ◌++◌, sym, ap, ◌∙◌, not-false, failed}
 use Rattle.words.specs.Words.{words}
 use Rattle.state.specs.Views.{finished}
 use Rattle.card.specs.Chains.{chain}

@@ -18,12 +18,11 @@ target_of-target-requires c =
     (c.requires.rule, card-size c.args.s.lengths c.args.card.now c.args.register.now c.requires.lengths)
 
 pub flush_to-requires : goal.flush_to-requires
-flush_to-requires c =
-    (
-      c.requires.rule,
-      card-size c.args.s.lengths c.args.card.now c.args.register.now c.requires.lengths,
-      (rw c.in-Block.is at c.target_of-target.ensures).1,
-    )
+flush_to-requires c = (
+  c.requires.rule,
+  card-size c.args.s.lengths c.args.card.now c.args.register.now c.requires.lengths,
+  (rw c.in-Block.is at c.target_of-target.ensures).1,
+)
 
 pub enter-requires : goal.enter-requires
 enter-requires c =

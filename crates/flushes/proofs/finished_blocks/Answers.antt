@@ -1,6 +1,6 @@
-use Rattle.lists.proofs.Prelude.{List, ◌≡◌, ◌+◌, ◌*◌, ◌-◌, ◌≤◌, arith, length, drop, rules, total_by, unmapped, used_turn, used-end}
+use Rattle.lists.proofs.Prelude.{List, ◌+◌, arith, rules, total_by, unmapped, used_turn, used-end}
 use Rattle.state.specs.declared.Partition.{Partition}
-use Rattle.state.specs.Views.{finished, no_partition}
+use Rattle.state.specs.Views.{no_partition}
 use Rattle.card.specs.Chains.{blocks_for}
 use Rattle.flushes.proofs.finished_blocks.Goals as goal
 

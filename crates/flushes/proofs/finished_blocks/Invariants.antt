@@ -1,7 +1,6 @@
 -- `flushes::finished_blocks` meets its contract. The invariant: the total so far and the blocks of the records not passed make the whole.
-use Rattle.lists.proofs.Prelude.{List, ◌≡◌, ◌+◌, ◌*◌, ◌-◌, ◌≤◌, arith, length, drop, rules, total_by, unmapped, used_turn, used-end}
-use Rattle.state.specs.declared.Partition.{Partition}
-use Rattle.state.specs.Views.{finished, no_partition}
+use Rattle.lists.proofs.Prelude.{◌≡◌, ◌+◌, ◌*◌, ◌-◌, ◌≤◌, length, drop, total_by}
+use Rattle.state.specs.Views.{finished}
 use Rattle.card.specs.Chains.{blocks_for}
 use Rattle.flushes.proofs.finished_blocks.Given as goal
 

@@ -1,4 +1,4 @@
-use Rattle.lists.proofs.Prelude.{refl, rules}
+use Rattle.lists.proofs.Prelude.{refl}
 use denote.Enum.Declared.{tag_of}
 use Rattle.flushes.specs.contracts.Target.{the_type}
 use Rattle.flushes.proofs.Flushes.{gives-by, refuses, leaves, nothing-told}

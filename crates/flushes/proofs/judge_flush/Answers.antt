@@ -1,4 +1,4 @@
-use Rattle.lists.proofs.Prelude.{refl, rules}
+use Rattle.lists.proofs.Prelude.{refl}
 use denote.Enum.Declared.{tag_of}
 use Rattle.state.specs.Rules.{state_rule}
 use Rattle.admission.specs.contracts.Admission.{the_type}

@@ -1,4 +1,4 @@
-use Rattle.lists.proofs.Prelude.{◌≡◌, refl, sym, ap, ◌∙◌, ℕ, suc, ◌+◌, ◌*◌, ◌≤◌, ◌<◌, arith, rules, total_by}
+use Rattle.lists.proofs.Prelude.{◌≡◌, refl, sym, ap, ◌∙◌, ℕ, suc, ◌+◌, ◌*◌, ◌≤◌, ◌<◌, arith, total_by}
 use denote.Enum.Declared.{tag_of}
 use Rattle.words.specs.Words.{words}
 use Rattle.words.proofs.Views.{length-words}
@@ -22,7 +22,6 @@ module _ (s : State) (n : ℕ) (e : n ≡ total_by (λ (q : Partition). blocks_f
   unfold-within : 2 * n + 2 ≤ blocks s → 2 * suc (finished_blocks s) ≤ blocks s
   unfolding finished_blocks
   unfold-within h = omega arith
-
 
 pub is_empty-requires : goal.is_empty-requires
 is_empty-requires c = (state-kept c.args.s c.requires.0).buffer.used

@@ -1,5 +1,5 @@
 -- `heads::after` meets its contract: in the run, at the end of a block, and elsewhere on the card.
-use Rattle.lists.proofs.Prelude.{arith, rules}
+use Rattle.lists.proofs.Prelude.{arith}
 use Rattle.words.specs.Words.{words}
 use Rattle.heads.proofs.Heads.{after_run, link-place, link-few, after-link, after_next}
 use Rattle.heads.proofs.after.Goals as goal

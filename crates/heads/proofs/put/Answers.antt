@@ -1,5 +1,5 @@
 -- `heads::put` meets its contract: a spent list, and another.
-use Rattle.lists.proofs.Prelude.{sym, ◌∙◌, arith, rules}
+use Rattle.lists.proofs.Prelude.{sym, ◌∙◌, arith}
 use Rattle.words.specs.Words.{words}
 use Rattle.heads.proofs.Heads.{comes-none, put-none, put_some}
 use Rattle.heads.proofs.put.Goals as goal

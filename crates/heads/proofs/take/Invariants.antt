@@ -1,11 +1,7 @@
 -- `heads::take` meets its contract. The invariant: the heads before i are moved, those from i on are as they were.
-use mir.Facts.{to_z-of_z}
-use mir.Syntax.{w16, w32}
-use mir.Val.{SFits, to_z}
-use Rattle.lists.proofs.Prelude.{◌≡◌, ◌≤◌, ◌+◌, ◌*◌, ◌-◌, arith, rules}
+use Rattle.lists.proofs.Prelude.{◌≤◌, ◌-◌}
 use Rattle.words.specs.Words.{words}
-use Rattle.kway.proofs.Parts.{all-at}
-use Rattle.kway.proofs.Turns.{Turn, turn-none, turn_more}
+use Rattle.kway.proofs.Turns.{Turn}
 use Rattle.heads.specs.Heads.{view, Kept}
 use Rattle.heads.proofs.take.Given as goal
 

@@ -1,5 +1,5 @@
 -- `heads::word_of` meets its contract: a place on the card, and one in the run.
-use Rattle.lists.proofs.Prelude.{refl, arith, rules}
+use Rattle.lists.proofs.Prelude.{refl, arith}
 use Rattle.words.specs.Words.{words}
 use Rattle.heads.proofs.Heads.{place_in, word-card, word-run}
 use Rattle.heads.proofs.word_of.Goals as goal

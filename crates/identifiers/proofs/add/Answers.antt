@@ -1,4 +1,4 @@
-use Rattle.lists.proofs.Prelude.{[], ◌≡◌, refl, sym, ◌∙◌, ℕ, suc, ◌+◌, ◌*◌, ◌-◌, ◌<◌, ◌≤◌, zero-le, add-zero, add-one, arith, length, drop, set, length-set, drop_of_length-le, sets, drop-cons}
+use Rattle.lists.proofs.Prelude.{[], ◌≡◌, refl, sym, ◌∙◌, ℕ, suc, ◌+◌, ◌*◌, ◌<◌, zero-le, add-zero, add-one, arith, length, drop, set, length-set, drop_of_length-le, sets, drop-cons}
 use Rattle.identifiers.specs.Register.{added}
 use Rattle.identifiers.proofs.Added.{good_length}
 use Rattle.identifiers.proofs.add.Goals as goal

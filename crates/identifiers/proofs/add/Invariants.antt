@@ -1,7 +1,5 @@
 -- `identifiers::add` meets its contract. The loop's invariant: the bytes to come, stored after those that are, are the whole run of stores.
-use Rattle.lists.proofs.Prelude.{[], ◌≡◌, refl, sym, ◌∙◌, ℕ, suc, ◌+◌, ◌*◌, ◌-◌, ◌<◌, ◌≤◌, zero-le, add-zero, add-one, arith, length, drop, set, length-set, drop_of_length-le, sets, drop-cons}
-use Rattle.identifiers.specs.Register.{added}
-use Rattle.identifiers.proofs.Added.{good_length}
+use Rattle.lists.proofs.Prelude.{◌≡◌, ◌+◌, ◌-◌, ◌≤◌, length, drop, sets}
 use Rattle.identifiers.proofs.add.Given as goal
 
 abbrev pub invariant-loop-i : goal.invariant-loop-i

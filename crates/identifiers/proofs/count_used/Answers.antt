@@ -1,5 +1,5 @@
-use Rattle.lists.proofs.Prelude.{true, false, List, [], ◌≡◌, ap, ℕ, ◌+◌, ◌-◌, ◌<◌, ◌≤◌, zero-le, add-one, arith, lt-ltb, le-ltb, length, get_or, drop, drop_of_length-le, keep}
-use Rattle.identifiers.specs.Register.{entries, size, used, used_first, names}
+use Rattle.lists.proofs.Prelude.{true, false, List, [], ◌≡◌, ap, ℕ, ◌<◌, zero-le, add-one, arith, lt-ltb, le-ltb, length, get_or, drop, drop_of_length-le, keep}
+use Rattle.identifiers.specs.Register.{entries, size, used}
 use Rattle.identifiers.proofs.Entries.{length-entries, size-at, formed-first, count-names, used-stopped, used-on}
 use Rattle.identifiers.proofs.count_used.Goals as goal
 

@@ -1,7 +1,6 @@
 -- `identifiers::count_used` meets its contract. The loop's invariant: the used entries are those passed and those to come, of which used ones come first.
-use Rattle.lists.proofs.Prelude.{true, false, List, [], ◌≡◌, ap, ℕ, ◌+◌, ◌-◌, ◌<◌, ◌≤◌, zero-le, add-one, arith, lt-ltb, le-ltb, length, get_or, drop, drop_of_length-le, keep}
-use Rattle.identifiers.specs.Register.{entries, size, used, used_first, names}
-use Rattle.identifiers.proofs.Entries.{length-entries, size-at, formed-first, count-names, used-stopped, used-on}
+use Rattle.lists.proofs.Prelude.{true, ◌≡◌, ◌+◌, ◌-◌, ◌≤◌, length, drop, keep}
+use Rattle.identifiers.specs.Register.{entries, used, used_first, names}
 use Rattle.identifiers.proofs.count_used.Given as goal
 
 abbrev pub invariant-loop-i : goal.invariant-loop-i

@@ -1,5 +1,5 @@
 -- `identifiers::entry_at` meets its contract: an entry lies whole within the register.
-use Rattle.lists.proofs.Prelude.{◌≡◌, sym, ◌+◌, ◌*◌, ◌-◌, arith, rules}
+use Rattle.lists.proofs.Prelude.{◌≡◌, sym, ◌+◌, ◌*◌, ◌-◌, arith}
 use Rattle.identifiers.proofs.Entries.{entry-room, entry_at}
 use Rattle.identifiers.proofs.entry_at.Goals as goal
 

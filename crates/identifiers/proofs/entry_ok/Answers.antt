@@ -1,5 +1,5 @@
 -- `identifiers::entry_ok` meets its contract, test by test.
-use Rattle.lists.proofs.Prelude.{true, false, ◌&&◌, and-true, and-false, ⊎_elim, ◌≡◌, sym, ap, ◌∙◌, ◌+◌, ◌≤◌, arith, rules, le-leb, lt-leb, lt-ltb, le-ltb, eqb, drop, every, take_rest}
+use Rattle.lists.proofs.Prelude.{true, false, ◌&&◌, and-true, and-false, ⊎_elim, ◌≡◌, sym, ap, ◌∙◌, ◌+◌, ◌≤◌, arith, le-leb, lt-leb, lt-ltb, le-ltb, eqb, drop, every, take_rest}
 use Rattle.identifiers.specs.Register.{size, used, entry_rule}
 use Rattle.identifiers.proofs.entry_ok.Goals as goal
 

@@ -1,4 +1,4 @@
-use Rattle.lists.proofs.Prelude.{◌≡◌, refl, sym, ◌∙◌, ◌-◌, ◌≤◌, zero-le, add-one, arith, eq-eqb, ne_eqb, length, drop, drop_of_length-le, same, same_length, same_step}
+use Rattle.lists.proofs.Prelude.{refl, sym, ◌∙◌, zero-le, add-one, arith, eq-eqb, ne_eqb, drop_of_length-le, same_length, same_step}
 use Rattle.identifiers.proofs.equal.Goals as goal
 
 pub returns-then-a-b : goal.returns-then-a-b

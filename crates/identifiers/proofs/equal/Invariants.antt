@@ -1,5 +1,5 @@
 -- `identifiers::equal` meets its contract. The loop's invariant: the slices are as long, and the answer is that for what is left of both.
-use Rattle.lists.proofs.Prelude.{◌≡◌, refl, sym, ◌∙◌, ◌-◌, ◌≤◌, zero-le, add-one, arith, eq-eqb, ne_eqb, length, drop, drop_of_length-le, same, same_length, same_step}
+use Rattle.lists.proofs.Prelude.{◌≡◌, ◌-◌, ◌≤◌, length, drop, same}
 use Rattle.identifiers.proofs.equal.Given as goal
 
 abbrev pub invariant-loop-i : goal.invariant-loop-i

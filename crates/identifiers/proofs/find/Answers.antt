@@ -1,4 +1,4 @@
-use Rattle.lists.proofs.Prelude.{true, false, List, [], ◌≡◌, sym, ap, ◌∙◌, zero, suc, ◌+◌, ◌-◌, ◌<◌, ◌≤◌, zero-le, add-one, arith, rules, length, get_or, drop, drop_of_length-le, same}
+use Rattle.lists.proofs.Prelude.{true, false, List, [], ◌≡◌, sym, ap, ◌∙◌, zero, suc, ◌<◌, zero-le, add-one, arith, length, get_or, drop, drop_of_length-le, same}
 use Rattle.identifiers.specs.Names.{Name, number_of}
 use Rattle.identifiers.specs.Register.{names}
 use Rattle.identifiers.proofs.Names.{number_step}

@@ -1,9 +1,7 @@
 -- `identifiers::find` meets its contract. The loop's invariant: the number is that of the place reached and that among the identifiers to come.
-use Rattle.lists.proofs.Prelude.{true, false, List, [], ◌≡◌, sym, ap, ◌∙◌, zero, suc, ◌+◌, ◌-◌, ◌<◌, ◌≤◌, zero-le, add-one, arith, rules, length, get_or, drop, drop_of_length-le, same}
-use Rattle.identifiers.specs.Names.{Name, number_of}
+use Rattle.lists.proofs.Prelude.{◌≡◌, ◌+◌, ◌-◌, ◌≤◌, drop}
+use Rattle.identifiers.specs.Names.{number_of}
 use Rattle.identifiers.specs.Register.{names}
-use Rattle.identifiers.proofs.Names.{number_step}
-use Rattle.identifiers.proofs.Entries.{rule-formed}
 use Rattle.identifiers.proofs.find.Given as goal
 
 abbrev pub invariant-loop-i : goal.invariant-loop-i

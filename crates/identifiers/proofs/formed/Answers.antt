@@ -1,6 +1,6 @@
-use Rattle.lists.proofs.Prelude.{Bool, true, false, ◌&&◌, not, [], ◌≡◌, refl, sym, ap, ◌∙◌, suc, ◌-◌, ◌<◌, ◌≤◌, zero-le, add-one, arith, not-true, not-false, length, get_or, drop, drop_of_length-le}
+use Rattle.lists.proofs.Prelude.{Bool, true, false, ◌&&◌, not, [], ◌≡◌, refl, sym, ap, ◌∙◌, suc, ◌<◌, zero-le, add-one, arith, not-true, not-false, length, get_or, drop, drop_of_length-le}
 use Rattle.identifiers.specs.Register.{entries, used, entry_rule}
-use Rattle.identifiers.specs.Formed.{formed_from, formed}
+use Rattle.identifiers.specs.Formed.{formed_from}
 use Rattle.identifiers.proofs.Entries.{length-entries, length-entry, formed-at, formed-end, unused-flag}
 use Rattle.identifiers.proofs.formed.Goals as goal
 

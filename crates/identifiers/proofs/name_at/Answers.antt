@@ -1,5 +1,5 @@
 -- `identifiers::name_at` meets its contract: the entry at that place is used, and holds its identifier after its length byte.
-use Rattle.lists.proofs.Prelude.{[], ◌≡◌, sym, ◌+◌, ◌-◌, arith, rules, get_or}
+use Rattle.lists.proofs.Prelude.{[], ◌≡◌, sym, ◌+◌, ◌-◌, arith, get_or}
 use Rattle.identifiers.specs.Register.{entries, size}
 use Rattle.identifiers.proofs.Entries.{length-entry, name-inside, name-entry, name-size}
 use Rattle.identifiers.proofs.name_at.Goals as goal

@@ -1,5 +1,4 @@
 -- `identifiers::used_entries` meets its contract: a register that keeps its rule is formed.
-use borrow.Author.Rules.{rules}
 use Rattle.identifiers.proofs.Entries.{rule-formed}
 use Rattle.identifiers.proofs.used_entries.Goals as goal
 

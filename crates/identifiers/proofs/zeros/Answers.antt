@@ -1,4 +1,4 @@
-use Rattle.lists.proofs.Prelude.{◌≡◌, refl, sym, ◌∙◌, ◌-◌, ◌≤◌, zero-le, add-one, arith, eq-eqb, ne_eqb, eqb, length, drop, drop_of_length-le, every, every-step}
+use Rattle.lists.proofs.Prelude.{refl, sym, ◌∙◌, zero-le, add-one, arith, eq-eqb, ne_eqb, eqb, drop_of_length-le, every-step}
 use Rattle.identifiers.proofs.zeros.Goals as goal
 
 pub loop-i-init : goal.loop-i-init

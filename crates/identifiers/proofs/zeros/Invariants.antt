@@ -1,5 +1,5 @@
 -- `identifiers::zeros` meets its contract. The loop's invariant: the answer is that for what is left.
-use Rattle.lists.proofs.Prelude.{◌≡◌, refl, sym, ◌∙◌, ◌-◌, ◌≤◌, zero-le, add-one, arith, eq-eqb, ne_eqb, eqb, length, drop, drop_of_length-le, every, every-step}
+use Rattle.lists.proofs.Prelude.{◌≡◌, ◌-◌, ◌≤◌, eqb, length, drop, every}
 use Rattle.identifiers.proofs.zeros.Given as goal
 
 abbrev pub invariant-loop-i : goal.invariant-loop-i

@@ -1,7 +1,7 @@
-use Rattle.lists.proofs.Prelude.{◌&&◌, ◌≡◌, sym, ◌∙◌, ◌-◌, ◌≤◌, arith, length, rules, every, rising}
+use Rattle.lists.proofs.Prelude.{sym, ◌∙◌, arith}
 use Rattle.words.specs.Words.{words}
 use Rattle.words.proofs.Views.{length-words}
-use Rattle.images.specs.Images.{fits, image_rule}
+use Rattle.images.specs.Images.{fits}
 use Rattle.images.proofs.Fits.{fits-turn, fits-end, image-whole, image-short}
 use Rattle.images.proofs.image_ok.Goals as goal
 

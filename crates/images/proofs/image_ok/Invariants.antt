@@ -1,9 +1,7 @@
 -- `images::image_ok` meets its contract. The invariant: the places before `at` are tested.
-use Rattle.lists.proofs.Prelude.{◌&&◌, ◌≡◌, sym, ◌∙◌, ◌-◌, ◌≤◌, arith, length, rules, every, rising}
+use Rattle.lists.proofs.Prelude.{◌&&◌, ◌≡◌, ◌-◌, ◌≤◌, length, every, rising}
 use Rattle.words.specs.Words.{words}
-use Rattle.words.proofs.Views.{length-words}
 use Rattle.images.specs.Images.{fits, image_rule}
-use Rattle.images.proofs.Fits.{fits-turn, fits-end, image-whole, image-short}
 use Rattle.images.proofs.image_ok.Given as goal
 
 abbrev pub invariant-loop-at : goal.invariant-loop-at

@@ -1,5 +1,5 @@
 -- `images::lower` meets its contract.
-use Rattle.lists.proofs.Prelude.{◌<◌, rules, arith}
+use Rattle.lists.proofs.Prelude.{◌<◌, arith}
 use mir.Syntax.{w16, w32}
 use mir.Facts.{to_z-of_z, to_z_pos, sfits_widen}
 use Rattle.images.proofs.Signs.{lowered-sum, lowered-fits}

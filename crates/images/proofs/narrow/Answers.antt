@@ -1,5 +1,5 @@
 -- `images::narrow` meets its contract.
-use Rattle.lists.proofs.Prelude.{arith, rules}
+use Rattle.lists.proofs.Prelude.{arith}
 use Rattle.images.proofs.Fits.{image-words, image-below}
 use Rattle.images.proofs.narrow.Goals as goal
 

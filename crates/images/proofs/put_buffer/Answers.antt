@@ -1,4 +1,4 @@
-use Rattle.lists.proofs.Prelude.{◌≡◌, refl, sym, ◌∙◌, ◌-◌, arith, rules, length, get_or, unmapped}
+use Rattle.lists.proofs.Prelude.{refl, sym, ◌∙◌, arith, rules, get_or, unmapped}
 use mir.Syntax.{w16}
 use mir.Val.{SFits}
 use mir.Facts.{to_z-of_z}
@@ -6,7 +6,7 @@ use Rattle.words.specs.Words.{words}
 use Rattle.words.proofs.Views.{length-words}
 use Rattle.state.specs.Views.{no_posting}
 use Rattle.images.specs.Images.{posting_words}
-use Rattle.lists.proofs.Stores.{Parts, parts-turn, parts-end}
+use Rattle.lists.proofs.Stores.{parts-turn, parts-end}
 use Rattle.images.proofs.put_buffer.Goals as goal
 
 pub put_word-requires : goal.put_word-requires

@@ -1,13 +1,8 @@
 -- `images::put_buffer` meets its contract. The invariant: storing the parts that are left gives the whole.
-use Rattle.lists.proofs.Prelude.{◌≡◌, refl, sym, ◌∙◌, ◌-◌, arith, rules, length, get_or, unmapped}
-use mir.Syntax.{w16}
-use mir.Val.{SFits}
-use mir.Facts.{to_z-of_z}
+use Rattle.lists.proofs.Prelude.{◌≡◌, ◌-◌, length}
 use Rattle.words.specs.Words.{words}
-use Rattle.words.proofs.Views.{length-words}
-use Rattle.state.specs.Views.{no_posting}
 use Rattle.images.specs.Images.{posting_words}
-use Rattle.lists.proofs.Stores.{Parts, parts-turn, parts-end}
+use Rattle.lists.proofs.Stores.{Parts}
 use Rattle.images.proofs.put_buffer.Given as goal
 
 abbrev pub invariant-loop-i : goal.invariant-loop-i

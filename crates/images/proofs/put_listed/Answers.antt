@@ -1,4 +1,4 @@
-use Rattle.lists.proofs.Prelude.{◌≡◌, refl, sym, ◌∙◌, ◌+◌, ◌-◌, ◌≤◌, arith, rules, length, drop, sets, unmapped}
+use Rattle.lists.proofs.Prelude.{◌≡◌, refl, sym, ◌∙◌, ◌+◌, arith, rules, unmapped}
 use Rattle.lists.proofs.Stores.{sets-turn, sets_end}
 use Rattle.words.specs.Words.{words}
 use Rattle.words.proofs.Views.{length-words}

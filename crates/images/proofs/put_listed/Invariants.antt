@@ -1,8 +1,6 @@
 -- `images::put_listed` meets its contract. The invariant: storing the numbers that are left gives the whole.
-use Rattle.lists.proofs.Prelude.{◌≡◌, refl, sym, ◌∙◌, ◌+◌, ◌-◌, ◌≤◌, arith, rules, length, drop, sets, unmapped}
-use Rattle.lists.proofs.Stores.{sets-turn, sets_end}
+use Rattle.lists.proofs.Prelude.{◌≡◌, ◌+◌, ◌-◌, ◌≤◌, length, drop, sets}
 use Rattle.words.specs.Words.{words}
-use Rattle.words.proofs.Views.{length-words}
 use Rattle.images.proofs.put_listed.Given as goal
 
 abbrev pub invariant-loop-i : goal.invariant-loop-i

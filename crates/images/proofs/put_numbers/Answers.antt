@@ -1,4 +1,3 @@
-use borrow.Author.Rules.{rules}
 use Rattle.images.proofs.put_numbers.Goals as goal
 
 pub returns : goal.returns

@@ -1,9 +1,9 @@
-use Rattle.lists.proofs.Prelude.{◌≡◌, refl, sym, ◌∙◌, ◌-◌, arith, rules, length, unmapped}
+use Rattle.lists.proofs.Prelude.{refl, sym, ◌∙◌, arith, rules, unmapped}
 use Rattle.words.specs.Words.{words}
 use Rattle.words.proofs.Views.{length-words}
 use Rattle.state.specs.Views.{no_partition}
 use Rattle.images.specs.Images.{record_words}
-use Rattle.lists.proofs.Stores.{Parts, parts-turn, parts-end}
+use Rattle.lists.proofs.Stores.{parts-turn, parts-end}
 use Rattle.images.proofs.put_partitions.Goals as goal
 
 pub put_word-requires : goal.put_word-requires

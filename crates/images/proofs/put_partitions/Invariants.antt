@@ -1,10 +1,8 @@
 -- `images::put_partitions` meets its contract. The invariant: storing the parts that are left gives the whole.
-use Rattle.lists.proofs.Prelude.{◌≡◌, refl, sym, ◌∙◌, ◌-◌, arith, rules, length, unmapped}
+use Rattle.lists.proofs.Prelude.{◌≡◌, ◌-◌, length}
 use Rattle.words.specs.Words.{words}
-use Rattle.words.proofs.Views.{length-words}
-use Rattle.state.specs.Views.{no_partition}
 use Rattle.images.specs.Images.{record_words}
-use Rattle.lists.proofs.Stores.{Parts, parts-turn, parts-end}
+use Rattle.lists.proofs.Stores.{Parts}
 use Rattle.images.proofs.put_partitions.Given as goal
 
 abbrev pub invariant-loop-i : goal.invariant-loop-i

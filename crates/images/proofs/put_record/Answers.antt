@@ -1,4 +1,4 @@
-use Rattle.lists.proofs.Prelude.{arith, ◌≡◌, suc, ◌+◌, ◌*◌, rules}
+use Rattle.lists.proofs.Prelude.{arith, ◌≡◌, suc, ◌+◌, ◌*◌}
 use Rattle.words.proofs.Views.{length-words}
 use Rattle.images.proofs.put_record.Goals as goal
 

@@ -1,7 +1,5 @@
-use Rattle.lists.proofs.Prelude.{◌-◌, arith, rules, unmapped}
-use Rattle.lists.proofs.Built.{Built, built-none, built-more, built-all}
-use Rattle.words.specs.Words.{words}
-use Rattle.images.specs.Images.{posting_in}
+use Rattle.lists.proofs.Prelude.{arith, rules, unmapped}
+use Rattle.lists.proofs.Built.{built-none, built-more, built-all}
 use Rattle.images.proofs.Fits.{narrow-front}
 use Rattle.images.proofs.read_buffer.Goals as goal
 

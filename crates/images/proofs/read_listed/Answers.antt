@@ -1,6 +1,5 @@
-use Rattle.lists.proofs.Prelude.{refl, ◌+◌, ◌-◌, arith, get_or}
-use Rattle.lists.proofs.Built.{Built, built-none, built-more, built-all}
-use Rattle.words.specs.Words.{words}
+use Rattle.lists.proofs.Prelude.{refl, ◌+◌, arith}
+use Rattle.lists.proofs.Built.{built-none, built-more, built-all}
 use Rattle.images.proofs.Fits.{narrow-front}
 use Rattle.images.proofs.read_listed.Goals as goal
 

@@ -1,8 +1,7 @@
 -- `images::read_listed` meets its contract. The invariant: the first i places are built.
-use Rattle.lists.proofs.Prelude.{refl, ◌+◌, ◌-◌, arith, get_or}
-use Rattle.lists.proofs.Built.{Built, built-none, built-more, built-all}
+use Rattle.lists.proofs.Prelude.{◌+◌, ◌-◌, get_or}
+use Rattle.lists.proofs.Built.{Built}
 use Rattle.words.specs.Words.{words}
-use Rattle.images.proofs.Fits.{narrow-front}
 use Rattle.images.proofs.read_listed.Given as goal
 
 abbrev pub invariant-loop-i : goal.invariant-loop-i

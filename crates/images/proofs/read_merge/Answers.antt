@@ -1,5 +1,5 @@
 -- `images::read_merge` meets its contract.
-use Rattle.lists.proofs.Prelude.{arith, rules}
+use Rattle.lists.proofs.Prelude.{arith}
 use Rattle.images.proofs.Fits.{image-words}
 use Rattle.images.proofs.read_merge.Goals as goal
 

@@ -1,9 +1,8 @@
 -- `images::read_partitions` meets its contract. The invariant: the first i places are built.
-use Rattle.lists.proofs.Prelude.{◌-◌, arith, rules, unmapped}
-use Rattle.lists.proofs.Built.{Built, built-none, built-more, built-all}
+use Rattle.lists.proofs.Prelude.{◌-◌}
+use Rattle.lists.proofs.Built.{Built}
 use Rattle.words.specs.Words.{words}
 use Rattle.images.specs.Images.{record_in}
-use Rattle.images.proofs.Fits.{narrow-front}
 use Rattle.images.proofs.read_partitions.Given as goal
 
 abbrev pub invariant-loop-i : goal.invariant-loop-i

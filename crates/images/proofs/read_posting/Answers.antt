@@ -1,5 +1,5 @@
 -- `images::read_posting` meets its contract.
-use Rattle.lists.proofs.Prelude.{arith, ◌+◌, ◌*◌, rules}
+use Rattle.lists.proofs.Prelude.{arith, ◌+◌, ◌*◌}
 use mir.Facts.{to_z-of_z}
 use Rattle.images.proofs.Fits.{narrow-front, image-below}
 use Rattle.images.proofs.Signs.{lowered-fits}

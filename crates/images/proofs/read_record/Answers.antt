@@ -1,5 +1,5 @@
 -- `images::read_record` meets its contract.
-use Rattle.lists.proofs.Prelude.{◌+◌, ◌*◌, arith, rules}
+use Rattle.lists.proofs.Prelude.{◌+◌, ◌*◌, arith}
 use Rattle.images.proofs.Fits.{narrow-among, image-words}
 use Rattle.images.proofs.read_record.Goals as goal
 

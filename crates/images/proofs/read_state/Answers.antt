@@ -1,5 +1,4 @@
 -- `images::read_state` meets its contract.
-use borrow.Author.Rules.{rules}
 use Rattle.images.specs.Images.{state_in}
 use Rattle.images.proofs.read_state.Goals as goal
 

@@ -1,5 +1,4 @@
 -- `images::read_windows` meets its contract.
-use borrow.Author.Rules.{rules}
 use Rattle.images.proofs.read_windows.Goals as goal
 
 pub returns : goal.returns

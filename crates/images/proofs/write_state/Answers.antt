@@ -1,5 +1,5 @@
 -- `images::write_state` meets its contract: the parts are the whole.
-use Rattle.lists.proofs.Prelude.{◌≡◌, sym, ap, ◌∙◌, ◌%◌, arith, length, rules}
+use Rattle.lists.proofs.Prelude.{◌≡◌, sym, ap, ◌∙◌, ◌%◌, arith, length}
 use Rattle.words.specs.Words.{words, bytes}
 use Rattle.words.proofs.Views.{length-words, bytes-words}
 use Rattle.images.specs.Images.{image_of}

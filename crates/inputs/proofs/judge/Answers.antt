@@ -1,5 +1,5 @@
 -- `inputs::judge` meets its contract: the walk over the opened heads tells what is told of the inputs.
-use Rattle.lists.proofs.Prelude.{◌∙◌, sym, ap, false≢true, arith, passed, failed, rules}
+use Rattle.lists.proofs.Prelude.{◌∙◌, sym, ap, false≢true, arith, passed, failed}
 use Rattle.words.specs.Words.{words}
 use Rattle.words.proofs.Views.{words-below}
 use Rattle.state.specs.Views.{finished}

@@ -1,6 +1,5 @@
 -- `inputs::pair_of` meets its contract: a sum that fits a posting has 16 bits.
 use mir.Facts.{to_z-of_z}
-use borrow.Author.Rules.{rules}
 use Rattle.lists.proofs.Sizes.{small-fits}
 use Rattle.inputs.proofs.pair_of.Goals as goal
 

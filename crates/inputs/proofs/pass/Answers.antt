@@ -1,15 +1,15 @@
-use Rattle.lists.proofs.Prelude.{[], ◌∷◌, ◌≡◌, refl, sym, ap, ◌∙◌, ◌+◌, ◌-◌, ◌<◌, ◌≤◌, arith, rules, leb-true, length, take, drop, length-append, length-map, same as same_of, and_left}
+use Rattle.lists.proofs.Prelude.{[], ◌∷◌, ◌≡◌, refl, sym, ap, ◌∙◌, ◌+◌, ◌-◌, ◌<◌, ◌≤◌, arith, leb-true, length, length-append, length-map, and_left}
 use Rattle.words.specs.Words.{words}
 use Rattle.words.proofs.Views.{words-below}
 use Rattle.postings.specs.Merge.{nonzero}
-use Rattle.card.specs.Cursors.{ahead, Good}
+use Rattle.card.specs.Cursors.{ahead}
 use Rattle.card.proofs.Cursors.{length-ahead}
 use Rattle.partitions.specs.Layout.{word_of}
 use Rattle.partitions.specs.Formed.{in_range}
 use Rattle.inputs.specs.Judging.{all_in_range}
-use Rattle.inputs.specs.Ahead.{pairs_ahead, Formed, out_words}
+use Rattle.inputs.specs.Ahead.{pairs_ahead, out_words}
 use Rattle.inputs.proofs.Taking.{ahead_none}
-use Rattle.inputs.proofs.Batches.{take_none, take-empty, drop-none, drop-empty, drop-next, words-next, words-none, Comparing, compare-more, compare-done}
+use Rattle.inputs.proofs.Batches.{take_none, take-empty, drop-none, drop-empty, drop-next, words-next, words-none, compare-more, compare-done}
 use Rattle.inputs.proofs.pass.Goals as goal
 
 pub loop-i-init : goal.loop-i-init

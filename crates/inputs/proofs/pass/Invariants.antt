@@ -1,16 +1,9 @@
 -- `inputs::pass` meets its contract. The invariant: what is told of all words is what is told of those compared and of those still to compare.
-use Rattle.lists.proofs.Prelude.{[], ◌∷◌, ◌≡◌, refl, sym, ap, ◌∙◌, ◌+◌, ◌-◌, ◌<◌, ◌≤◌, arith, rules, leb-true, length, take, drop, length-append, length-map, same as same_of, and_left}
+use Rattle.lists.proofs.Prelude.{◌≡◌, ◌-◌, ◌≤◌, length, take, drop, same as same_of}
 use Rattle.words.specs.Words.{words}
-use Rattle.words.proofs.Views.{words-below}
-use Rattle.postings.specs.Merge.{nonzero}
 use Rattle.card.specs.Cursors.{ahead, Good}
-use Rattle.card.proofs.Cursors.{length-ahead}
-use Rattle.partitions.specs.Layout.{word_of}
-use Rattle.partitions.specs.Formed.{in_range}
-use Rattle.inputs.specs.Judging.{all_in_range}
 use Rattle.inputs.specs.Ahead.{pairs_ahead, Formed, out_words}
-use Rattle.inputs.proofs.Taking.{ahead_none}
-use Rattle.inputs.proofs.Batches.{take_none, take-empty, drop-none, drop-empty, drop-next, words-next, words-none, Comparing, compare-more, compare-done}
+use Rattle.inputs.proofs.Batches.{Comparing}
 use Rattle.inputs.proofs.pass.Given as goal
 
 abbrev pub invariant-loop-i : goal.invariant-loop-i

@@ -1,5 +1,5 @@
 -- `inputs::risen` meets its contract: one identifier more, where it had no posting.
-use Rattle.lists.proofs.Prelude.{rules, eq-eqb, ne_eqb}
+use Rattle.lists.proofs.Prelude.{eq-eqb, ne_eqb}
 use Rattle.inputs.proofs.risen.Goals as goal
 
 pub returns-then-n-eq0 : goal.returns-then-n-eq0

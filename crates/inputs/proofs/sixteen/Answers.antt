@@ -1,8 +1,7 @@
-use Rattle.lists.proofs.Prelude.{[], ◌++◌, ◌≡◌, refl, sym, ap, ◌∙◌, ◌+◌, ◌-◌, ◌<◌, ◌≤◌, arith, length, take, drop}
+use Rattle.lists.proofs.Prelude.{[], refl, sym, ap, ◌∙◌, ◌-◌, ◌<◌, ◌≤◌, arith, length}
 use Rattle.words.specs.Words.{words}
 use Rattle.words.proofs.Views.{words-below}
-use Rattle.postings.specs.Merge.{nonzero}
-use Rattle.inputs.specs.Ahead.{pairs_ahead, Formed, batched}
+use Rattle.inputs.specs.Ahead.{pairs_ahead, batched}
 use Rattle.inputs.proofs.Taking.{ahead_none}
 use Rattle.inputs.proofs.Batches.{take_none, take-empty, drop-none, drop-empty, drop-next, batch-more, batch-count, batch-done}
 use Rattle.inputs.proofs.sixteen.Goals as goal

@@ -1,11 +1,8 @@
 -- `inputs::sixteen` meets its contract. The invariant: what is kept, and what is kept of the pairs still to take, is what is kept of all.
-use Rattle.lists.proofs.Prelude.{[], ◌++◌, ◌≡◌, refl, sym, ap, ◌∙◌, ◌+◌, ◌-◌, ◌<◌, ◌≤◌, arith, length, take, drop}
+use Rattle.lists.proofs.Prelude.{◌++◌, ◌≡◌, ◌+◌, ◌-◌, ◌≤◌, length, take, drop}
 use Rattle.words.specs.Words.{words}
-use Rattle.words.proofs.Views.{words-below}
 use Rattle.postings.specs.Merge.{nonzero}
 use Rattle.inputs.specs.Ahead.{pairs_ahead, Formed, batched}
-use Rattle.inputs.proofs.Taking.{ahead_none}
-use Rattle.inputs.proofs.Batches.{take_none, take-empty, drop-none, drop-empty, drop-next, batch-more, batch-count, batch-done}
 use Rattle.inputs.proofs.sixteen.Given as goal
 
 abbrev pub invariant-pairs : goal.invariant-pairs

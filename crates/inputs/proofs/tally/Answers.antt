@@ -1,5 +1,5 @@
 -- `inputs::tally` meets its contract: a sum of 0, and another.
-use Rattle.lists.proofs.Prelude.{◌≡◌, sym, ◌∙◌, true, false, rules}
+use Rattle.lists.proofs.Prelude.{◌≡◌, sym, ◌∙◌, true, false}
 use Rattle.postings.specs.Merge.{is_zero}
 use Rattle.inputs.specs.Judging.{totals_more, counts_more}
 use Rattle.inputs.proofs.tally.Goals as goal

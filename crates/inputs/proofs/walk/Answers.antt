@@ -1,7 +1,7 @@
 use mir.Facts.{to_z-of_z}
 use mir.Syntax.{w32}
 use mir.Val.{SFits}
-use Rattle.lists.proofs.Prelude.{true, false, ◌≡◌, refl, sym, ap, ap₂, subst, ◌∙◌, suc, ◌<◌, ◌-◌, arith, rules, leb-true, not-true, not-false, length}
+use Rattle.lists.proofs.Prelude.{true, false, ◌≡◌, refl, sym, ap, ap₂, subst, ◌∙◌, suc, ◌<◌, ◌-◌, arith, rules, leb-true, not-true, not-false}
 use Rattle.keyed.specs.Keys.{topmost_from, head_vals, heads_fine}
 use Rattle.words.specs.Words.{words}
 use Rattle.words.proofs.Views.{words-below}
@@ -9,8 +9,7 @@ use Rattle.postings.specs.declared.Posting.{Posting}
 use Rattle.partitions.specs.Formed.{in_range}
 use Rattle.scans.specs.Keys.{posting_of, key_id}
 use Rattle.scans.specs.Heads.{views}
-use Rattle.inputs.specs.Judging.{Tally, tally_of, untold, resumed}
-use Rattle.inputs.specs.Ahead.{Ready}
+use Rattle.inputs.specs.Judging.{Tally, tally_of, resumed}
 use Rattle.inputs.proofs.Resuming.{told-all, told-broken, ended, too-high, malformed, out_of_range, went_on}
 use Rattle.inputs.proofs.Room.{Room, room-none, room_small, room-here, room-more, window-top}
 use Rattle.inputs.proofs.walk.Goals as goal

@@ -1,6 +1,6 @@
-use Rattle.lists.proofs.Prelude.{true, false, ◌≡◌, refl, ◌∙◌, ◌-◌, ◌≤◌, arith, leb, rules, le-leb, lt-leb, keep, below}
+use Rattle.lists.proofs.Prelude.{true, false, ◌≡◌, refl, ◌∙◌, ◌-◌, arith, leb, le-leb, lt-leb, below}
 use Rattle.state.specs.Views.{finished}
-use Rattle.state.specs.Levels.{of_level, due_levels, due_at}
+use Rattle.state.specs.Levels.{of_level, due_at}
 use Rattle.levels.proofs.Counts.{below-pred, below-zero}
 use Rattle.levels.proofs.due_level.Goals as goal
 

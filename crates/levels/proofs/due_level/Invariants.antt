@@ -1,7 +1,6 @@
-use Rattle.lists.proofs.Prelude.{true, false, ◌≡◌, refl, ◌∙◌, ◌-◌, ◌≤◌, arith, leb, rules, le-leb, lt-leb, keep, below}
+use Rattle.lists.proofs.Prelude.{◌≡◌, ◌≤◌, leb, keep, below}
 use Rattle.state.specs.Views.{finished}
 use Rattle.state.specs.Levels.{of_level, due_levels, due_at}
-use Rattle.levels.proofs.Counts.{below-pred, below-zero}
 use Rattle.levels.proofs.due_level.Given as goal
 
 abbrev pub invariant-loop-v : goal.invariant-loop-v

@@ -1,4 +1,4 @@
-use Rattle.lists.proofs.Prelude.{and-true, rules}
+use Rattle.lists.proofs.Prelude.{and-true}
 use Rattle.levels.proofs.levels_within.Goals as goal
 
 pub returns : goal.returns

@@ -1,5 +1,5 @@
-use Rattle.lists.proofs.Prelude.{List, ◌≡◌, ◌+◌, ◌-◌, ◌≤◌, arith, length, drop, rules, eq-eqb, ne_eqb, unmapped, used_turn, used-end, ⊎_elim}
-use Rattle.state.specs.Views.{finished, no_partition}
+use Rattle.lists.proofs.Prelude.{List, ◌+◌, arith, rules, eq-eqb, ne_eqb, unmapped, used_turn, used-end, ⊎_elim}
+use Rattle.state.specs.Views.{no_partition}
 use Rattle.state.specs.Levels.{of_level}
 use Rattle.state.specs.declared.Partition.{Partition}
 use Rattle.levels.proofs.of_level.Goals as goal

@@ -1,7 +1,6 @@
-use Rattle.lists.proofs.Prelude.{List, ◌≡◌, ◌+◌, ◌-◌, ◌≤◌, arith, length, drop, rules, eq-eqb, ne_eqb, unmapped, used_turn, used-end, ⊎_elim}
-use Rattle.state.specs.Views.{finished, no_partition}
+use Rattle.lists.proofs.Prelude.{◌≡◌, ◌+◌, ◌-◌, ◌≤◌, length, drop}
+use Rattle.state.specs.Views.{finished}
 use Rattle.state.specs.Levels.{of_level}
-use Rattle.state.specs.declared.Partition.{Partition}
 use Rattle.levels.proofs.of_level.Given as goal
 
 abbrev pub invariant-loop-i : goal.invariant-loop-i

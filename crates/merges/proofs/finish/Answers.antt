@@ -20,7 +20,6 @@ use Rattle.merges.proofs.finish.Reads as reads
 abbrev Joined1 : Type 0
 Joined1 = lts.Joined1 tie.the-claims reads.Pre reads.Post
 
-
 abbrev Dues : Joined1 → State → Type 0
 Dues i st =
     Due (words i.args.card.now) st i.args.is i.args.t i.args.counts.now i.args.o i.args.b

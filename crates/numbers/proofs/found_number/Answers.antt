@@ -1,5 +1,4 @@
 -- `numbers::found_number` meets its contract.
-use borrow.Author.Rules.{rules}
 use Rattle.numbers.proofs.found_number.Goals as goal
 
 pub returns-in-Hits : goal.returns-in-Hits

@@ -1,5 +1,4 @@
 -- `numbers::mean_number` meets its contract.
-use borrow.Author.Rules.{rules}
 use Rattle.numbers.proofs.mean_number.Goals as goal
 
 pub returns-in-Mean : goal.returns-in-Mean

@@ -1,5 +1,4 @@
 -- `numbers::put_course` meets its contract.
-use borrow.Author.Rules.{rules}
 use Rattle.numbers.proofs.put_course.Goals as goal
 
 pub returns-in-Nowhere : goal.returns-in-Nowhere

@@ -1,6 +1,5 @@
 -- `numbers::reply_number` meets its contract.
 use Rattle.numbers.proofs.Told.{number-refused}
-use borrow.Author.Rules.{rules}
 use Rattle.numbers.proofs.reply_number.Goals as goal
 
 pub returns-in-Refused : goal.returns-in-Refused

@@ -1,5 +1,5 @@
 -- `numbers::settle` meets its contract.
-use Rattle.lists.proofs.Prelude.{refl, rules}
+use Rattle.lists.proofs.Prelude.{refl}
 use Rattle.numbers.specs.Images.{imaged}
 use Rattle.numbers.proofs.Told.{number-refused}
 use Rattle.numbers.proofs.settle.Goals as goal

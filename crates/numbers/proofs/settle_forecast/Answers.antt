@@ -1,5 +1,5 @@
 -- `numbers::settle_forecast` meets its contract.
-use Rattle.lists.proofs.Prelude.{refl, rules}
+use Rattle.lists.proofs.Prelude.{refl}
 use Rattle.numbers.proofs.settle_forecast.Goals as goal
 
 pub returns-in-Refused : goal.returns-in-Refused

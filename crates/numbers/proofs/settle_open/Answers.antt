@@ -1,5 +1,5 @@
 -- `numbers::settle_open` meets its contract.
-use Rattle.lists.proofs.Prelude.{refl, arith, rules}
+use Rattle.lists.proofs.Prelude.{refl, arith}
 use Rattle.numbers.specs.Images.{imaged}
 use Rattle.answers.proofs.Refusals.{number-within}
 use Rattle.numbers.proofs.Told.{opened-number, opened-refused}

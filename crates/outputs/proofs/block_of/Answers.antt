@@ -1,5 +1,5 @@
 -- `outputs::block_of` meets its contract.
-use Rattle.lists.proofs.Prelude.{⊎_elim, arith, rules, lt-ltb, le-ltb}
+use Rattle.lists.proofs.Prelude.{⊎_elim, arith, lt-ltb, le-ltb}
 use Rattle.outputs.proofs.block_of.Goals as goal
 
 pub overflow_cast-result : goal.overflow_cast-result

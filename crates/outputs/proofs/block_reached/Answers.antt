@@ -1,6 +1,6 @@
 use native.Mathlib.Omega.{arith}
 use Rattle.words.specs.Words.{words}
-use Rattle.outputs.proofs.Places.{Going, going_start, going-in, going_next, going_on, going_end}
+use Rattle.outputs.proofs.Places.{going_start, going-in, going_next, going_on, going_end}
 use Rattle.outputs.proofs.block_reached.Goals as goal
 
 pub loop-k-init : goal.loop-k-init

@@ -1,7 +1,6 @@
 -- `outputs::block_reached` meets its contract. The invariant: whole blocks were passed over, and k words are still to go.
-use native.Mathlib.Omega.{arith}
 use Rattle.words.specs.Words.{words}
-use Rattle.outputs.proofs.Places.{Going, going_start, going-in, going_next, going_on, going_end}
+use Rattle.outputs.proofs.Places.{Going}
 use Rattle.outputs.proofs.block_reached.Given as goal
 
 abbrev pub invariant-loop-k : goal.invariant-loop-k

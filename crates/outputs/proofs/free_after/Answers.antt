@@ -1,6 +1,6 @@
 -- `outputs::free_after` meets its contract: as some block is free, one is found.
 use denote.Enum.Declared.{tag_of}
-use Rattle.lists.proofs.Prelude.{refl, sym, ap, ◌∙◌, rules}
+use Rattle.lists.proofs.Prelude.{refl, sym, ap, ◌∙◌}
 use Rattle.words.specs.Words.{words}
 use Rattle.card.specs.Blocks.{free_blocks}
 use Rattle.blocks.specs.contracts.Free.{the_type}

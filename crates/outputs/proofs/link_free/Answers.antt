@@ -1,7 +1,7 @@
-use Rattle.lists.proofs.Prelude.{◌≡◌, refl, sym, ◌∙◌, ◌-◌, arith, rules, length, get_or-take}
+use Rattle.lists.proofs.Prelude.{◌≡◌, refl, sym, ◌∙◌, ◌-◌, arith, get_or-take}
 use Rattle.words.specs.Words.{words}
 use Rattle.card.specs.Blocks.{free_blocks}
-use Rattle.outputs.proofs.Linking.{Linking, linking-start, linking-some, linking-in, linking-on, linking-end}
+use Rattle.outputs.proofs.Linking.{linking-start, linking-some, linking-in, linking-on, linking-end}
 use Rattle.outputs.proofs.link_free.Goals as goal
 
 pub free_after-first-requires : goal.free_after-first-requires

@@ -1,8 +1,7 @@
 -- `outputs::link_free` meets its contract. The invariant: so many of the wanted blocks are found, and linking the others gives the whole.
-use Rattle.lists.proofs.Prelude.{◌≡◌, refl, sym, ◌∙◌, ◌-◌, arith, rules, length, get_or-take}
+use Rattle.lists.proofs.Prelude.{◌≡◌, ◌-◌, length}
 use Rattle.words.specs.Words.{words}
-use Rattle.card.specs.Blocks.{free_blocks}
-use Rattle.outputs.proofs.Linking.{Linking, linking-start, linking-some, linking-in, linking-on, linking-end}
+use Rattle.outputs.proofs.Linking.{Linking}
 use Rattle.outputs.proofs.link_free.Given as goal
 
 abbrev pub invariant-loop-count : goal.invariant-loop-count

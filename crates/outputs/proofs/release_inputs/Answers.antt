@@ -1,7 +1,7 @@
-use Rattle.lists.proofs.Prelude.{◌≡◌, refl, ◌∙◌, ◌-◌, arith, rules, length, unmapped}
+use Rattle.lists.proofs.Prelude.{refl, ◌∙◌, arith, rules, unmapped}
 use Rattle.words.specs.Words.{words}
 use Rattle.state.specs.Views.{no_partition}
-use Rattle.outputs.proofs.Freeing.{Freeing, freeing-end, freeing-chained, freeing-different, freeing-on}
+use Rattle.outputs.proofs.Freeing.{freeing-end, freeing-chained, freeing-different, freeing-on}
 use Rattle.outputs.proofs.release_inputs.Goals as goal
 
 pub loop-i-init : goal.loop-i-init

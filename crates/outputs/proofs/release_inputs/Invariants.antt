@@ -1,9 +1,8 @@
 -- `outputs::release_inputs` meets its contract. The invariant: freeing the blocks of the partitions from i on gives the whole; they are different
 -- blocks of the card.
-use Rattle.lists.proofs.Prelude.{◌≡◌, refl, ◌∙◌, ◌-◌, arith, rules, length, unmapped}
+use Rattle.lists.proofs.Prelude.{◌≡◌, ◌-◌, length}
 use Rattle.words.specs.Words.{words}
-use Rattle.state.specs.Views.{no_partition}
-use Rattle.outputs.proofs.Freeing.{Freeing, freeing-end, freeing-chained, freeing-different, freeing-on}
+use Rattle.outputs.proofs.Freeing.{Freeing}
 use Rattle.outputs.proofs.release_inputs.Given as goal
 
 abbrev pub invariant-loop-i : goal.invariant-loop-i

@@ -1,6 +1,5 @@
-use Rattle.lists.proofs.Prelude.{◌≡◌, refl, sym, ◌∙◌, ◌-◌, arith, eq-eqb, ne_eqb, eqb, every}
+use Rattle.lists.proofs.Prelude.{◌≡◌, refl, sym, ◌∙◌, arith, eq-eqb, ne_eqb}
 use Rattle.words.specs.Words.{words, all_ones}
-use Rattle.card.specs.Cursors.{Good, ahead}
 use Rattle.card.proofs.Cursors.{ahead_more, good-moved, moved-less}
 use Rattle.outputs.proofs.Places.{every-none}
 use Rattle.outputs.proofs.rest_free.Goals as goal

@@ -1,9 +1,7 @@
 -- `outputs::rest_free` meets its contract. The invariant: the answer is that for the words still to come.
-use Rattle.lists.proofs.Prelude.{◌≡◌, refl, sym, ◌∙◌, ◌-◌, arith, eq-eqb, ne_eqb, eqb, every}
+use Rattle.lists.proofs.Prelude.{◌≡◌, eqb, every}
 use Rattle.words.specs.Words.{words, all_ones}
 use Rattle.card.specs.Cursors.{Good, ahead}
-use Rattle.card.proofs.Cursors.{ahead_more, good-moved, moved-less}
-use Rattle.outputs.proofs.Places.{every-none}
 use Rattle.outputs.proofs.rest_free.Given as goal
 
 abbrev pub invariant-loop-at : goal.invariant-loop-at

@@ -1,6 +1,6 @@
-use Rattle.lists.proofs.Prelude.{⊎_elim, ◌≡◌, refl, ◌∙◌, ◌-◌, ◌<◌, arith, rules, length, get_or}
+use Rattle.lists.proofs.Prelude.{⊎_elim, refl, ◌∙◌, ◌<◌, arith, length, get_or}
 use Rattle.words.specs.Words.{words}
-use Rattle.outputs.proofs.Entering.{Entering, entering-start, entering-end, entering-past, entering-room, entering-on}
+use Rattle.outputs.proofs.Entering.{entering-start, entering-end, entering-past, entering-room, entering-on}
 use Rattle.outputs.proofs.write_entries.Goals as goal
 
 pub loop-i-init : goal.loop-i-init

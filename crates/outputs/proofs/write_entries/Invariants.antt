@@ -1,7 +1,7 @@
 -- `outputs::write_entries` meets its contract. The invariant: writing the entries of the identifiers from i on gives the whole.
-use Rattle.lists.proofs.Prelude.{⊎_elim, ◌≡◌, refl, ◌∙◌, ◌-◌, ◌<◌, arith, rules, length, get_or}
+use Rattle.lists.proofs.Prelude.{◌≡◌, ◌-◌, length}
 use Rattle.words.specs.Words.{words}
-use Rattle.outputs.proofs.Entering.{Entering, entering-start, entering-end, entering-past, entering-room, entering-on}
+use Rattle.outputs.proofs.Entering.{Entering}
 use Rattle.outputs.proofs.write_entries.Given as goal
 
 abbrev pub invariant-loop-i : goal.invariant-loop-i

@@ -1,4 +1,4 @@
-use Rattle.lists.proofs.Prelude.{map, ◌≡◌, refl, sym, ap, ◌∙◌, ◌-◌, ◌≤◌, arith, rules, length, get_or, take, drop, length-map, length-set, length-take, sets, length-take-le, unmapped}
+use Rattle.lists.proofs.Prelude.{map, ◌≡◌, refl, sym, ap, ◌∙◌, ◌-◌, arith, rules, length, get_or, take, length-map, length-set, length-take, sets, length-take-le, unmapped}
 use mir.Syntax.{w16}
 use mir.Val.{SFits}
 use mir.Facts.{to_z-of_z}

@@ -1,12 +1,6 @@
 -- `outputs::write_postings` meets its contract. The invariant: storing the words of the postings that are left gives the whole array.
-use Rattle.lists.proofs.Prelude.{map, ◌≡◌, refl, sym, ap, ◌∙◌, ◌-◌, ◌≤◌, arith, rules, length, get_or, take, drop, length-map, length-set, length-take, sets, length-take-le, unmapped}
-use mir.Syntax.{w16}
-use mir.Val.{SFits}
-use mir.Facts.{to_z-of_z}
-use Rattle.lists.proofs.Stores.{sets_end}
-use Rattle.state.specs.Views.{no_posting}
+use Rattle.lists.proofs.Prelude.{map, ◌≡◌, ◌-◌, ◌≤◌, length, take, drop, sets}
 use Rattle.partitions.specs.Layout.{word_of}
-use Rattle.outputs.proofs.Batches.{packing-turn, posting-fits, packed-words}
 use Rattle.outputs.proofs.write_postings.Given as goal
 
 abbrev pub invariant-loop-i : goal.invariant-loop-i

@@ -1,6 +1,6 @@
-use Rattle.lists.proofs.Prelude.{◌≡◌, refl, ◌∙◌, ◌+◌, ◌-◌, ◌%◌, ◌<◌, arith, rules, length}
+use Rattle.lists.proofs.Prelude.{refl, ◌∙◌, ◌+◌, ◌%◌, ◌<◌, arith}
 use Rattle.words.specs.Words.{words}
-use Rattle.outputs.proofs.Writing.{Writing, writing_start, writing-needs, writing-on, writing-end}
+use Rattle.outputs.proofs.Writing.{writing_start, writing-needs, writing-on, writing-end}
 use Rattle.outputs.proofs.write_words.Goals as goal
 
 pub block_reached-block-requires : goal.block_reached-block-requires

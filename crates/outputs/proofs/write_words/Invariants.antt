@@ -1,7 +1,7 @@
 -- `outputs::write_words` meets its contract. The invariant: writing the words that are left gives the whole, and the links are as they were.
-use Rattle.lists.proofs.Prelude.{◌≡◌, refl, ◌∙◌, ◌+◌, ◌-◌, ◌%◌, ◌<◌, arith, rules, length}
+use Rattle.lists.proofs.Prelude.{◌≡◌, ◌-◌, length}
 use Rattle.words.specs.Words.{words}
-use Rattle.outputs.proofs.Writing.{Writing, writing_start, writing-needs, writing-on, writing-end}
+use Rattle.outputs.proofs.Writing.{Writing}
 use Rattle.outputs.proofs.write_words.Given as goal
 
 abbrev pub invariant-loop-i : goal.invariant-loop-i

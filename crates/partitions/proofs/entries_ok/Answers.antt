@@ -1,7 +1,7 @@
-use Rattle.lists.proofs.Prelude.{◌≡◌, refl, sym, ap, ◌∙◌, ◌%◌, ◌≤◌, arith, passed, failed, rules}
+use Rattle.lists.proofs.Prelude.{refl, sym, ap, ◌∙◌, arith, passed, failed}
 use Rattle.words.specs.Words.{words}
 use Rattle.card.specs.Chains.{blocks_for}
-use Rattle.card.specs.Cursors.{ahead, Good}
+use Rattle.card.specs.Cursors.{ahead}
 use Rattle.partitions.proofs.Headers.{first_block, header-room}
 use Rattle.partitions.proofs.Listed.{resumed, term-facts, resumed-fails, resumed-step, resumed-done, ahead_none, entry-passed}
 use Rattle.partitions.proofs.Starts.{entries-start}

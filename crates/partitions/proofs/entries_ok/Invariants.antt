@@ -1,12 +1,9 @@
 -- `partitions::entries_ok` meets its contract. The invariant: the answer for all entries is the answer resumed at the entry that comes next. A first
 -- index is of 32 bits and equals the sum before it, so that the sum stays small.
-use Rattle.lists.proofs.Prelude.{◌≡◌, refl, sym, ap, ◌∙◌, ◌%◌, ◌≤◌, arith, passed, failed, rules}
+use Rattle.lists.proofs.Prelude.{◌≡◌, ◌%◌, ◌≤◌}
 use Rattle.words.specs.Words.{words}
-use Rattle.card.specs.Chains.{blocks_for}
 use Rattle.card.specs.Cursors.{ahead, Good}
-use Rattle.partitions.proofs.Headers.{first_block, header-room}
-use Rattle.partitions.proofs.Listed.{resumed, term-facts, resumed-fails, resumed-step, resumed-done, ahead_none, entry-passed}
-use Rattle.partitions.proofs.Starts.{entries-start}
+use Rattle.partitions.proofs.Listed.{resumed}
 use Rattle.partitions.proofs.entries_ok.Given as goal
 
 abbrev pub invariant-loop-e : goal.invariant-loop-e

@@ -1,5 +1,5 @@
 -- `partitions::entry_at` meets its contract: three words are to come, so each cursor on the way is good.
-use Rattle.lists.proofs.Prelude.{ap, ◌∙◌, rules}
+use Rattle.lists.proofs.Prelude.{ap, ◌∙◌}
 use Rattle.words.specs.Words.{words}
 use Rattle.card.specs.Cursors.{moved_of}
 use Rattle.partitions.proofs.Listed.{second_word, third-word}

@@ -1,14 +1,11 @@
 -- `partitions::find_list` meets its contract. The invariant: the postings under the identifier are those that the entries to come lead to.
-use Rattle.lists.proofs.Prelude.{List, map, ◌≡◌, sym, ap, ◌∙◌, ℕ, ◌%◌, arith, rules}
+use Rattle.lists.proofs.Prelude.{◌≡◌, ◌%◌}
 use Rattle.words.specs.Words.{words}
-use Rattle.postings.specs.Pack.{posted}
 use Rattle.postings.specs.Sums.{under}
-use Rattle.card.specs.Chains.{blocks_for, content}
+use Rattle.card.specs.Chains.{content}
 use Rattle.card.specs.Cursors.{ahead, Good}
 use Rattle.partitions.specs.Reading.{field, chain_of, posting_words, postings_of}
-use Rattle.partitions.proofs.Headers.{first_block, header-room}
-use Rattle.partitions.proofs.Listed.{Resumes, lists_by, under-passed, resumes-more, resumes-at, lists-none, ahead_none, entry-passed}
-use Rattle.partitions.proofs.Starts.{header-word, resumes-start, under-start, list-room, list-found}
+use Rattle.partitions.proofs.Listed.{Resumes, lists_by}
 use Rattle.partitions.proofs.find_list.Given as goal
 
 abbrev pub invariant-loop-e : goal.invariant-loop-e

@@ -1,5 +1,5 @@
 -- `partitions::first_entry` meets its contract: header and entries lie within the chain.
-use Rattle.lists.proofs.Prelude.{arith, rules}
+use Rattle.lists.proofs.Prelude.{arith}
 use Rattle.words.specs.Words.{words}
 use Rattle.card.specs.Chains.{blocks_for}
 use Rattle.partitions.proofs.Headers.{first_block, header-room}

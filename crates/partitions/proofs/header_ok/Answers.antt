@@ -1,5 +1,5 @@
 -- `partitions::header_ok` meets its contract: the header lies in the first block, which is on the card.
-use Rattle.lists.proofs.Prelude.{ap, ◌∙◌, rules}
+use Rattle.lists.proofs.Prelude.{ap, ◌∙◌}
 use Rattle.words.specs.Words.{words}
 use Rattle.card.specs.Chains.{blocks_for}
 use Rattle.partitions.specs.declared.Header.{Header}

@@ -1,5 +1,5 @@
 -- `partitions::open_reader` meets its contract: the entries after the first lie ahead of one cursor, all postings ahead of the other.
-use Rattle.lists.proofs.Prelude.{refl, arith, rules}
+use Rattle.lists.proofs.Prelude.{refl, arith}
 use Rattle.words.specs.Words.{words}
 use Rattle.card.specs.Chains.{blocks_for}
 use Rattle.partitions.proofs.Headers.{first_block, header-room}

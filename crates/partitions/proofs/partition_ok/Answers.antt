@@ -1,5 +1,5 @@
 -- `partitions::partition_ok` meets its contract: the parts of the rule in their order.
-use Rattle.lists.proofs.Prelude.{sym, ap, ◌∙◌, passed, failed, rules}
+use Rattle.lists.proofs.Prelude.{sym, ap, ◌∙◌, passed, failed}
 use Rattle.words.specs.Words.{words}
 use Rattle.card.specs.Chains.{blocks_for, chain_rule}
 use Rattle.card.proofs.Seeking.{rule-chained}

@@ -1,12 +1,11 @@
-use Rattle.lists.proofs.Prelude.{◌≡◌, sym, ◌∙◌, ◌-◌, ◌≤◌, arith, length, get_or, drop, not-false, unmapped, passed, failed, rules}
+use Rattle.lists.proofs.Prelude.{◌≡◌, sym, ◌∙◌, arith, length, get_or, not-false, unmapped, passed, failed, rules}
 use Rattle.lists.proofs.Sections.{used-every}
 use Rattle.words.specs.Words.{words}
 use Rattle.state.specs.Views.{no_partition, finished}
 use Rattle.state.specs.Rules.{record_rule}
 use Rattle.state.proofs.Kept.{record-kept}
-use Rattle.partitions.specs.Formed.{partitions_formed}
 use Rattle.partitions.proofs.Starts.{rule-readable}
-use Rattle.partitions.proofs.Apart.{formed, formed-first, formed-breaks, formed-meets, formed-step, formed-end}
+use Rattle.partitions.proofs.Apart.{formed-first, formed-breaks, formed-meets, formed-step, formed-end}
 use Rattle.partitions.proofs.partitions_ok.Goals as goal
 
 pub loop-i-init : goal.loop-i-init

@@ -1,5 +1,4 @@
 -- `partitions::read_header` meets its contract.
-use borrow.Author.Rules.{rules}
 use Rattle.partitions.proofs.read_header.Goals as goal
 
 pub returns : goal.returns

@@ -1,5 +1,5 @@
 -- `partitions::reader_moved` meets its contract: past the last posting of an identifier comes the next entry.
-use Rattle.lists.proofs.Prelude.{arith, lt-ltb, le-ltb, rules}
+use Rattle.lists.proofs.Prelude.{arith, lt-ltb, le-ltb}
 use Rattle.words.specs.Words.{words}
 use Rattle.partitions.specs.Readers.{moved_reader}
 use Rattle.partitions.proofs.Readers.{numbered_more, reader-step}

@@ -1,4 +1,4 @@
-use Rattle.lists.proofs.Prelude.{arith, lit≤, rules}
+use Rattle.lists.proofs.Prelude.{arith, lit≤}
 use mir.Facts.{to_z-of_z}
 use Rattle.words.proofs.Bits.{beside}
 use Rattle.postings.proofs.Trips.{half_lt}

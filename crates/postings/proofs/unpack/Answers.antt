@@ -1,6 +1,5 @@
 use lib.Bits.{and_mask, mask_lt}
 use mir.Facts.{to_z-of_z}
-use borrow.Author.Rules.{rules}
 use Rattle.postings.proofs.unpack.Goals as goal
 
 pub overflow_cast-word : goal.overflow_cast-word

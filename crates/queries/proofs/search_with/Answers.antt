@@ -41,7 +41,6 @@ returns-then-bad_query c =
     (finds-bad a.s a.card.now a.register.now c.requires.0 a.t a.live ns a.places a.run.now H g.result g.ensures (not-false _ c.if-not-fine.false-raw) (sym c.any_bad.ensures ∙ c.if-any_bad.false)
     (sym c.bad_query.ensures ∙ c.if-bad_query.true))
 
-
 abbrev named : Else3 → List Name
 named m = map (λ x. x.now) m.args.ids.now
 

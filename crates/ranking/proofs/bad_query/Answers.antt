@@ -1,5 +1,5 @@
 -- `ranking::bad_query` meets its contract, part by part.
-use Rattle.lists.proofs.Prelude.{rules, lt-ltb, le-ltb, refl, sym, ◌∙◌, eqb, length, or_right}
+use Rattle.lists.proofs.Prelude.{lt-ltb, le-ltb, refl, sym, ◌∙◌, eqb, length, or_right}
 use Rattle.ranking.proofs.Asked.{bad-parts}
 use Rattle.ranking.proofs.bad_query.Goals as goal
 

@@ -1,4 +1,3 @@
-use borrow.Author.Rules.{rules}
 use Rattle.ranking.proofs.enters.Goals as goal
 
 pub returns : goal.returns

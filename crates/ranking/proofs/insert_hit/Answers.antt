@@ -1,4 +1,4 @@
-use Rattle.lists.proofs.Prelude.{List, ◌≡◌, sym, ap, ◌∙◌, ℕ, ◌≤◌, ◌+◌, ◌-◌, arith, rules, length, get_or, set, unmapped}
+use Rattle.lists.proofs.Prelude.{List, ◌≡◌, sym, ap, ◌∙◌, ℕ, ◌+◌, ◌-◌, arith, rules, get_or, set, unmapped}
 use Rattle.lists.proofs.Shifts.{raised, raised-none, raised-more}
 use Rattle.answers.specs.declared.Hit.{Hit}
 use Rattle.ranking.specs.Top.{no_hit}

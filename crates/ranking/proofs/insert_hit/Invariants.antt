@@ -1,8 +1,5 @@
-use Rattle.lists.proofs.Prelude.{List, ◌≡◌, sym, ap, ◌∙◌, ℕ, ◌≤◌, ◌+◌, ◌-◌, arith, rules, length, get_or, set, unmapped}
-use Rattle.lists.proofs.Shifts.{raised, raised-none, raised-more}
-use Rattle.answers.specs.declared.Hit.{Hit}
-use Rattle.ranking.specs.Top.{no_hit}
-use Rattle.ranking.proofs.Tops.{made, insert-made}
+use Rattle.lists.proofs.Prelude.{◌≡◌, ◌≤◌, length}
+use Rattle.lists.proofs.Shifts.{raised}
 use Rattle.ranking.proofs.insert_hit.Given as goal
 
 abbrev pub invariant-loop-i : goal.invariant-loop-i

@@ -1,4 +1,4 @@
-use Rattle.lists.proofs.Prelude.{◌∷◌, ◌++◌, ◌≡◌, sym, ap, ◌∙◌, ℕ, ◌+◌, ◌-◌, min, arith, rules, length, take, drop}
+use Rattle.lists.proofs.Prelude.{◌∷◌, ◌++◌, ◌≡◌, sym, ap, ◌∙◌, ℕ, ◌+◌, ◌-◌, min, arith, length, take, drop}
 use Rattle.ranking.specs.Top.{listed_hits, top_of}
 use Rattle.ranking.proofs.Tops.{clean-used, rank-le, place_out, place_in}
 use Rattle.ranking.proofs.place_hit.Goals as goal

@@ -1,5 +1,4 @@
-use Rattle.lists.proofs.Prelude.{◌≡◌, sym, ◌∙◌, ◌≤◌, ◌+◌, ◌-◌, arith, rules, length, take, drop, unmapped}
-use Rattle.ranking.specs.Top.{rank}
+use Rattle.lists.proofs.Prelude.{sym, ◌∙◌, arith, rules, unmapped}
 use Rattle.ranking.proofs.Tops.{rank-here, rank-on, rank-end}
 use Rattle.ranking.proofs.rank_of.Goals as goal
 

@@ -1,6 +1,5 @@
-use Rattle.lists.proofs.Prelude.{◌≡◌, sym, ◌∙◌, ◌≤◌, ◌+◌, ◌-◌, arith, rules, length, take, drop, unmapped}
+use Rattle.lists.proofs.Prelude.{◌≡◌, ◌≤◌, ◌+◌, ◌-◌, length, take, drop}
 use Rattle.ranking.specs.Top.{rank}
-use Rattle.ranking.proofs.Tops.{rank-here, rank-on, rank-end}
 use Rattle.ranking.proofs.rank_of.Given as goal
 
 abbrev pub invariant-loop-i : goal.invariant-loop-i

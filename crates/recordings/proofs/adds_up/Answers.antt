@@ -1,4 +1,4 @@
-use Rattle.lists.proofs.Prelude.{◌≡◌, sym, ◌+◌, ◌-◌, ◌≤◌, arith, rules, ne_eqb, length, take, take_all, total_by}
+use Rattle.lists.proofs.Prelude.{sym, ◌+◌, arith, ne_eqb, take_all, total_by}
 use Rattle.recordings.proofs.Windows.{total-take, total-front, none_left}
 use Rattle.recordings.proofs.adds_up.Goals as goal
 

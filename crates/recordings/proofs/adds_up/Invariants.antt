@@ -1,6 +1,5 @@
 -- `recordings::adds_up` meets its contract. The loop's invariant: the numbers passed and what is left are the count.
-use Rattle.lists.proofs.Prelude.{◌≡◌, sym, ◌+◌, ◌-◌, ◌≤◌, arith, rules, ne_eqb, length, take, take_all, total_by}
-use Rattle.recordings.proofs.Windows.{total-take, total-front, none_left}
+use Rattle.lists.proofs.Prelude.{◌≡◌, ◌+◌, ◌-◌, ◌≤◌, length, take, total_by}
 use Rattle.recordings.proofs.adds_up.Given as goal
 
 abbrev pub invariant-loop-i : goal.invariant-loop-i

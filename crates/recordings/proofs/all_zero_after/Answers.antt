@@ -1,4 +1,4 @@
-use Rattle.lists.proofs.Prelude.{true, false, [], ◌≡◌, refl, sym, ◌∙◌, ◌-◌, ◌≤◌, zero-le, add-one, arith, passed, failed, get_or, drop, drop_of_length-le, every, every-step}
+use Rattle.lists.proofs.Prelude.{true, false, [], ◌≡◌, refl, sym, ◌∙◌, zero-le, add-one, arith, passed, failed, get_or, drop_of_length-le, every-step}
 use Rattle.identifiers.specs.Register.{entries}
 use Rattle.identifiers.proofs.Entries.{length-entries, length-entry}
 use Rattle.recordings.specs.Recording.{zero_after}

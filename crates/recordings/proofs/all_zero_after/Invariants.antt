@@ -1,7 +1,6 @@
 -- `recordings::all_zero_after` meets its contract. The loop's invariant: the answer is that for the entries to come.
-use Rattle.lists.proofs.Prelude.{true, false, [], ◌≡◌, refl, sym, ◌∙◌, ◌-◌, ◌≤◌, zero-le, add-one, arith, passed, failed, get_or, drop, drop_of_length-le, every, every-step}
+use Rattle.lists.proofs.Prelude.{◌≡◌, ◌-◌, ◌≤◌, drop, every}
 use Rattle.identifiers.specs.Register.{entries}
-use Rattle.identifiers.proofs.Entries.{length-entries, length-entry}
 use Rattle.recordings.specs.Recording.{zero_after}
 use Rattle.recordings.proofs.all_zero_after.Given as goal
 

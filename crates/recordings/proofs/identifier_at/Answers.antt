@@ -1,5 +1,5 @@
 -- `recordings::identifier_at` meets its contract: an identifier of a good length stands whole in its entry.
-use Rattle.lists.proofs.Prelude.{[], ◌≡◌, sym, ◌+◌, ◌-◌, arith, rules, get_or}
+use Rattle.lists.proofs.Prelude.{[], ◌≡◌, sym, ◌+◌, ◌-◌, arith, get_or}
 use Rattle.identifiers.specs.Register.{entries, size}
 use Rattle.identifiers.proofs.Entries.{length-entry}
 use Rattle.recordings.proofs.Windows.{good-size, good-identifier}

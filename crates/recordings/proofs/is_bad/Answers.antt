@@ -1,5 +1,5 @@
 -- `recordings::is_bad` meets its contract: the length byte tells.
-use Rattle.lists.proofs.Prelude.{[], sym, arith, rules, get_or}
+use Rattle.lists.proofs.Prelude.{[], sym, arith, get_or}
 use Rattle.identifiers.specs.Register.{entries}
 use Rattle.identifiers.proofs.Entries.{length-entry}
 use Rattle.recordings.proofs.Windows.{bad-size}

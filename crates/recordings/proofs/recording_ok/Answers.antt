@@ -1,5 +1,5 @@
 -- `recordings::recording_ok` meets its contract, test by test.
-use Rattle.lists.proofs.Prelude.{sym, rules, eq-eqb, ne_eqb, passed, failed}
+use Rattle.lists.proofs.Prelude.{sym, eq-eqb, ne_eqb, passed, failed}
 use Rattle.recordings.specs.Recording.{recording_rule}
 use Rattle.recordings.proofs.recording_ok.Goals as goal
 

@@ -1,5 +1,5 @@
 -- `recordings::zero_after` meets its contract: an entry whose length byte is above 64 has nothing after its identifier.
-use Rattle.lists.proofs.Prelude.{sym, ap, ◌∙◌, ◌+◌, arith, rules, eqb, drop_of_length-le, every, take_rest}
+use Rattle.lists.proofs.Prelude.{sym, ap, ◌∙◌, ◌+◌, arith, eqb, drop_of_length-le, every, take_rest}
 use Rattle.identifiers.specs.Register.{size}
 use Rattle.recordings.proofs.zero_after.Goals as goal
 

@@ -1,4 +1,4 @@
-use Rattle.lists.proofs.Prelude.{sym, arith, rules}
+use Rattle.lists.proofs.Prelude.{sym, arith}
 use Rattle.registers.proofs.all_different.Goals as goal
 
 pub returns-then-chained_apart : goal.returns-then-chained_apart

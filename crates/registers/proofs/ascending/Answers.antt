@@ -1,6 +1,6 @@
-use Rattle.lists.proofs.Prelude.{◌≡◌, sym, ap, ◌∙◌, suc, ◌-◌, ◌≤◌, arith, length, get_or, true, eqb, eqb-true, eqb-false, not-false, by-test, never}
+use Rattle.lists.proofs.Prelude.{◌≡◌, sym, ap, ◌∙◌, suc, ◌-◌, arith, length, get_or, true, eqb, eqb-true, eqb-false, not-false, by-test, never}
 use Rattle.identifiers.proofs.Entries.{length-entry}
-use Rattle.registers.specs.Order.{before, Ascending}
+use Rattle.registers.specs.Order.{before}
 use Rattle.registers.proofs.ascending.Goals as goal
 
 pub loop-k-init : goal.loop-k-init

@@ -1,6 +1,5 @@
-use Rattle.lists.proofs.Prelude.{◌≡◌, sym, ap, ◌∙◌, suc, ◌-◌, ◌≤◌, arith, length, get_or, true, eqb, eqb-true, eqb-false, not-false, by-test, never}
-use Rattle.identifiers.proofs.Entries.{length-entry}
-use Rattle.registers.specs.Order.{before, Ascending}
+use Rattle.lists.proofs.Prelude.{◌-◌, ◌≤◌}
+use Rattle.registers.specs.Order.{Ascending}
 use Rattle.registers.proofs.ascending.Given as goal
 
 abbrev pub invariant-loop-k : goal.invariant-loop-k

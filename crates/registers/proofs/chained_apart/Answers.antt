@@ -1,7 +1,7 @@
-use Rattle.lists.proofs.Prelude.{true, false, [], ◌≡◌, refl, sym, ap, ◌∙◌, suc, ◌-◌, ◌<◌, ◌≤◌, zero-le, add-one, arith, rules, length, get_or, take, length-set, take_all, never}
-use Rattle.identifiers.specs.Names.{among, distinct}
+use Rattle.lists.proofs.Prelude.{false, [], ◌≡◌, refl, sym, ap, ◌∙◌, suc, ◌<◌, zero-le, add-one, arith, length, get_or, take, length-set, take_all, never}
+use Rattle.identifiers.specs.Names.{among}
 use Rattle.identifiers.specs.Register.{names}
-use Rattle.registers.specs.Chains.{hash_of, last_with, Heads, Links}
+use Rattle.registers.specs.Chains.{hash_of, last_with}
 use Rattle.identifiers.proofs.Names.{distinct-stopped, distinct-on}
 use Rattle.identifiers.proofs.Entries.{names-bound}
 use Rattle.registers.proofs.Chains.{hash-below, heads-none, heads-on, links-on, last_within}

@@ -1,11 +1,8 @@
 -- `registers::chained_apart` meets its contract. The loop's invariant: the identifiers passed differ, and the two arrays chain their places.
-use Rattle.lists.proofs.Prelude.{true, false, [], ◌≡◌, refl, sym, ap, ◌∙◌, suc, ◌-◌, ◌<◌, ◌≤◌, zero-le, add-one, arith, rules, length, get_or, take, length-set, take_all, never}
-use Rattle.identifiers.specs.Names.{among, distinct}
+use Rattle.lists.proofs.Prelude.{true, ◌≡◌, ◌-◌, ◌≤◌, length, take}
+use Rattle.identifiers.specs.Names.{distinct}
 use Rattle.identifiers.specs.Register.{names}
-use Rattle.registers.specs.Chains.{hash_of, last_with, Heads, Links}
-use Rattle.identifiers.proofs.Names.{distinct-stopped, distinct-on}
-use Rattle.identifiers.proofs.Entries.{names-bound}
-use Rattle.registers.proofs.Chains.{hash-below, heads-none, heads-on, links-on, last_within}
+use Rattle.registers.specs.Chains.{Heads, Links}
 use Rattle.registers.proofs.chained_apart.Given as goal
 
 abbrev pub invariant-loop-i : goal.invariant-loop-i

@@ -1,5 +1,4 @@
-use Rattle.lists.proofs.Prelude.{◌-◌, ◌≤◌, arith}
-use Rattle.words.specs.Words.{Below}
+use Rattle.lists.proofs.Prelude.{arith}
 use Rattle.registers.proofs.Sorted.{below_set}
 use Rattle.registers.proofs.fill.Goals as goal
 

@@ -1,6 +1,5 @@
-use Rattle.lists.proofs.Prelude.{◌-◌, ◌≤◌, arith}
+use Rattle.lists.proofs.Prelude.{◌-◌, ◌≤◌}
 use Rattle.words.specs.Words.{Below}
-use Rattle.registers.proofs.Sorted.{below_set}
 use Rattle.registers.proofs.fill.Given as goal
 
 abbrev pub invariant-loop-i : goal.invariant-loop-i

@@ -1,4 +1,4 @@
-use Rattle.lists.proofs.Prelude.{◌≡◌, refl, sym, ◌∙◌, ◌-◌, ◌<◌, ◌≤◌, zero-le, add-one, arith, length, drop, drop_of_length-le}
+use Rattle.lists.proofs.Prelude.{refl, sym, ◌∙◌, zero-le, add-one, arith, drop_of_length-le}
 use Rattle.registers.specs.Chains.{hash_from, hash_of}
 use Rattle.registers.proofs.Chains.{hash-step}
 use Rattle.registers.proofs.hash_of.Goals as goal

@@ -1,7 +1,6 @@
 -- `registers::hash_of` meets its contract. The loop's invariant: the hash so far, taken on over the bytes to come, is that of the whole.
-use Rattle.lists.proofs.Prelude.{◌≡◌, refl, sym, ◌∙◌, ◌-◌, ◌<◌, ◌≤◌, zero-le, add-one, arith, length, drop, drop_of_length-le}
+use Rattle.lists.proofs.Prelude.{◌≡◌, ◌-◌, ◌<◌, ◌≤◌, length, drop}
 use Rattle.registers.specs.Chains.{hash_from, hash_of}
-use Rattle.registers.proofs.Chains.{hash-step}
 use Rattle.registers.proofs.hash_of.Given as goal
 
 abbrev pub invariant-loop-i : goal.invariant-loop-i

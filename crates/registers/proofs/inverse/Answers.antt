@@ -1,5 +1,4 @@
-use Rattle.lists.proofs.Prelude.{◌-◌, ◌≤◌, arith, get_or, eqb, eqb-true, eqb-false, by-test, never}
-use Rattle.registers.specs.Order.{Inverse}
+use Rattle.lists.proofs.Prelude.{arith, get_or, eqb, eqb-true, eqb-false, by-test, never}
 use Rattle.registers.proofs.inverse.Goals as goal
 
 pub loop-p-init : goal.loop-p-init

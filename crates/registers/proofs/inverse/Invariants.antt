@@ -1,4 +1,4 @@
-use Rattle.lists.proofs.Prelude.{◌-◌, ◌≤◌, arith, get_or, eqb, eqb-true, eqb-false, by-test, never}
+use Rattle.lists.proofs.Prelude.{◌-◌, ◌≤◌}
 use Rattle.registers.specs.Order.{Inverse}
 use Rattle.registers.proofs.inverse.Given as goal
 

@@ -1,6 +1,6 @@
-use Rattle.lists.proofs.Prelude.{◌≡◌, refl, sym, ◌∙◌, ◌-◌, ◌≤◌, add-one, arith, get_or, drop}
+use Rattle.lists.proofs.Prelude.{◌≡◌, refl, sym, ◌∙◌, add-one, arith, get_or}
 use Rattle.words.proofs.Views.{length-words}
-use Rattle.registers.specs.Order.{lower, key}
+use Rattle.registers.specs.Order.{key}
 use Rattle.registers.proofs.Sorted.{lower-same, lower-apart, lower_last, key-length, key-word, key-last}
 use Rattle.registers.proofs.less.Goals as goal
 

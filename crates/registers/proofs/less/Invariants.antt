@@ -1,8 +1,6 @@
 -- `registers::less` meets its contract. The loop's invariant: the words passed are equal.
-use Rattle.lists.proofs.Prelude.{◌≡◌, refl, sym, ◌∙◌, ◌-◌, ◌≤◌, add-one, arith, get_or, drop}
-use Rattle.words.proofs.Views.{length-words}
+use Rattle.lists.proofs.Prelude.{◌≡◌, ◌-◌, ◌≤◌, drop}
 use Rattle.registers.specs.Order.{lower, key}
-use Rattle.registers.proofs.Sorted.{lower-same, lower-apart, lower_last, key-length, key-word, key-last}
 use Rattle.registers.proofs.less.Given as goal
 
 abbrev pub invariant-loop-c : goal.invariant-loop-c

@@ -1,5 +1,4 @@
-use Rattle.lists.proofs.Prelude.{◌+◌, ◌-◌, ◌≤◌, arith, get_or, ⊎_elim}
-use Rattle.words.specs.Words.{Below}
+use Rattle.lists.proofs.Prelude.{arith, get_or, ⊎_elim}
 use Rattle.registers.proofs.Sorted.{below_set}
 use Rattle.registers.proofs.merge.Goals as goal
 

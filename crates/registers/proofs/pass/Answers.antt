@@ -1,5 +1,4 @@
-use Rattle.lists.proofs.Prelude.{suc, ◌-◌, ◌≤◌, arith, rules}
-use Rattle.words.specs.Words.{Below}
+use Rattle.lists.proofs.Prelude.{suc, arith}
 use Rattle.registers.proofs.pass.Goals as goal
 
 pub loop-low-init : goal.loop-low-init

@@ -1,4 +1,4 @@
-use Rattle.lists.proofs.Prelude.{suc, ◌-◌, ◌≤◌, arith, rules}
+use Rattle.lists.proofs.Prelude.{◌-◌, ◌≤◌}
 use Rattle.words.specs.Words.{Below}
 use Rattle.registers.proofs.pass.Given as goal
 

@@ -1,6 +1,5 @@
-use Rattle.lists.proofs.Prelude.{◌-◌, ◌≤◌, arith, get_or}
+use Rattle.lists.proofs.Prelude.{◌-◌, ◌≤◌}
 use Rattle.words.specs.Words.{Below}
-use Rattle.registers.proofs.Sorted.{below_set}
 use Rattle.registers.proofs.rank.Given as goal
 
 abbrev pub invariant-loop-k : goal.invariant-loop-k

@@ -1,5 +1,5 @@
 -- `registers::register_ok` meets its contract: the rule is that of a formed register whose identifiers differ.
-use Rattle.lists.proofs.Prelude.{true, false, ◌≡◌, sym, ◌∙◌, rules, not-true, not-false}
+use Rattle.lists.proofs.Prelude.{true, false, ◌≡◌, sym, ◌∙◌, not-true, not-false}
 use Rattle.identifiers.specs.Formed.{formed}
 use Rattle.identifiers.proofs.Entries.{rule-parts}
 use Rattle.registers.proofs.register_ok.Goals as goal

@@ -1,4 +1,4 @@
-use Rattle.lists.proofs.Prelude.{true, false, ◌||◌, [], ◌≡◌, sym, ap, ap₂, ◌∙◌, ℕ, suc, ◌+◌, ◌-◌, ◌<◌, ◌≤◌, arith, rules, length, get_or, take, same, never}
+use Rattle.lists.proofs.Prelude.{true, false, ◌||◌, [], ◌≡◌, sym, ap, ap₂, ◌∙◌, ℕ, suc, ◌-◌, ◌<◌, arith, length, get_or, take, same, never}
 use Rattle.identifiers.specs.Names.{among}
 use Rattle.identifiers.specs.Register.{names}
 use Rattle.registers.specs.Chains.{hash_of, last_with}

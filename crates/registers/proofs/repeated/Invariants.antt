@@ -1,11 +1,9 @@
 -- `registers::repeated` meets its contract. The loop's invariant: the answer is that for the identifiers that are left, the last of them has the
 -- hash that is looked for, and there were no more steps than places passed.
-use Rattle.lists.proofs.Prelude.{true, false, ◌||◌, [], ◌≡◌, sym, ap, ap₂, ◌∙◌, ℕ, suc, ◌+◌, ◌-◌, ◌<◌, ◌≤◌, arith, rules, length, get_or, take, same, never}
+use Rattle.lists.proofs.Prelude.{[], ◌≡◌, ℕ, suc, ◌+◌, ◌≤◌, get_or, take}
 use Rattle.identifiers.specs.Names.{among}
 use Rattle.identifiers.specs.Register.{names}
-use Rattle.registers.specs.Chains.{hash_of, last_with}
-use Rattle.identifiers.proofs.Names.{among-upto}
-use Rattle.registers.proofs.Chains.{last_within, last-hash, last-among, link-below}
+use Rattle.registers.specs.Chains.{hash_of}
 use Rattle.registers.proofs.repeated.Given as goal
 
 abbrev pub invariant-loop-left : goal.invariant-loop-left

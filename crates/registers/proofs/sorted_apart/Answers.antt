@@ -1,5 +1,4 @@
-use Rattle.lists.proofs.Prelude.{◌-◌, ◌≤◌, arith, not-false, never}
-use Rattle.words.specs.Words.{Below}
+use Rattle.lists.proofs.Prelude.{arith, not-false, never}
 use Rattle.identifiers.specs.Register.{names}
 use Rattle.identifiers.proofs.Entries.{names-bound, names-within}
 use Rattle.registers.proofs.Sorted.{zeros-below, none_differ, in_order}

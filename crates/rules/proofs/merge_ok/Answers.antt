@@ -1,4 +1,4 @@
-use Rattle.lists.proofs.Prelude.{refl, rules, eq-eqb}
+use Rattle.lists.proofs.Prelude.{refl, eq-eqb}
 use denote.Enum.Declared.{tag_of}
 use Rattle.state.specs.Rules.{merge_rule}
 use Rattle.rules.proofs.Going.{merge-due, merge_none}

@@ -1,4 +1,4 @@
-use Rattle.lists.proofs.Prelude.{and-false, rules, passed, failed}
+use Rattle.lists.proofs.Prelude.{and-false, passed, failed}
 use Rattle.state.specs.Rules.{state_rule}
 use Rattle.state.proofs.Kept.{partitions-kept}
 use Rattle.rules.proofs.state_ok.Goals as goal

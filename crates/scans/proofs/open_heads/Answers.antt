@@ -1,11 +1,11 @@
-use Rattle.lists.proofs.Prelude.{◌≡◌, ◌∙◌, ◌≤◌, ◌+◌, ◌*◌, ◌-◌, arith, rules, [], length, unmapped, of-used}
+use Rattle.lists.proofs.Prelude.{◌≡◌, ◌∙◌, ◌≤◌, ◌+◌, ◌*◌, arith, rules, [], length, unmapped, of-used}
 use borrow.Rule.Slice.PartMut.{mid_len}
 use Rattle.keyed.specs.Keys.{topmost_from}
 use Rattle.words.specs.Words.{words}
 use Rattle.state.specs.Views.{no_partition}
 use Rattle.partitions.specs.Reading.{postings_of}
 use Rattle.partitions.specs.Terms.{Readable}
-use Rattle.kway.proofs.Parts.{put_in, width, Opened, opened-none, opened-more, shown-more}
+use Rattle.kway.proofs.Parts.{put_in, width, opened-none, opened-more, shown-more}
 use Rattle.kway.proofs.Turns.{top-none, top-more}
 use Rattle.scans.specs.Heads.{ahead, view, Kept, views}
 use Rattle.scans.proofs.open_heads.Goals as goal

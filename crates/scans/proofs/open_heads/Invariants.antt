@@ -1,14 +1,10 @@
 -- `scans::open_heads` meets its contract. The invariant: the first i heads are those of the first i partitions.
-use Rattle.lists.proofs.Prelude.{◌≡◌, ◌∙◌, ◌≤◌, ◌+◌, ◌*◌, ◌-◌, arith, rules, [], length, unmapped, of-used}
-use borrow.Rule.Slice.PartMut.{mid_len}
+use Rattle.lists.proofs.Prelude.{◌≡◌, ◌≤◌, ◌-◌, length}
 use Rattle.keyed.specs.Keys.{topmost_from}
 use Rattle.words.specs.Words.{words}
-use Rattle.state.specs.Views.{no_partition}
 use Rattle.partitions.specs.Reading.{postings_of}
-use Rattle.partitions.specs.Terms.{Readable}
-use Rattle.kway.proofs.Parts.{put_in, width, Opened, opened-none, opened-more, shown-more}
-use Rattle.kway.proofs.Turns.{top-none, top-more}
-use Rattle.scans.specs.Heads.{ahead, view, Kept, views}
+use Rattle.kway.proofs.Parts.{Opened}
+use Rattle.scans.specs.Heads.{ahead, Kept, views}
 use Rattle.scans.proofs.open_heads.Given as goal
 
 abbrev pub invariant-loop-i : goal.invariant-loop-i

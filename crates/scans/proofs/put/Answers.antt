@@ -1,5 +1,5 @@
 -- `scans::put` meets its contract: a spent reader, and another.
-use Rattle.lists.proofs.Prelude.{sym, ◌∙◌, ◌-◌, arith, length-set, rules}
+use Rattle.lists.proofs.Prelude.{sym, ◌∙◌, arith, length-set, rules}
 use mir.Syntax.{w16}
 use mir.Val.{Fits}
 use Rattle.words.specs.Words.{words}

@@ -1,11 +1,11 @@
 use mir.Facts.{to_z-of_z}
-use mir.Syntax.{w16, w32}
-use mir.Val.{SFits, to_z}
-use Rattle.lists.proofs.Prelude.{◌≡◌, ◌≤◌, ◌+◌, ◌*◌, ◌-◌, arith, rules}
+use mir.Syntax.{w16}
+use mir.Val.{SFits}
+use Rattle.lists.proofs.Prelude.{◌≡◌, ◌+◌, ◌*◌, ◌-◌, arith, rules}
 use Rattle.words.specs.Words.{words}
 use Rattle.scans.specs.Heads.{view, Kept}
 use Rattle.kway.proofs.Parts.{all-at}
-use Rattle.kway.proofs.Turns.{Turn, turn-none, turn_more}
+use Rattle.kway.proofs.Turns.{turn-none, turn_more}
 use Rattle.scans.proofs.take.Goals as goal
 
 pub loop-i-init : goal.loop-i-init

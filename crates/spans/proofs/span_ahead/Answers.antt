@@ -1,9 +1,7 @@
-use Rattle.lists.proofs.Prelude.{◌≤◌, arith, rules}
+use Rattle.lists.proofs.Prelude.{arith}
 use Rattle.words.specs.Words.{words}
-use Rattle.postings.specs.Pack.{posted}
-use Rattle.card.specs.Cursors.{Good, head_of}
 use Rattle.card.proofs.Cursors.{good-moved, moved-less}
-use Rattle.spans.proofs.Ahead.{Met, met-first, met-more, met_all}
+use Rattle.spans.proofs.Ahead.{met-first, met-more, met_all}
 use Rattle.spans.proofs.span_ahead.Goals as goal
 
 pub loop-at-init : goal.loop-at-init

@@ -1,10 +1,8 @@
 -- `spans::span_ahead` meets its contract. The invariant: what was met and what is to come make the span of all.
-use Rattle.lists.proofs.Prelude.{◌≤◌, arith, rules}
+use Rattle.lists.proofs.Prelude.{◌≤◌}
 use Rattle.words.specs.Words.{words}
-use Rattle.postings.specs.Pack.{posted}
-use Rattle.card.specs.Cursors.{Good, head_of}
-use Rattle.card.proofs.Cursors.{good-moved, moved-less}
-use Rattle.spans.proofs.Ahead.{Met, met-first, met-more, met_all}
+use Rattle.card.specs.Cursors.{Good}
+use Rattle.spans.proofs.Ahead.{Met}
 use Rattle.spans.proofs.span_ahead.Given as goal
 
 abbrev pub invariant-loop-at : goal.invariant-loop-at

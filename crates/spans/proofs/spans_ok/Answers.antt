@@ -1,7 +1,7 @@
-use Rattle.lists.proofs.Prelude.{◌&&◌, ◌≡◌, refl, sym, ◌∙◌, ◌≤◌, ◌-◌, arith, length, drop, every, unmapped, of-used, used_turn, used-end, passed, failed, rules}
+use Rattle.lists.proofs.Prelude.{refl, sym, ◌∙◌, arith, every, unmapped, of-used, used_turn, used-end, passed, failed, rules}
 use Rattle.words.specs.Words.{words}
 use Rattle.state.specs.declared.Partition.{Partition}
-use Rattle.state.specs.Views.{no_partition, finished}
+use Rattle.state.specs.Views.{no_partition}
 use Rattle.partitions.specs.Reading.{postings_of}
 use Rattle.partitions.specs.Formed.{span_rule}
 use Rattle.partitions.specs.Terms.{Readable}

@@ -1,11 +1,9 @@
 -- `spans::spans_ok` meets its contract. The invariant: the answer for all is the answer for those from i on.
-use Rattle.lists.proofs.Prelude.{◌&&◌, ◌≡◌, refl, sym, ◌∙◌, ◌≤◌, ◌-◌, arith, length, drop, every, unmapped, of-used, used_turn, used-end, passed, failed, rules}
+use Rattle.lists.proofs.Prelude.{◌≡◌, ◌≤◌, ◌-◌, length, drop, every}
 use Rattle.words.specs.Words.{words}
-use Rattle.state.specs.declared.Partition.{Partition}
-use Rattle.state.specs.Views.{no_partition, finished}
+use Rattle.state.specs.Views.{finished}
 use Rattle.partitions.specs.Reading.{postings_of}
 use Rattle.partitions.specs.Formed.{span_rule}
-use Rattle.partitions.specs.Terms.{Readable}
 use Rattle.spans.proofs.spans_ok.Given as goal
 
 abbrev pub invariant-loop-i : goal.invariant-loop-i

@@ -1,4 +1,4 @@
-use Rattle.lists.proofs.Prelude.{ℕ, ⊎_elim, ◌≡◌, refl, sym, ap, ◌∙◌, ◌<◌, ◌≤◌, ◌-◌, arith, length, length-take-le, take, take_all, keep, unmapped, rules}
+use Rattle.lists.proofs.Prelude.{ℕ, ⊎_elim, ◌≡◌, refl, sym, ap, ◌∙◌, ◌<◌, ◌≤◌, arith, length, length-take-le, take, take_all, keep, unmapped, rules}
 use Rattle.postings.specs.declared.Stretch.{Stretch}
 use Rattle.state.specs.declared.Partitions.{Partitions}
 use Rattle.state.specs.Views.{finished, partitions_of, no_partition}

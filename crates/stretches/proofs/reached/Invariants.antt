@@ -1,9 +1,7 @@
 -- `stretches::reached` meets its contract. The invariant: those found are the ones of the first i that reach the stretch.
-use Rattle.lists.proofs.Prelude.{⊎_elim, ◌≡◌, refl, sym, ap, ◌∙◌, ◌<◌, ◌≤◌, ◌-◌, arith, length, length-take-le, take, take_all, keep, unmapped, rules}
-use Rattle.state.specs.declared.Partitions.{Partitions}
-use Rattle.state.specs.Views.{finished, partitions_of, no_partition}
+use Rattle.lists.proofs.Prelude.{◌≡◌, ◌≤◌, ◌-◌, length, take, keep}
+use Rattle.state.specs.Views.{finished, partitions_of}
 use Rattle.stretches.specs.Reached.{reaches}
-use Rattle.stretches.proofs.Finding.{found-few, found-more, found-same}
 use Rattle.stretches.proofs.reached.Given as goal
 
 abbrev pub invariant-loop-i : goal.invariant-loop-i

@@ -1,5 +1,5 @@
-use Rattle.lists.proofs.Prelude.{◌≤◌, ◌-◌, arith, rules}
-use Rattle.sums.proofs.Slots.{ClearedTo, cleared_more}
+use Rattle.lists.proofs.Prelude.{arith, rules}
+use Rattle.sums.proofs.Slots.{cleared_more}
 use Rattle.sums.proofs.clear.Goals as goal
 
 pub loop-i-preserved : goal.loop-i-preserved

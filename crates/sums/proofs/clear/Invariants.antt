@@ -1,5 +1,5 @@
-use Rattle.lists.proofs.Prelude.{◌≤◌, ◌-◌, arith, rules}
-use Rattle.sums.proofs.Slots.{ClearedTo, cleared_more}
+use Rattle.lists.proofs.Prelude.{◌≤◌, ◌-◌}
+use Rattle.sums.proofs.Slots.{ClearedTo}
 use Rattle.sums.proofs.clear.Given as goal
 
 abbrev pub invariant-loop-i : goal.invariant-loop-i

@@ -1,4 +1,4 @@
-use Rattle.lists.proofs.Prelude.{List, [], ◌∷◌, ◌++◌, map, map-append, ◌≡◌, refl, sym, ap, ap₂, ◌∙◌, ℕ, ◌≤◌, ◌+◌, ◌-◌, add-one, arith, length, length-drop, length-take-le, take, take-suc, take-suc-set, set, length-set, drop, get_or, get_or-drop, unmapped, rules}
+use Rattle.lists.proofs.Prelude.{List, [], ◌∷◌, ◌++◌, map, map-append, ◌≡◌, refl, sym, ap, ap₂, ◌∙◌, ℕ, ◌≤◌, ◌+◌, add-one, arith, length-drop, length-take-le, take, take-suc, take-suc-set, set, length-set, drop, get_or, get_or-drop, unmapped, rules}
 use mir.Syntax.{w16}
 use mir.Val.{SFits}
 use mir.Facts.{to_z-of_z}

@@ -1,9 +1,5 @@
-use Rattle.lists.proofs.Prelude.{List, [], ◌∷◌, ◌++◌, map, map-append, ◌≡◌, refl, sym, ap, ap₂, ◌∙◌, ℕ, ◌≤◌, ◌+◌, ◌-◌, add-one, arith, length, length-drop, length-take-le, take, take-suc, take-suc-set, set, length-set, drop, get_or, get_or-drop, unmapped, rules}
-use mir.Syntax.{w16}
-use mir.Val.{SFits}
-use mir.Facts.{to_z-of_z}
-use Rattle.postings.specs.declared.Posting.{Posting}
-use Rattle.sums.specs.Views.{count_in, Tidy}
+use Rattle.lists.proofs.Prelude.{map, ◌≡◌, ◌≤◌, ◌-◌, length, take, drop}
+use Rattle.sums.specs.Views.{count_in}
 use Rattle.sums.proofs.counts_of.Given as goal
 
 abbrev pub invariant-loop-i : goal.invariant-loop-i

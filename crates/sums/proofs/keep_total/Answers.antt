@@ -1,4 +1,4 @@
-use Rattle.lists.proofs.Prelude.{◌&&◌, ◌≡◌, sym, ◌∙◌, arith, not-true, not-false, rules}
+use Rattle.lists.proofs.Prelude.{◌&&◌, ◌≡◌, sym, ◌∙◌, arith, not-true, not-false}
 use mir.Facts.{to_z-of_z}
 use Rattle.postings.specs.Pack.{packed}
 use Rattle.partitions.specs.Formed.{in_range}

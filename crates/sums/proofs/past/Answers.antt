@@ -1,4 +1,4 @@
-use Rattle.lists.proofs.Prelude.{eq-eqb, ne_eqb, rules}
+use Rattle.lists.proofs.Prelude.{eq-eqb, ne_eqb}
 use Rattle.sums.proofs.past.Goals as goal
 
 pub returns-then-f-top : goal.returns-then-f-top

@@ -1,4 +1,4 @@
-use Rattle.lists.proofs.Prelude.{◌≡◌, ◌≤◌, ◌+◌, ◌-◌, arith, drop, drop_of_length-le, rules}
+use Rattle.lists.proofs.Prelude.{◌≡◌, arith, drop, drop_of_length-le, rules}
 use Rattle.sums.specs.Views.{first_place}
 use Rattle.sums.proofs.Slots.{place_here, place-on}
 use Rattle.sums.proofs.place_of.Goals as goal

@@ -1,6 +1,5 @@
-use Rattle.lists.proofs.Prelude.{◌≡◌, ◌≤◌, ◌+◌, ◌-◌, arith, drop, drop_of_length-le, rules}
+use Rattle.lists.proofs.Prelude.{◌≡◌, ◌≤◌, ◌+◌, ◌-◌, drop}
 use Rattle.sums.specs.Views.{first_place}
-use Rattle.sums.proofs.Slots.{place_here, place-on}
 use Rattle.sums.proofs.place_of.Given as goal
 
 abbrev pub invariant-loop-i : goal.invariant-loop-i

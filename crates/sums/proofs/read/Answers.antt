@@ -1,4 +1,4 @@
-use Rattle.lists.proofs.Prelude.{not-true, not-false, rules}
+use Rattle.lists.proofs.Prelude.{not-true, not-false}
 use Rattle.words.specs.Words.{words}
 use Rattle.sums.proofs.Alone.{alone-tidy, alone-read, alone-bad}
 use Rattle.sums.proofs.read.Goals as goal

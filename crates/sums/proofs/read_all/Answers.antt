@@ -1,5 +1,5 @@
 -- `sums::read_all` meets its contract: partitions whose records tell other windows are malformed, and of the others the walk tells.
-use Rattle.lists.proofs.Prelude.{◌&&◌, refl, sym, ap, ◌∙◌, ◌*◌, arith, every, passed, failed, never, rules}
+use Rattle.lists.proofs.Prelude.{◌&&◌, refl, sym, ap, arith, every, passed, failed, never}
 use Rattle.words.specs.Words.{words}
 use Rattle.state.specs.Views.{blocks, finished}
 use Rattle.state.proofs.Kept.{state-kept}

@@ -18,10 +18,10 @@ loop-i-preserved c =
     let i = c.loop-i.invariant in
     let h : c.loop-i.i < length c.args.line.now = omega arith in
     elim c.if-line-i-eq32.branch [
-      then-line-i-eq32+else-start-i w ↦
-      let b : c.loop-i.start < c.loop-i.i = omega (arith, i.0.begun, w.if-start-i.false) in
-      let m : c.loop-i.n < length c.args.parts.now = omega (arith, i.0.twice, i.0.within) in
-      (rw (w.parts-is, w.n-is, w.start-is) (on-space i.0 h _ (eq-eqb _ _ w.if-line-i-eq32.true) b m refl), i.1, i.2)
+      | then-line-i-eq32+else-start-i w ↦
+          let b : c.loop-i.start < c.loop-i.i = omega (arith, i.0.begun, w.if-start-i.false) in
+          let m : c.loop-i.n < length c.args.parts.now = omega (arith, i.0.twice, i.0.within) in
+          (rw (w.parts-is, w.n-is, w.start-is) (on-space i.0 h _ (eq-eqb _ _ w.if-line-i-eq32.true) b m refl), i.1, i.2)
       | else-line-i-eq32 w ↦ (rw (w.parts-is, w.n-is, w.start-is) (on-byte i.0 h (ne_eqb _ _ w.if-line-i-eq32.false)), i.1, i.2)
     ]
 

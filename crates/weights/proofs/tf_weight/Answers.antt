@@ -1,5 +1,5 @@
 -- `weights::tf_weight` meets its contract: it is the logarithm of the count and one.
-use Rattle.lists.proofs.Prelude.{◌≡◌, sym, ap, ◌∙◌, ◌+◌, arith, rules}
+use Rattle.lists.proofs.Prelude.{◌≡◌, sym, ap, ◌∙◌, ◌+◌, arith}
 use Rattle.weights.specs.Weights.{sixteenths}
 use Rattle.weights.proofs.Laws.{tf-proper, sixteenths-highest}
 use Rattle.weights.proofs.tf_weight.Goals as goal

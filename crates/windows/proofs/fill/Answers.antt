@@ -1,4 +1,4 @@
-use Rattle.lists.proofs.Prelude.{List, [], ◌∷◌, ◌++◌, ◌≡◌, refl, sym, ap, ◌∙◌, ℕ, ◌+◌, ◌-◌, ◌≤◌, add-one, arith, length, take, set, length-set, replicate, replicate-append-replicate, take-suc-set, take_all}
+use Rattle.lists.proofs.Prelude.{List, [], ◌∷◌, ◌++◌, ◌≡◌, refl, sym, ap, ◌∙◌, ℕ, add-one, arith, length, take, set, length-set, replicate-append-replicate, take-suc-set, take_all}
 use Rattle.windows.proofs.fill.Goals as goal
 
 pub loop-i-init : goal.loop-i-init

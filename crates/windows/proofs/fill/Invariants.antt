@@ -1,5 +1,5 @@
 -- `windows::fill` meets its contract. The invariant: the places passed hold the value.
-use Rattle.lists.proofs.Prelude.{List, [], ◌∷◌, ◌++◌, ◌≡◌, refl, sym, ap, ◌∙◌, ℕ, ◌+◌, ◌-◌, ◌≤◌, add-one, arith, length, take, set, length-set, replicate, replicate-append-replicate, take-suc-set, take_all}
+use Rattle.lists.proofs.Prelude.{◌≡◌, ◌-◌, ◌≤◌, length, take, replicate}
 use Rattle.windows.proofs.fill.Given as goal
 
 abbrev pub invariant-loop-i : goal.invariant-loop-i

@@ -1,4 +1,4 @@
-use Rattle.lists.proofs.Prelude.{not, refl, sym, ap, ◌∙◌, arith, length, rules, not-false}
+use Rattle.lists.proofs.Prelude.{not, refl, sym, ap, ◌∙◌, arith, length, not-false}
 use Rattle.windows.specs.Calls.{start_of, unstarted, fresh}
 use Rattle.windows.proofs.Outcomes.{stopped, passed, given}
 use Rattle.windows.proofs.Lengths.{lengths-started}

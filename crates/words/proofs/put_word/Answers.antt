@@ -1,6 +1,6 @@
 -- `words::put_word` meets its contract: the four bytes that it writes join to the value, and none is past the last word.
 --
-use Rattle.lists.proofs.Prelude.{◌≡◌, ap, ◌∙◌, ◌/◌, ◌%◌, arith, set, length-set, rules}
+use Rattle.lists.proofs.Prelude.{◌≡◌, ap, ◌∙◌, ◌/◌, ◌%◌, arith, set, length-set}
 use Rattle.words.specs.Words.{joined4, words}
 use Rattle.words.proofs.Views.{room, words-set, rest-set}
 use Rattle.words.proofs.put_word.Goals as goal

@@ -1,5 +1,5 @@
 -- `words::word_at` meets its contract: a word has room for its four bytes, and is those four joined.
-use Rattle.lists.proofs.Prelude.{sym, ◌∙◌, arith, rules}
+use Rattle.lists.proofs.Prelude.{sym, ◌∙◌, arith}
 use Rattle.words.proofs.Views.{room, word_at}
 use Rattle.words.proofs.word_at.Goals as goal
 

@@ -1,5 +1,5 @@
-use Rattle.lists.proofs.Prelude.{[], ◌∷◌, ◌++◌, ◌≡◌, ap, ◌∙◌, ℕ, ◌+◌, ◌*◌, arith, rules, length, length-take-le, unmapped}
-use Rattle.state.specs.Views.{buffered, finished, partitions_of}
+use Rattle.lists.proofs.Prelude.{◌≡◌, ◌∙◌, ◌+◌, ◌*◌, arith, rules, length, length-take-le, unmapped}
+use Rattle.state.specs.Views.{buffered}
 use Rattle.partitions.specs.Layout.{length_of}
 use Rattle.flushes.proofs.writing.flush.Goals as goal
 

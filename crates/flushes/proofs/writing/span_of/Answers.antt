@@ -1,5 +1,5 @@
 use Prim.Native.Nat.{min, max}
-use Rattle.lists.proofs.Prelude.{◌≡◌, sym, ◌∙◌, ◌+◌, ◌≤◌, ◌-◌, arith, length, get_or, drop, unmapped, used_turn, used-end, rules}
+use Rattle.lists.proofs.Prelude.{sym, ◌∙◌, ◌+◌, arith, get_or, drop, unmapped, used_turn, used-end, rules}
 use Rattle.postings.specs.Spans.{lowest, highest}
 use Rattle.postings.proofs.Spans.{min_assoc, max_assoc, lowest-most}
 use Rattle.state.specs.Views.{no_posting, buffered}

@@ -1,9 +1,8 @@
 -- `flushes::writing::span_of` meets its contract. The invariant: what was met and what is to come make the span of all.
 use Prim.Native.Nat.{min, max}
-use Rattle.lists.proofs.Prelude.{◌≡◌, sym, ◌∙◌, ◌+◌, ◌≤◌, ◌-◌, arith, length, get_or, drop, unmapped, used_turn, used-end, rules}
+use Rattle.lists.proofs.Prelude.{◌≡◌, ◌≤◌, ◌-◌, length, drop}
 use Rattle.postings.specs.Spans.{lowest, highest}
-use Rattle.postings.proofs.Spans.{min_assoc, max_assoc, lowest-most}
-use Rattle.state.specs.Views.{no_posting, buffered}
+use Rattle.state.specs.Views.{buffered}
 use Rattle.flushes.proofs.writing.span_of.Given as goal
 
 abbrev pub invariant-loop-i : goal.invariant-loop-i

@@ -1,4 +1,4 @@
-use Rattle.lists.proofs.Prelude.{⊎_elim, map, ◌≡◌, refl, sym, ap, ◌∙◌, ℕ, ◌-◌, arith, rules, eq-eqb, ne_eqb, length, get_or, drop, length-map, length-set, length-replicate, length-take-le, sets, unmapped}
+use Rattle.lists.proofs.Prelude.{⊎_elim, map, ◌≡◌, refl, sym, ap, ◌∙◌, ℕ, arith, rules, eq-eqb, ne_eqb, length, get_or, length-map, length-set, length-replicate, length-take-le, unmapped}
 use mir.Syntax.{w16}
 use mir.Val.{SFits}
 use mir.Facts.{to_z-of_z}
@@ -6,7 +6,7 @@ use Rattle.lists.proofs.Stores.{sets_end}
 use Rattle.state.specs.Views.{buffered, no_posting}
 use Rattle.partitions.specs.Layout.{word_of}
 use Rattle.outputs.proofs.Batches.{packing-turn, posting-fits}
-use Rattle.flushes.proofs.Counting.{Counting, counting-start, counting-terms, counting-id, counting-few, counting-on}
+use Rattle.flushes.proofs.Counting.{counting-start, counting-terms, counting-id, counting-few, counting-on}
 use Rattle.flushes.proofs.writing.tally.Goals as goal
 
 pub loop-i-init : goal.loop-i-init

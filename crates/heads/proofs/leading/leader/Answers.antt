@@ -1,8 +1,8 @@
-use Rattle.lists.proofs.Prelude.{⊎_elim, ◌≡◌, ◌≤◌, ◌-◌, arith, rules}
+use Rattle.lists.proofs.Prelude.{⊎_elim, ◌≡◌, arith}
 use Rattle.words.specs.Words.{words}
 use Rattle.kway.specs.Parts.{part}
 use Rattle.kway.proofs.Parts.{all-at, views-more}
-use Rattle.kway.proofs.Leads.{Found, found_none, found-other, found-this, length-views}
+use Rattle.kway.proofs.Leads.{found_none, found-other, found-this, length-views}
 use Rattle.heads.specs.Heads.{view, Kept, views}
 use Rattle.heads.proofs.Heads.{reach-at}
 use Rattle.heads.proofs.leading.leader.Goals as goal

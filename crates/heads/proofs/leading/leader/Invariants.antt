@@ -1,11 +1,8 @@
 -- `heads::leading::leader` meets its contract. The invariant: what is found is that of the heads before j.
-use Rattle.lists.proofs.Prelude.{⊎_elim, ◌≡◌, ◌≤◌, ◌-◌, arith, rules}
+use Rattle.lists.proofs.Prelude.{◌≤◌, ◌-◌}
 use Rattle.words.specs.Words.{words}
-use Rattle.kway.specs.Parts.{part}
-use Rattle.kway.proofs.Parts.{all-at, views-more}
-use Rattle.kway.proofs.Leads.{Found, found_none, found-other, found-this, length-views}
-use Rattle.heads.specs.Heads.{view, Kept, views}
-use Rattle.heads.proofs.Heads.{reach-at}
+use Rattle.kway.proofs.Leads.{Found}
+use Rattle.heads.specs.Heads.{views}
 use Rattle.heads.proofs.leading.leader.Given as goal
 
 abbrev pub invariant-loop-j : goal.invariant-loop-j

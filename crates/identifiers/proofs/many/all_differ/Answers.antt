@@ -1,5 +1,4 @@
-use Rattle.lists.proofs.Prelude.{true, ◌≡◌, refl, map, ◌≤◌, ◌-◌, arith, length, take}
-use Rattle.identifiers.specs.Names.{distinct}
+use Rattle.lists.proofs.Prelude.{refl, arith}
 use Rattle.identifiers.proofs.Lent.{differ-stopped, differ-on, differ-end}
 use Rattle.identifiers.proofs.many.all_differ.Goals as goal
 

@@ -1,7 +1,6 @@
 -- `identifiers::many::all_differ` meets its contract. The invariant: the first i differ.
-use Rattle.lists.proofs.Prelude.{true, ◌≡◌, refl, map, ◌≤◌, ◌-◌, arith, length, take}
+use Rattle.lists.proofs.Prelude.{true, ◌≡◌, map, ◌≤◌, ◌-◌, length, take}
 use Rattle.identifiers.specs.Names.{distinct}
-use Rattle.identifiers.proofs.Lent.{differ-stopped, differ-on, differ-end}
 use Rattle.identifiers.proofs.many.all_differ.Given as goal
 
 abbrev pub invariant-loop-i : goal.invariant-loop-i

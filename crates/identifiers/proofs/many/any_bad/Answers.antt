@@ -1,5 +1,4 @@
-use Rattle.lists.proofs.Prelude.{◌≡◌, refl, map, ◌≤◌, ◌-◌, arith, rules, length, drop, any}
-use Rattle.identifiers.specs.Names.{bad_length}
+use Rattle.lists.proofs.Prelude.{refl, arith}
 use Rattle.identifiers.proofs.Lent.{bad-found, bad-on, bad-end}
 use Rattle.identifiers.proofs.many.any_bad.Goals as goal
 

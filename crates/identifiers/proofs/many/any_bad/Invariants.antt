@@ -1,7 +1,6 @@
 -- `identifiers::many::any_bad` meets its contract. The invariant: the answer for all is the answer for those from i on.
-use Rattle.lists.proofs.Prelude.{◌≡◌, refl, map, ◌≤◌, ◌-◌, arith, rules, length, drop, any}
+use Rattle.lists.proofs.Prelude.{◌≡◌, map, ◌≤◌, ◌-◌, length, drop, any}
 use Rattle.identifiers.specs.Names.{bad_length}
-use Rattle.identifiers.proofs.Lent.{bad-found, bad-on, bad-end}
 use Rattle.identifiers.proofs.many.any_bad.Given as goal
 
 abbrev pub invariant-loop-i : goal.invariant-loop-i

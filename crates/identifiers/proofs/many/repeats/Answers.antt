@@ -1,5 +1,4 @@
-use Rattle.lists.proofs.Prelude.{◌≡◌, refl, [], map, ◌≤◌, ◌-◌, arith, rules, get_or, take, drop}
-use Rattle.identifiers.specs.Names.{among}
+use Rattle.lists.proofs.Prelude.{refl, arith}
 use Rattle.identifiers.proofs.Lent.{again-found, again-on, again-end}
 use Rattle.identifiers.proofs.many.repeats.Goals as goal
 

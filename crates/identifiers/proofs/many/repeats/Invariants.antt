@@ -1,7 +1,6 @@
 -- `identifiers::many::repeats` meets its contract. The invariant: the answer is the answer for those from j on.
-use Rattle.lists.proofs.Prelude.{◌≡◌, refl, [], map, ◌≤◌, ◌-◌, arith, rules, get_or, take, drop}
+use Rattle.lists.proofs.Prelude.{◌≡◌, [], map, ◌≤◌, ◌-◌, get_or, take, drop}
 use Rattle.identifiers.specs.Names.{among}
-use Rattle.identifiers.proofs.Lent.{again-found, again-on, again-end}
 use Rattle.identifiers.proofs.many.repeats.Given as goal
 
 abbrev pub invariant-loop-j : goal.invariant-loop-j

@@ -4,7 +4,7 @@ use Rattle.lists.proofs.Prelude.{◌≡◌, refl, sym, ap, ◌∙◌, arith, len
 use Rattle.state.specs.Views.{finished, partitions_of}
 use Rattle.state.specs.Levels.{due_levels}
 use Rattle.levels.specs.contracts.Due.{the_type}
-use Rattle.levels.proofs.Choosing.{level_of, due-is, due-none, due-within, due-inputs, due-level}
+use Rattle.levels.proofs.Choosing.{level_of, due-is, due-none, due-within, due-inputs}
 use Rattle.levels.proofs.merging.inputs_of.Goals as goal
 
 pub run_of-requires : goal.run_of-requires

@@ -1,6 +1,6 @@
 -- `levels::merging::output_level` meets its contract.
 use denote.Enum.Declared.{tag_of}
-use Rattle.lists.proofs.Prelude.{refl, sym, ap, ◌∙◌, arith, rules, eq-eqb, ne_eqb}
+use Rattle.lists.proofs.Prelude.{refl, sym, ap, ◌∙◌, arith, eq-eqb, ne_eqb}
 use Rattle.state.specs.Views.{finished}
 use Rattle.state.specs.Levels.{due_levels}
 use Rattle.levels.specs.contracts.Due.{the_type}

@@ -4,7 +4,7 @@ use Rattle.lists.proofs.Prelude.{[], ◌∷◌, ◌≡◌, refl, sym, ap, ◌∙
 use Rattle.state.specs.Views.{finished, partitions_of}
 use Rattle.state.specs.Levels.{due_levels}
 use Rattle.levels.specs.contracts.Due.{the_type}
-use Rattle.levels.proofs.Choosing.{level_of, due-is, due-none, due-within, due-level, due-replaced, due-some}
+use Rattle.levels.proofs.Choosing.{level_of, due-is, due-none, due-within, due-replaced, due-some}
 use Rattle.levels.proofs.merging.replaced_by.Goals as goal
 
 pub replace-requires : goal.replace-requires

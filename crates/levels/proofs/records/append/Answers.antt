@@ -1,4 +1,3 @@
-use borrow.Author.Rules.{rules}
 use Rattle.state.proofs.Rows.{added}
 use Rattle.levels.proofs.records.append.Goals as goal
 

@@ -1,7 +1,7 @@
-use Rattle.lists.proofs.Prelude.{List, ◌≡◌, sym, ap, ◌∙◌, ◌+◌, ◌-◌, ◌≤◌, arith, length, get_or, rules, unmapped}
+use Rattle.lists.proofs.Prelude.{List, ◌≡◌, sym, ap, ◌∙◌, ◌+◌, arith, length, get_or, rules, unmapped}
 use Rattle.state.specs.Views.{finished, no_partition, padded}
 use Rattle.state.specs.declared.Partition.{Partition}
-use Rattle.lists.proofs.Padding.{closing, closing-none, closing-more, closing-done, length_without}
+use Rattle.lists.proofs.Padding.{closing-none, closing-more, closing-done, length_without}
 use Rattle.state.proofs.Rows.{used-fits, used-form, records-form, same_parts}
 use Rattle.levels.proofs.records.cut.Goals as goal
 

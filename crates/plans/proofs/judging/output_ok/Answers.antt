@@ -20,7 +20,6 @@ use Rattle.plans.proofs.judging.output_ok.Reads as reads
 abbrev Else3 : Type 0
 Else3 = lts.Else3 tie.the-claims reads.Pre reads.Post
 
-
 many : (i : Else3) → i.blocks_for-n.result ≡ blocks_for (length_from i.args.t)
 many i = i.blocks_for-n.ensures ∙ ap blocks_for i.output_length-length.ensures
 

@@ -35,7 +35,6 @@ take_terms-t-requires c =
     let v = c.loop-top.invariant in
     (omega (arith, w.fits, v.long), omega (arith, w.short, v.long), w.lists, w.terms, walk-window W R c.args.m c.args.g (seen c.args.first c.args.last c.args.current) c.args.places H c.loop-top.heads c.loop-top.best c.loop-top.top c.loop-top.invariant k high, v.kept, walk_top W R c.args.m c.args.g (seen c.args.first c.args.last c.args.current) c.args.places H c.loop-top.heads c.loop-top.best c.loop-top.top c.loop-top.invariant k high, walk-ranges W R c.args.m c.args.g (seen c.args.first c.args.last c.args.current) c.args.places H c.loop-top.heads c.loop-top.best c.loop-top.top c.loop-top.invariant k high)
 
-
 -- that window
 abbrev window : After-take-terms → ℕ
 window m = m.loop-top.top - 1

@@ -1,4 +1,4 @@
-use Rattle.lists.proofs.Prelude.{◌&&◌, ◌≡◌, refl, ◌-◌, arith, leb, length, drop, rules, unmapped, rest, rest-begin, rest-turn, rest_end}
+use Rattle.lists.proofs.Prelude.{◌≡◌, refl, arith, leb, length, rules, unmapped, rest-begin, rest-turn, rest_end}
 use Rattle.postings.specs.Order.{precedes, ordered}
 use Rattle.postings.proofs.Order.{ordered-next}
 use Rattle.state.specs.Views.{no_posting}

@@ -1,7 +1,5 @@
-use Rattle.lists.proofs.Prelude.{◌&&◌, ◌≡◌, refl, ◌-◌, arith, leb, length, drop, rules, unmapped, rest, rest-begin, rest-turn, rest_end}
+use Rattle.lists.proofs.Prelude.{◌&&◌, ◌≡◌, ◌-◌, length, drop, rest}
 use Rattle.postings.specs.Order.{precedes, ordered}
-use Rattle.postings.proofs.Order.{ordered-next}
-use Rattle.state.specs.Views.{no_posting}
 use Rattle.state.specs.Rules.{posting_rule, unused_posting, buffer_rule}
 use Rattle.rules.proofs.buffer_rules.buffer_ok.Given as goal
 

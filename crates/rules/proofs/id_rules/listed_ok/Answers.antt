@@ -1,4 +1,4 @@
-use Rattle.lists.proofs.Prelude.{and_assoc, rules, le-leb, lt-leb}
+use Rattle.lists.proofs.Prelude.{and_assoc, le-leb, lt-leb}
 use Rattle.state.specs.Rules.{listed_rule}
 use Rattle.rules.proofs.id_rules.listed_ok.Goals as goal
 

@@ -1,6 +1,5 @@
-use Rattle.lists.proofs.Prelude.{◌&&◌, ◌≡◌, ◌-◌, arith, eqb, leb, length, drop, rules, every, different, choose-place}
-use Rattle.state.specs.Views.{listed}
-use Rattle.rules.proofs.Places.{left, left-start, left-turn, left_end}
+use Rattle.lists.proofs.Prelude.{arith, rules, choose-place}
+use Rattle.rules.proofs.Places.{left-start, left-turn, left_end}
 use Rattle.rules.proofs.id_rules.places_ok.Goals as goal
 
 pub loop-i-init : goal.loop-i-init

@@ -1,6 +1,6 @@
-use Rattle.lists.proofs.Prelude.{◌&&◌, ◌≡◌, ◌-◌, arith, eqb, leb, length, drop, rules, every, different, choose-place}
+use Rattle.lists.proofs.Prelude.{◌&&◌, ◌≡◌, ◌-◌, eqb, leb, length, drop, every, different}
 use Rattle.state.specs.Views.{listed}
-use Rattle.rules.proofs.Places.{left, left-start, left-turn, left_end}
+use Rattle.rules.proofs.Places.{left}
 use Rattle.rules.proofs.id_rules.places_ok.Given as goal
 
 abbrev pub invariant-loop-i : goal.invariant-loop-i

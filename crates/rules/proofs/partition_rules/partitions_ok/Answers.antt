@@ -1,4 +1,4 @@
-use Rattle.lists.proofs.Prelude.{leb, drop, rules, le-leb, lt-leb, every, and-turned}
+use Rattle.lists.proofs.Prelude.{leb, drop, le-leb, lt-leb, every, and-turned}
 use Rattle.state.specs.Views.{finished}
 use Rattle.state.specs.Levels.{levels, level_limit, of_level}
 use Rattle.state.specs.Rules.{never_rise, record_rule, unused_record, partitions_rule}

@@ -1,5 +1,4 @@
 use Rattle.lists.proofs.Prelude.{choose}
-use borrow.Author.Rules.{rules}
 use Rattle.state.specs.Rules.{record_rule}
 use Rattle.rules.proofs.partition_rules.place_ok.Goals as goal
 

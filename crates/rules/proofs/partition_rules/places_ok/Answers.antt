@@ -1,4 +1,4 @@
-use Rattle.lists.proofs.Prelude.{true, ◌&&◌, ◌≡◌, refl, ◌-◌, arith, length, take, drop, rules, every, unmapped, leb, rest, rest-begin, rest-turn, rest_end}
+use Rattle.lists.proofs.Prelude.{true, ◌≡◌, refl, arith, length, rules, unmapped, leb, rest-begin, rest-turn, rest_end}
 use Rattle.state.specs.Views.{no_partition}
 use Rattle.state.specs.Rules.{never_rise, record_rule, unused_record}
 use Rattle.rules.proofs.Places.{rise-next}

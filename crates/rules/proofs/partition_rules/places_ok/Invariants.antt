@@ -1,7 +1,5 @@
-use Rattle.lists.proofs.Prelude.{true, ◌&&◌, ◌≡◌, refl, ◌-◌, arith, length, take, drop, rules, every, unmapped, leb, rest, rest-begin, rest-turn, rest_end}
-use Rattle.state.specs.Views.{no_partition}
+use Rattle.lists.proofs.Prelude.{◌&&◌, ◌≡◌, ◌-◌, length, take, drop, every, leb, rest}
 use Rattle.state.specs.Rules.{never_rise, record_rule, unused_record}
-use Rattle.rules.proofs.Places.{rise-next}
 use Rattle.rules.proofs.partition_rules.places_ok.Given as goal
 
 abbrev pub invariant-loop-i : goal.invariant-loop-i

@@ -1,8 +1,8 @@
-use Rattle.lists.proofs.Prelude.{⊎_elim, ◌≡◌, sym, ◌∙◌, ◌≤◌, ◌-◌, arith, rules}
+use Rattle.lists.proofs.Prelude.{⊎_elim, ◌≡◌, sym, ◌∙◌, arith}
 use Rattle.words.specs.Words.{words}
 use Rattle.kway.specs.Parts.{part}
 use Rattle.kway.proofs.Parts.{first-of, all-at, views-more}
-use Rattle.kway.proofs.Leads.{Found, found_none, found-other, found-this, length-views}
+use Rattle.kway.proofs.Leads.{found_none, found-other, found-this, length-views}
 use Rattle.scans.specs.Heads.{view, Kept, views}
 use Rattle.scans.proofs.leading.leader.Goals as goal
 

@@ -1,10 +1,8 @@
 -- `scans::leading::leader` meets its contract. The invariant: what is found is that of the heads before j.
-use Rattle.lists.proofs.Prelude.{⊎_elim, ◌≡◌, sym, ◌∙◌, ◌≤◌, ◌-◌, arith, rules}
+use Rattle.lists.proofs.Prelude.{◌≤◌, ◌-◌}
 use Rattle.words.specs.Words.{words}
-use Rattle.kway.specs.Parts.{part}
-use Rattle.kway.proofs.Parts.{first-of, all-at, views-more}
-use Rattle.kway.proofs.Leads.{Found, found_none, found-other, found-this, length-views}
-use Rattle.scans.specs.Heads.{view, Kept, views}
+use Rattle.kway.proofs.Leads.{Found}
+use Rattle.scans.specs.Heads.{views}
 use Rattle.scans.proofs.leading.leader.Given as goal
 
 abbrev pub invariant-loop-j : goal.invariant-loop-j

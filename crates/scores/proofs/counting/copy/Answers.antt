@@ -1,4 +1,4 @@
-use Rattle.lists.proofs.Prelude.{◌≡◌, refl, ◌≤◌, ◌-◌, arith, length, take, length-set}
+use Rattle.lists.proofs.Prelude.{refl, arith, length-set}
 use Rattle.scores.proofs.Counts.{copy_more, copy_done}
 use Rattle.scores.proofs.counting.copy.Goals as goal
 

@@ -1,6 +1,5 @@
 -- `scores::counting::copy` meets its contract. The invariant: the numbers before i are copied.
-use Rattle.lists.proofs.Prelude.{◌≡◌, refl, ◌≤◌, ◌-◌, arith, length, take, length-set}
-use Rattle.scores.proofs.Counts.{copy_more, copy_done}
+use Rattle.lists.proofs.Prelude.{◌≡◌, ◌≤◌, ◌-◌, length, take}
 use Rattle.scores.proofs.counting.copy.Given as goal
 
 abbrev pub invariant-loop-i : goal.invariant-loop-i

@@ -1,5 +1,5 @@
 -- `scores::counting::count_term` meets its contract: what is told of the opened heads is what is told of the identifier.
-use Rattle.lists.proofs.Prelude.{arith, rules}
+use Rattle.lists.proofs.Prelude.{arith}
 use Rattle.words.specs.Words.{words, Below}
 use Rattle.words.proofs.Views.{words-below}
 use Rattle.state.specs.Views.{blocks, buffered, finished}

@@ -1,5 +1,5 @@
 -- `scores::counting::judge_term` meets its contract: what is told says whether all is well formed.
-use Rattle.lists.proofs.Prelude.{sym, ◌∙◌, rules}
+use Rattle.lists.proofs.Prelude.{sym, ◌∙◌}
 use Rattle.scores.proofs.Serving.{told-formed, told-malformed}
 use Rattle.scores.proofs.counting.judge_term.Goals as goal
 

@@ -1,7 +1,6 @@
-use Rattle.lists.proofs.Prelude.{◌≡◌, refl, ◌≤◌, ◌-◌, ◌*◌, arith, length, total_by}
+use Rattle.lists.proofs.Prelude.{◌≡◌, refl, arith}
 use Rattle.words.specs.Words.{words}
 use Rattle.kway.specs.Parts.{parts}
-use Rattle.heads.specs.Heads.{views}
 use Rattle.scores.proofs.Counts.{left-few, left-more}
 use Rattle.scores.proofs.counting.total_left.Goals as goal
 

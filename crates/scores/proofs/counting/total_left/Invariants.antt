@@ -1,9 +1,7 @@
 -- `scores::counting::total_left` meets its contract. The invariant: `total` is what the heads before i have to come.
-use Rattle.lists.proofs.Prelude.{◌≡◌, refl, ◌≤◌, ◌-◌, ◌*◌, arith, length, total_by}
+use Rattle.lists.proofs.Prelude.{◌≡◌, ◌≤◌, ◌-◌, ◌*◌, length, total_by}
 use Rattle.words.specs.Words.{words}
-use Rattle.kway.specs.Parts.{parts}
 use Rattle.heads.specs.Heads.{views}
-use Rattle.scores.proofs.Counts.{left-few, left-more}
 use Rattle.scores.proofs.counting.total_left.Given as goal
 
 abbrev pub invariant-loop-i : goal.invariant-loop-i

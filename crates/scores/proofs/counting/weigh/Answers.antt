@@ -1,5 +1,5 @@
 -- `scores::counting::weigh` meets its contract: four numbers are put in front of the heads.
-use Rattle.lists.proofs.Prelude.{arith, set, length-drop, lt-length-set, rules, take_rest}
+use Rattle.lists.proofs.Prelude.{arith, set, length-drop, lt-length-set, take_rest}
 use Rattle.words.specs.Words.{words}
 use Rattle.scores.proofs.Serving.{weighed}
 use Rattle.scores.proofs.counting.weigh.Goals as goal

@@ -55,7 +55,6 @@ bounds-group-3-2 c =
     let F = put_mid 4 (length G - 4) G t.new.heads in
     lt-length-set (set F 0 t.result.next) 2 t.result.at (lt-length-set F 0 t.result.next (omega (arith, r)))
 
-
 abbrev lists : After-above → Group
 lists c = views (words c.args.card.now) c.args.run.now c.args.m (drop 4 c.args.group.now)
 
@@ -87,15 +86,18 @@ returns c =
     let z = product-most c.above-count.result (get_or G 1 0) (counted c.before.before).1 c.requires.0.light in
     let X = t.new.heads in
     let r = t.result in
-    let w = c.tf_weight.ensures.weight in record { group = (
+    let w = c.tf_weight.ensures.weight in record {
+      group = (
         after_kept W R c.args.m c.args.key G c.requires.0 X r.next r.at r.others u.heads.0 u.heads.1 u.heads.2 u.taken.2 u.lead,
         after-term W R c.args.m c.args.key G c.requires.0 X r.next r.at r.others u.heads.0 u.heads.1 u.heads.2 u.taken.2 u.lead,
-      ); scored = (
+      );
+      scored = (
         ap (λ (x : ℕ). x * get_or G 1 0) (w ∙ ap tf_weight n),
         rw w z,
         ap (ltb 0) n,
         after-top W R c.args.m c.args.key G c.requires.0 X r.next r.at r.others u.heads.0 u.heads.1 u.heads.2 u.taken.2 u.lead,
-      ) }
+      );
+    }
 
 pub tf_weight-requires : goal.tf_weight-requires
 tf_weight-requires c = (counted c.before).1

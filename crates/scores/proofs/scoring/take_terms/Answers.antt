@@ -1,9 +1,9 @@
-use Rattle.lists.proofs.Prelude.{◌≡◌, ◌≤◌, ◌+◌, ◌*◌, ◌-◌, arith, rules}
+use Rattle.lists.proofs.Prelude.{◌≡◌, ◌+◌, ◌*◌, arith}
 use Rattle.words.specs.Words.{words}
 use Rattle.kway.specs.Parts.{parts}
 use Rattle.kway.proofs.Parts.{ends, width, all-at}
 use Rattle.scores.specs.Terms.{KeptGroup}
-use Rattle.scores.proofs.Joined.{Joined, joined-none, joined-more, Due, due_all}
+use Rattle.scores.proofs.Joined.{joined-none, joined-more, Due, due_all}
 use Rattle.scores.proofs.scoring.take_terms.Goals as goal
 
 pub overflow_mul-size : goal.overflow_mul-size

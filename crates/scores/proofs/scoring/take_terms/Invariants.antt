@@ -1,10 +1,7 @@
 -- `scores::scoring::take_terms` meets its contract. The invariant: the terms before j are moved, those from j on are as they were.
-use Rattle.lists.proofs.Prelude.{◌≡◌, ◌≤◌, ◌+◌, ◌*◌, ◌-◌, arith, rules}
+use Rattle.lists.proofs.Prelude.{◌≤◌, ◌-◌}
 use Rattle.words.specs.Words.{words}
-use Rattle.kway.specs.Parts.{parts}
-use Rattle.kway.proofs.Parts.{ends, width, all-at}
-use Rattle.scores.specs.Terms.{KeptGroup}
-use Rattle.scores.proofs.Joined.{Joined, joined-none, joined-more, Due, due_all}
+use Rattle.scores.proofs.Joined.{Joined}
 use Rattle.scores.proofs.scoring.take_terms.Given as goal
 
 abbrev pub invariant-loop-j : goal.invariant-loop-j

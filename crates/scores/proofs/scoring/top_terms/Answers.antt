@@ -1,10 +1,8 @@
-use Rattle.lists.proofs.Prelude.{◌≡◌, refl, ◌∙◌, ◌≤◌, ◌+◌, ◌*◌, ◌-◌, arith, rules}
+use Rattle.lists.proofs.Prelude.{◌≡◌, refl, ◌∙◌, ◌+◌, ◌*◌, arith}
 use Rattle.words.specs.Words.{words}
-use Rattle.keyed.specs.Groups.{top_all}
 use Rattle.kway.specs.Parts.{parts}
 use Rattle.kway.proofs.Parts.{ends, all-at}
-use Rattle.scores.specs.Terms.{KeptGroup, terms_of}
-use Rattle.scores.specs.Scores.{groups_in}
+use Rattle.scores.specs.Terms.{KeptGroup}
 use Rattle.scores.proofs.Joined.{terms-turn, group-reach}
 use Rattle.scores.proofs.scoring.top_terms.Goals as goal
 

@@ -12,7 +12,7 @@ loop-i-preserved c =
     let h = c.loop-i-test.true in
     let f = c.if-b-eq10.false in
     elim c.if-n-lt513.branch [
-      then-n-lt513 w ↦ keep-as w.line-is w.n-is (keep-more s h f w.if-n-lt513.true (omega (arith, s.long, c.requires)))
+      | then-n-lt513 w ↦ keep-as w.line-is w.n-is (keep-more s h f w.if-n-lt513.true (omega (arith, s.long, c.requires)))
       | else-n-lt513 w ↦ keep-as w.line-is w.n-is (keep-past s h f w.if-n-lt513.false (omega (arith, s.long, c.requires)))
     ]
 

@@ -1,5 +1,4 @@
-use Rattle.lists.proofs.Prelude.{◌≡◌, refl, sym, ◌∙◌, ◌-◌, arith, length, drop, rules, eq-eqb, ne_eqb, elem, used_turn, used-end}
-use Rattle.state.specs.Views.{listed}
+use Rattle.lists.proofs.Prelude.{refl, sym, ◌∙◌, arith, rules, eq-eqb, ne_eqb, elem, used_turn, used-end}
 use Rattle.state.proofs.ids.found_from.Goals as goal
 
 pub loop-i-init : goal.loop-i-init

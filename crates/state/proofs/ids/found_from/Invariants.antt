@@ -1,4 +1,4 @@
-use Rattle.lists.proofs.Prelude.{◌≡◌, refl, sym, ◌∙◌, ◌-◌, arith, length, drop, rules, eq-eqb, ne_eqb, elem, used_turn, used-end}
+use Rattle.lists.proofs.Prelude.{◌≡◌, ◌-◌, length, drop, elem}
 use Rattle.state.specs.Views.{listed}
 use Rattle.state.proofs.ids.found_from.Given as goal
 

@@ -1,4 +1,3 @@
-use borrow.Author.Rules.{rules}
 use Rattle.state.proofs.Rows.{noted}
 use Rattle.state.proofs.ids.list_id.Goals as goal
 

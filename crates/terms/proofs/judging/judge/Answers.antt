@@ -1,14 +1,12 @@
 use mir.Val.{bool_byte}
-use Rattle.lists.proofs.Prelude.{Bool, true, cond, List, map, by-test, and_right, ◌≡◌, sym, refl, ap, ◌∙◌, ℕ, suc, ◌≤◌, ◌+◌, ◌*◌, ◌-◌, arith, ltb, not-true, not-false, length, rules}
+use Rattle.lists.proofs.Prelude.{true, cond, List, map, by-test, and_right, ◌≡◌, sym, refl, ap, ◌∙◌, ℕ, suc, ◌≤◌, ◌+◌, ◌*◌, ◌-◌, arith, ltb, not-true, not-false}
 use Rattle.words.specs.Words.{words}
-use Rattle.state.specs.Shown.{shows_in}
 use Rattle.keyed.specs.Keys.{head_vals}
 use Rattle.keyed.specs.Groups.{Group, top_all, heads_fine_all}
 use Rattle.kway.specs.Parts.{part}
-use Rattle.kway.specs.Leads.{Leads}
 use Rattle.heads.specs.Heads.{view, views}
-use Rattle.terms.specs.Both.{Ready, both}
-use Rattle.terms.specs.Judged.{count_at, told_of, fine_at}
+use Rattle.terms.specs.Both.{both}
+use Rattle.terms.specs.Judged.{count_at, fine_at}
 use Rattle.heads.proofs.Heads.{reach-at}
 use Rattle.terms.proofs.Steps.{top-step, resume, start, ended, too-high, faulty, counted, total-most, spread-fits}
 use Rattle.terms.proofs.judging.judge.Invariants.{seen}
@@ -60,8 +58,6 @@ returns-then-not-fine c =
     let low : suc k ≤ c.loop-top.bound = omega (arith, below, test) in
     let t = c.judge_window-t in
     sym (v.5 ∙ faulty (seen c.args.first c.args.last c.args.current) c.loop-top.bound c.loop-top.windows c.loop-top.total gs k high low (sym t.ensures.judged.0 ∙ not-true _ c.if-not-fine.true-raw))
-
-
 
 abbrev window : After-shown → ℕ
 window m = m.loop-top.top - 1

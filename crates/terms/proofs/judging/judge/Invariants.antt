@@ -1,18 +1,14 @@
 -- `terms::judging::judge` meets its contract. The invariant: the answer is the answer where `windows` count `total` and the heads have windows below `bound`
 -- to come.
-use mir.Val.{bool_byte}
-use Rattle.lists.proofs.Prelude.{Bool, true, cond, List, map, by-test, and_right, ◌≡◌, sym, refl, ap, ◌∙◌, ℕ, suc, ◌≤◌, ◌+◌, ◌*◌, ◌-◌, arith, ltb, not-true, not-false, length, rules}
+use Rattle.lists.proofs.Prelude.{Bool, ◌≡◌, ℕ, ◌≤◌, ◌+◌, ◌*◌, length}
 use Rattle.words.specs.Words.{words}
 use Rattle.state.specs.Shown.{shows_in}
-use Rattle.keyed.specs.Keys.{head_vals}
-use Rattle.keyed.specs.Groups.{Group, top_all, heads_fine_all}
-use Rattle.kway.specs.Parts.{part}
+use Rattle.keyed.specs.Groups.{top_all}
 use Rattle.kway.specs.Leads.{Leads}
-use Rattle.heads.specs.Heads.{view, views}
+use Rattle.heads.specs.Heads.{views}
 use Rattle.terms.specs.Both.{Ready, both}
-use Rattle.terms.specs.Judged.{count_at, told_of, fine_at}
-use Rattle.heads.proofs.Heads.{reach-at}
-use Rattle.terms.proofs.Steps.{top-step, resume, start, ended, too-high, faulty, counted, total-most, spread-fits}
+use Rattle.terms.specs.Judged.{told_of}
+use Rattle.terms.proofs.Steps.{resume}
 use Rattle.terms.proofs.judging.judge.Given as goal
 
 -- the windows that show

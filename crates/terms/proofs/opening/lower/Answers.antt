@@ -1,6 +1,4 @@
-use Rattle.lists.proofs.Prelude.{◌≡◌, ◌≤◌, ◌+◌, ◌-◌, arith, rules, length, drop, unmapped}
-use Rattle.state.specs.Views.{buffered}
-use Rattle.terms.specs.Opening.{lower}
+use Rattle.lists.proofs.Prelude.{arith, rules, unmapped}
 use Rattle.terms.proofs.Runs.{lower-here, lower-on, lower-end}
 use Rattle.terms.proofs.opening.lower.Goals as goal
 

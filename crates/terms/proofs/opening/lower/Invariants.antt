@@ -1,8 +1,7 @@
 -- `terms::opening::lower` meets its contract. The invariant: the postings before i have a lower identifier.
-use Rattle.lists.proofs.Prelude.{◌≡◌, ◌≤◌, ◌+◌, ◌-◌, arith, rules, length, drop, unmapped}
+use Rattle.lists.proofs.Prelude.{◌≡◌, ◌≤◌, ◌+◌, ◌-◌, length, drop}
 use Rattle.state.specs.Views.{buffered}
 use Rattle.terms.specs.Opening.{lower}
-use Rattle.terms.proofs.Runs.{lower-here, lower-on, lower-end}
 use Rattle.terms.proofs.opening.lower.Given as goal
 
 abbrev pub invariant-loop-i : goal.invariant-loop-i

@@ -1,5 +1,5 @@
 -- `terms::opening::open_heads` meets its contract: the lists' heads, and the run's after them.
-use Rattle.lists.proofs.Prelude.{◌≡◌, ◌∙◌, ◌+◌, ◌-◌, ◌*◌, arith, rules}
+use Rattle.lists.proofs.Prelude.{◌≡◌, ◌∙◌, ◌+◌, ◌-◌, ◌*◌, arith}
 use Rattle.words.specs.Words.{words}
 use Rattle.terms.proofs.Puts.{opened}
 use Rattle.terms.proofs.opening.open_heads.Goals as goal

@@ -8,7 +8,7 @@ use Rattle.partitions.specs.Terms.{Readable}
 use Rattle.kway.proofs.Parts.{put-length}
 use Rattle.heads.specs.Heads.{Kept}
 use Rattle.terms.specs.Opening.{listed}
-use Rattle.terms.proofs.Puts.{place-lies, place-comes, Put, put_first, put_next}
+use Rattle.terms.proofs.Puts.{place-lies, place-comes, put_first, put_next}
 use Rattle.terms.proofs.opening.open_lists.Goals as goal
 
 pub loop-i-init : goal.loop-i-init

@@ -1,15 +1,11 @@
 -- `terms::opening::open_lists` meets its contract. The invariant: the first i heads are those of the identifier's lists in the first i partitions.
-use Rattle.lists.proofs.Prelude.{map, ◌≡◌, refl, ap, ◌∙◌, ◌≤◌, ◌-◌, ◌+◌, ◌*◌, arith, length, drop, length-drop, length-take-le, unmapped, of-used, rules}
+use Rattle.lists.proofs.Prelude.{◌≡◌, ◌≤◌, ◌-◌, length}
 use Rattle.words.specs.Words.{words}
-use Rattle.postings.specs.Pack.{posted}
 use Rattle.postings.specs.Sums.{under}
-use Rattle.state.specs.Views.{no_partition}
 use Rattle.partitions.specs.Reading.{postings_of}
-use Rattle.partitions.specs.Terms.{Readable}
-use Rattle.kway.proofs.Parts.{put-length}
 use Rattle.heads.specs.Heads.{Kept}
 use Rattle.terms.specs.Opening.{listed}
-use Rattle.terms.proofs.Puts.{place-lies, place-comes, Put, put_first, put_next}
+use Rattle.terms.proofs.Puts.{Put}
 use Rattle.terms.proofs.opening.open_lists.Given as goal
 
 abbrev pub invariant-loop-i : goal.invariant-loop-i

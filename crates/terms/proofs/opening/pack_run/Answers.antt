@@ -1,9 +1,8 @@
-use Rattle.lists.proofs.Prelude.{map, ◌≡◌, refl, ◌≤◌, ◌-◌, arith, length, get_or, take, length-set, unmapped, rules}
+use Rattle.lists.proofs.Prelude.{◌≡◌, refl, arith, get_or, length-set, unmapped, rules}
 use mir.Facts.{to_z-of_z}
 use mir.Syntax.{w16}
 use mir.Val.{SFits}
 use Rattle.state.specs.Views.{no_posting}
-use Rattle.terms.specs.Opening.{word_for}
 use Rattle.terms.proofs.Runs.{size_fits, pack-more}
 use Rattle.terms.proofs.opening.pack_run.Goals as goal
 

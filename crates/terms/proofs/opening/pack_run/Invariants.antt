@@ -1,11 +1,6 @@
 -- `terms::opening::pack_run` meets its contract. The invariant: the words before i are those of the postings before i.
-use Rattle.lists.proofs.Prelude.{map, ◌≡◌, refl, ◌≤◌, ◌-◌, arith, length, get_or, take, length-set, unmapped, rules}
-use mir.Facts.{to_z-of_z}
-use mir.Syntax.{w16}
-use mir.Val.{SFits}
-use Rattle.state.specs.Views.{no_posting}
+use Rattle.lists.proofs.Prelude.{map, ◌≡◌, ◌≤◌, ◌-◌, length, take}
 use Rattle.terms.specs.Opening.{word_for}
-use Rattle.terms.proofs.Runs.{size_fits, pack-more}
 use Rattle.terms.proofs.opening.pack_run.Given as goal
 
 abbrev pub invariant-loop-i : goal.invariant-loop-i

@@ -12,8 +12,7 @@ put_bytes-requires c =
 pub returns : goal.returns
 returns c =
     let d = c.decimal-k in
-    let p = c.put_bytes in
-    (
+    let p = c.put_bytes in (
       wrote_as (d.ensures.digits ∙ fewest-decimal d.result c.args.value d.ensures.len) p.ensures,
       omega (arith, few-digits d.result c.args.value d.ensures.len (omega arith), d.ensures.in_bounds, p.ensures.count),
     )

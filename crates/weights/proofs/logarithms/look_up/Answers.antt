@@ -1,4 +1,4 @@
-use Rattle.lists.proofs.Prelude.{◌≡◌, sym, ◌+◌, ◌-◌, ◌/◌, ◌^◌, ◌≤◌, ◌<◌, arith}
+use Rattle.lists.proofs.Prelude.{◌≡◌, sym, ◌+◌, ◌/◌, arith}
 use native.Mathlib.Nat.{lt_of_lt_of_le}
 use lib.Pow.{pow_mono}
 use Rattle.weights.proofs.Powers.{leading-fits, place-fits, place-reached, place-next}

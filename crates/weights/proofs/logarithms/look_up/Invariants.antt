@@ -1,11 +1,6 @@
 -- `weights::logarithms::look_up` meets its contract. The invariant: the sixteenth power of n is at least 2 ^ low and below 2 ^ high. The highest set bit shows it before the
 -- first turn, and each turn the entry in the middle shows it for one half.
-use Rattle.lists.proofs.Prelude.{◌≡◌, sym, ◌+◌, ◌-◌, ◌/◌, ◌^◌, ◌≤◌, ◌<◌, arith}
-use native.Mathlib.Nat.{lt_of_lt_of_le}
-use lib.Pow.{pow_mono}
-use Rattle.weights.proofs.Powers.{leading-fits, place-fits, place-reached, place-next}
-use Rattle.weights.proofs.Table.{table-long, from-entry, before-entry}
-use Rattle.weights.proofs.Laws.{sixteenths-only}
+use Rattle.lists.proofs.Prelude.{◌-◌, ◌^◌, ◌≤◌, ◌<◌}
 use Rattle.weights.proofs.logarithms.look_up.Given as goal
 
 abbrev pub invariant-loop-low : goal.invariant-loop-low
