@@ -1,4 +1,4 @@
-//! Links the archive that `rt staticlib capi` writes from the proved crates.
+//! Links the archive that `tools/archive` writes from the proved crates.
 
 use std::path::Path;
 
@@ -8,7 +8,7 @@ fn main() {
     println!("cargo::rerun-if-changed={}", archive.display());
     if !archive.exists() {
         println!(
-            "cargo::error=the proved engine's archive is not there: run `rt staticlib capi` in the repository's top folder"
+            "cargo::error=the proved engine's archive is not there: run `tools/archive` in the repository's top folder"
         );
         return;
     }
