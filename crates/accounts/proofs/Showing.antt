@@ -1,5 +1,5 @@
 -- What moves the hits of a query: a close and a removal, and no other call.
-use Rattle.lists.proofs.Prelude.{Bool, true, false, cond, List, ◌≡◌, refl, sym, ap, ◌∙◌, ℕ, suc, ◌-◌, ◌≤◌, arith, ltb, length, ltb-true, lt-ltb, keep, every, down, keep-agree, every-down, every-keep, every-member, keep_all, not-false}
+use Rattle.lists.proofs.Prelude.{Bool, true, false, cond, List, ◌≡◌, refl, sym, ap, ◌∙◌, ℕ, suc, ◌-◌, ◌≤◌, arith, ltb, length, ltb-true, lt-ltb, keep, every, down, keep-agree, every-down, every-keep, not-false}
 use Rattle.postings.specs.declared.Stretch.{Stretch}
 use Rattle.answers.specs.Answers.{Outcome, state_of}
 use Rattle.answers.specs.declared.Hit.{Hit}

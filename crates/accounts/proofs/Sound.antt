@@ -27,7 +27,7 @@ use Rattle.engine.specs.Calls.{Call, Open, Event, Close, Remove, RemoveAll, Flus
 use Rattle.accounts.specs.Account.{Portion, Account, postings_in, stored_in, reaches, read_by, blocks_of, blocks_in, blocks_ahead, due_of, inputs_of}
 use Rattle.accounts.specs.Ledger.{Ledger, live, existing, count_by_number}
 use Rattle.accounts.specs.Lists.{Lists, record_like, lists_rule, identifier_rule, lists_ruled, read_rule, window_sums, window_rule, inputs_rule, call_rule}
-use Rattle.accounts.proofs.Parts.{sums-in-range, window-in-range, identifier-in-range}
+use Rattle.accounts.proofs.Parts.{sums-in-range, window-in-range}
 use Rattle.accounts.proofs.Stored.{level_of, sum-stored}
 use Rattle.accounts.proofs.Steps.{progress-due}
 use Rattle.accounts.proofs.Rises.{rises-most, part-counts}

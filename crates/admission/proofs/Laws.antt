@@ -1,5 +1,5 @@
 -- What an admission tells of a call's outcome, over any tests that come first and whatever follows them.
-use Rattle.lists.proofs.Prelude.{Bool, true, false, ◌&&◌, not, List, [], ◌∷◌, ◌++◌, ◌≡◌, refl, sym, ◌∙◌, ℕ, ◌≤◌, arith, eqb, leb, length, leb-true, eqb-true, every, and_left, and_right}
+use Rattle.lists.proofs.Prelude.{Bool, true, false, ◌&&◌, not, List, [], ◌∷◌, ◌++◌, ◌≡◌, refl, ℕ, ◌≤◌, arith, eqb, leb, length, leb-true, eqb-true, every, and_left, and_right}
 use Rattle.answers.specs.declared.Refusal.{Refusal}
 use Rattle.answers.specs.Answers.{Outcome, refuse, refuse_if}
 use Rattle.answers.specs.Numbers.{refusal_number}
@@ -10,8 +10,7 @@ use Rattle.state.specs.declared.State.{State}
 use Rattle.state.specs.Rules.{state_rule}
 use Rattle.state.proofs.Kept.{state-kept}
 use Rattle.identifiers.specs.Register.{register_rule}
-use Rattle.admission.specs.declared.Admission.{Admission}
-use Rattle.admission.specs.Admission.{first_of, told, same_lengths, card_tests, probe_tests}
+use Rattle.admission.specs.Admission.{first_of, same_lengths, card_tests, probe_tests}
 
 module _ {S : Type 0} (ms : List ℕ) (us : List Bool) (o : Outcome S) where
   barred-by : (ns : List ℕ) (ts : List Bool) (n : ℕ) → 1 ≤ n → n ≡ first_of ns ts → admit (ns ++ ms) (ts ++ us) o ≡ refuse n
@@ -39,11 +38,6 @@ pub refused-apart : {S : Type 0} (a b : Bool) (n : ℕ) (o : Outcome S) → refu
 unfolding refuse_if
 refused-apart true b n o = refl
 refused-apart false b n o = refl
-
--- the call goes on, as the answer's kind tells
-pub goes_on : (tag : Admission → ℕ) → ((why : Refusal) → tag (Admission.Refused why) ≡ 1) → (a : Admission) → tag a ≡ 0 → a ≡ Admission.Granted
-goes_on tag one Admission.Granted e = refl
-goes_on tag one (Admission.Refused why) e = let z : ◌≡◌ {A = ℕ} 1 0 = sym (one why) ∙ e in absurd (omega arith)
 
 -- ---- what a call that goes on may rely on
 
@@ -88,9 +82,8 @@ pub register-most : (s : State) → state_rule s ≡ true → s.lengths.register
 register-most s e = let k = state-kept s e in omega (arith, k.lengths.register, k.lengths.most_entries)
 
 -- a call that is lent both buffers and goes on: the state keeps its rules, both lengths are the state's, and the register is well formed
-pub admitted : (tag : Admission → ℕ) → ((why : Refusal) → tag (Admission.Refused why) ≡ 1) → (s : State) (card register : List ℕ) (sound : Bool) → sound ≡ state_rule s → (a : Admission) → tag a ≡ 0
-    → told a ≡ first_of (1 ∷ 2 ∷ 3 ∷ []) (probe_tests sound s.lengths card register)
+pub admitted : (s : State) (card register : List ℕ) (sound : Bool) → sound ≡ state_rule s → 0 ≡ first_of (1 ∷ 2 ∷ 3 ∷ []) (probe_tests sound s.lengths card register)
     → (state_rule s ≡ true) × (length card ≡ s.lengths.card) × (length register ≡ s.lengths.register) × (register_rule register ≡ true)
-admitted tag one s card register sound e a go g =
-    let f = probe-sound (state_rule s) s.lengths card register (rw (goes_on tag one a go, e) at g) in
+admitted s card register sound e g =
+    let f = probe-sound (state_rule s) s.lengths card register (rw e at g) in
     (f.rule, card-size s.lengths card register f.lengths, register-size s.lengths card register f.lengths, f.formed)

@@ -1,10 +1,10 @@
 -- What calls judge first: refusal 1 of the state, 2 of the buffers lent, and 3 of the register.
-use Rattle.std.specs.Prelude.{Bool, ◌&&◌, not, cond, List, [], ◌∷◌, ℕ}
+use Rattle.std.specs.Prelude.{Bool, ◌&&◌, not, cond, List, [], ◌∷◌, ℕ, Result, Ok, Err, ⊤}
 use Rattle.answers.specs.Numbers.{refusal_number}
 use Rattle.state.specs.declared.Lengths.{Lengths}
 use Rattle.state.specs.Probe.{has_length}
 use Rattle.identifiers.specs.Register.{register_rule}
-use Rattle.admission.specs.declared.Admission.{Admission}
+use Rattle.answers.specs.declared.Refusal.{Refusal}
 
 -- the number of the first test that holds, and 0 where none does
 abbrev pub first_of : List ℕ → List Bool → ℕ
@@ -13,9 +13,9 @@ first_of (n ∷ ns) [] = 0
 first_of (n ∷ ns) (t ∷ ts) = cond t n (first_of ns ts)
 
 -- the number of the refusal that is told, and 0 where the call goes on
-abbrev pub told : Admission → ℕ
-told Admission.Granted = 0
-told (Admission.Refused why) = refusal_number why
+abbrev pub told : Result ⊤ Refusal → ℕ
+told (Ok x) = 0
+told (Err why) = refusal_number why
 
 -- refusal 2: both buffers have the length given at the start
 abbrev pub same_lengths : Lengths → List ℕ → List ℕ → Bool

@@ -1,13 +1,13 @@
-// What the engine's calls answer.
+// What the engine's calls answer: a value, or a refusal.
 #![tactic(auto)]
 
 ghost use Rattle.std.specs.Prelude.{◌≡◌};
 ghost use Rattle.answers.specs.Numbers.{refusal_number};
 
-// Why a call is refused. A refused call changes nothing.
-#[derive(Clone, Copy)]
+// Why a call is refused, with the document's number. A refused call changes nothing.
+#[derive(Clone, Copy, Debug, PartialEq, Eq)]
 pub enum Refusal {
-    BrokenState,
+    BrokenState = 1,
     WrongLength,
     Malformed,
     BadIdentifier,
@@ -26,46 +26,44 @@ pub enum Refusal {
     BadStretch,
 }
 
-// The answer of a call that gives no value.
-#[derive(Clone, Copy)]
-pub enum Reply {
-    Done,
-    Refused(Refusal),
+impl From<Refusal> for u32 {
+    ghost from_gives = { λ why n. n ≡ refusal_number why };
+
+    fn from(why: Refusal) -> u32 {
+        why as u32
+    }
 }
 
-// The answer of an open: the window's number.
+// What a query found: how many hits are listed, and how many postings were taken up.
 #[derive(Clone, Copy)]
-pub enum Opened {
-    Number(u16),
-    Refused(Refusal),
+pub struct Found {
+    pub hits: u16,
+    pub taken: u32,
 }
 
-// The answer of a query: how many hits are listed, and how many postings were taken up.
+// A mean: whole quotient, remainder, and the number of windows that the sum was divided by.
 #[derive(Clone, Copy)]
-pub enum Found {
-    Hits(u16, u32),
-    Refused(Refusal),
+pub struct Mean {
+    pub quotient: u16,
+    pub remainder: u16,
+    pub windows: u16,
 }
 
-// The answer of a mean: whole quotient, remainder, and the number of windows that the sum was divided by.
+// Where a plan stops: at the first call that is refused, told by the plan's window, from 1, and its event, from 1, or 0 for the open.
 #[derive(Clone, Copy)]
-pub enum Averaged {
-    Mean(u16, u16, u16),
-    Refused(Refusal),
+pub struct Stop {
+    pub window: u64,
+    pub event: u16,
+    pub why: Refusal,
 }
 
-// Where a plan stops: nowhere, or at the first call that is refused, told by the plan's window, from 1, and its event, from 1, or 0 for the open.
+// A forecast: flushes, blocks of finished partitions, register entries used, and where the plan stops, if it does.
 #[derive(Clone, Copy)]
-pub enum Stop {
-    Nowhere,
-    At(u64, u16, Refusal),
-}
-
-// The answer of a forecast: flushes, blocks of finished partitions, register entries used, and where the plan stops.
-#[derive(Clone, Copy)]
-pub enum Forecast {
-    Course(u16, u64, u16, Stop),
-    Refused(Refusal),
+pub struct Forecast {
+    pub flushes: u16,
+    pub blocks: u64,
+    pub entries: u16,
+    pub stop: Option<Stop>,
 }
 
 // A window that a query lists, with its score.
@@ -73,29 +71,4 @@ pub enum Forecast {
 pub struct Hit {
     pub window: u16,
     pub score: u32,
-}
-
-// The number that the document has for a refusal.
-pub fn number_of(why: Refusal) -> u32
-    ensures { result ≡ refusal_number why }
-{
-    match why {
-        Refusal::BrokenState => 1,
-        Refusal::WrongLength => 2,
-        Refusal::Malformed => 3,
-        Refusal::BadIdentifier => 4,
-        Refusal::OutOfTurn => 5,
-        Refusal::Exhausted => 6,
-        Refusal::NotLive => 7,
-        Refusal::RegisterFull => 8,
-        Refusal::WindowFull => 9,
-        Refusal::LevelFull => 10,
-        Refusal::HalfFull => 11,
-        Refusal::TooFewFree => 12,
-        Refusal::NothingDue => 13,
-        Refusal::BadQuery => 14,
-        Refusal::Uncounted => 15,
-        Refusal::BadList => 16,
-        Refusal::BadStretch => 17,
-    }
 }

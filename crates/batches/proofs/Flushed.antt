@@ -15,7 +15,7 @@ use Rattle.card.specs.Blocks.{is_free, free_blocks}
 use Rattle.card.specs.Chains.{blocks_for}
 use Rattle.blocks.proofs.FreeBlocks.{free-count, store_other, written-taken}
 use Rattle.partitions.specs.Layout.{length_of, encode}
-use Rattle.partitions.specs.Reading.{postings_of, in_partitions, stored}
+use Rattle.partitions.specs.Reading.{in_partitions, stored}
 use Rattle.partitions.specs.Formed.{partitions_formed, lists_rule, Writable}
 use Rattle.partitions.proofs.Lengths.{length-buffer, one_block}
 use Rattle.partitions.proofs.Kept.{AgreeAll, lists-kept}

@@ -1,5 +1,5 @@
 -- The removals of a list judged one after another, and made one after another.
-use Rattle.lists.proofs.Prelude.{Bool, true, false, cond, not, List, [], ◌∷◌, ◌++◌, foldr, ◌≡◌, refl, sym, ap, ap₂, ◌∙◌, ℕ, suc, ◌+◌, ◌-◌, ◌<◌, ◌≤◌, arith, ltb, length, get_or, drop, different, and_left, eq-eqb, true≢false}
+use Rattle.lists.proofs.Prelude.{Bool, true, false, cond, List, [], ◌∷◌, foldr, ◌≡◌, refl, sym, ap, ap₂, ◌∙◌, ℕ, suc, ◌+◌, ◌-◌, ◌<◌, ◌≤◌, arith, ltb, length, get_or, drop, different, and_left, eq-eqb, true≢false}
 use Rattle.words.specs.Words.{words, bytes, Below}
 use Rattle.postings.specs.declared.Posting.{Posting}
 use Rattle.postings.specs.Merge.{put, nonzero, negated}
@@ -7,10 +7,8 @@ use Rattle.answers.specs.Answers.{leave, done, refused, answer_of, in_turn}
 use Rattle.state.specs.declared.Windows.{Windows}
 use Rattle.state.specs.declared.Buffer.{Buffer}
 use Rattle.state.specs.declared.State.{State}
-use Rattle.state.specs.Rules.{state_rule}
-use Rattle.state.specs.Views.{blocks, buffered, finished, buffer_of, partitions_of}
+use Rattle.state.specs.Views.{blocks, buffered, finished, buffer_of}
 use Rattle.state.specs.Probe.{Store, store_of}
-use Rattle.partitions.specs.Layout.{record_for}
 use Rattle.partitions.specs.Formed.{partitions_formed}
 use Rattle.flushes.specs.Flush.{next_free, flushed_to, flushed_card}
 use Rattle.flushes.specs.Targets.{Chosen}

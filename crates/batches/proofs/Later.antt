@@ -1,5 +1,5 @@
 -- Past refusals 1 to 3 and 16, no removal of a list finds a cause for 1 to 3.
-use Rattle.lists.proofs.Prelude.{true, false, not, List, [], ◌∷◌, ◌≡◌, ◌∙◌, ℕ, ◌+◌, ◌≤◌, arith, length, ltb-false, elem, different, and_left, and_right, not-true}
+use Rattle.lists.proofs.Prelude.{true, false, not, List, [], ◌∷◌, ◌≡◌, ℕ, ◌+◌, ◌≤◌, arith, length, ltb-false, elem, different, and_left, and_right, not-true}
 use Rattle.words.specs.Words.{words, bytes, Below}
 use Rattle.postings.specs.declared.Posting.{Posting}
 use Rattle.answers.specs.Answers.{leave, done, refused, answer_of, next, in_turn}

@@ -1,5 +1,5 @@
 -- After a removal the rules hold that held before it, and nothing has moved for any other window.
-use Rattle.lists.proofs.Prelude.{Bool, true, false, ◌&&◌, not, ⊎_elim, inl, inr, List, [], ◌∷◌, ◌++◌, map, foldr, List-as-Memᴰ, List·Memᴰ·head, List·Memᴰ·tail, ◌≡◌, refl, sym, ap, ◌∙◌, ℕ, ◌+◌, ◌-◌, ◌≤◌, arith, eqb, leb, ltb, ℤ, pos, neg_ℤ, ◌+ℤ◌, +ℤ_idl, +ℤ_idr, length, length-append, length-map, replicate, length-replicate, leb-true, le-leb, eqb-true, eqb-false, eq-eqb, ne_eqb, ltb-false, keep, every, any, joined, true≢false, every-keep, by-test, and_left, and_right, and_both, or-none, every_append, every-from, every-mem, every-member, every-kept, length-keep, never, not-true}
+use Rattle.lists.proofs.Prelude.{Bool, true, false, ◌&&◌, not, ⊎_elim, inl, inr, List, [], ◌∷◌, ◌++◌, map, foldr, List-as-Memᴰ, List·Memᴰ·head, List·Memᴰ·tail, ◌≡◌, refl, sym, ap, ◌∙◌, ℕ, ◌+◌, ◌-◌, ◌≤◌, arith, eqb, leb, ltb, ℤ, pos, neg_ℤ, ◌+ℤ◌, +ℤ_idl, +ℤ_idr, length, length-append, length-map, replicate, length-replicate, leb-true, le-leb, eqb-true, eqb-false, eq-eqb, ne_eqb, ltb-false, keep, every, joined, true≢false, every-keep, by-test, and_left, and_right, and_both, or-none, every_append, every-from, every-mem, every-member, every-kept, length-keep, never, not-true}
 use Rattle.postings.specs.declared.Posting.{Posting}
 use Rattle.postings.specs.Order.{precedes, ordered}
 use Rattle.postings.specs.Merge.{counting, is_zero, put, is_counted, pairs, nonzero, negated}

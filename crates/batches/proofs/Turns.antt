@@ -1,8 +1,8 @@
 -- Refusals 1 to 3 and 16 of a removal of several windows, and what goes on after them.
-use Rattle.lists.proofs.Prelude.{Bool, true, false, ◌&&◌, not, List, [], ◌∷◌, ◌≡◌, refl, sym, ap, ◌∙◌, ℕ, arith, eqb, leb, length, leb-true, eq-eqb, eqb-true, every, empty, different, and_left, and_right, not-false}
+use Rattle.lists.proofs.Prelude.{Bool, true, false, ◌&&◌, not, List, [], ◌∷◌, ◌≡◌, refl, sym, ap, ◌∙◌, ℕ, arith, eqb, leb, length, leb-true, eq-eqb, eqb-true, every, empty, and_left, and_right, not-false}
 use Rattle.words.specs.Words.{words}
 use Rattle.answers.specs.declared.Refusal.{Refusal}
-use Rattle.answers.specs.Answers.{Outcome, refuse, leave, done, refused, refuse_if, answer_of, in_turn}
+use Rattle.answers.specs.Answers.{Outcome, leave, done, refused, refuse_if, answer_of, in_turn}
 use Rattle.answers.specs.Numbers.{refusal_number}
 use Rattle.state.specs.declared.State.{State}
 use Rattle.state.specs.Views.{blocks, finished}

@@ -1,5 +1,5 @@
 -- A removal that comes after others of its list, and the list itself, by their tests.
-use Rattle.lists.proofs.Prelude.{Bool, true, false, not, ◌||◌, ◌&&◌, List, ◌≡◌, ℕ, suc, ◌+◌, ◌*◌, ◌<◌, ◌≤◌, ◌-◌, add-one, arith, eqb, leb, ltb, length, length-drop, get_or, take, take_all, drop, drop-cons, le-leb, lt-leb, lt-ltb, le-ltb, ltb-true, ltb-false, sym, ◌∙◌, empty, empty-length, elem, different, by-test, or-none}
+use Rattle.lists.proofs.Prelude.{Bool, true, false, not, ◌||◌, ◌&&◌, List, ◌≡◌, ℕ, suc, ◌+◌, ◌*◌, ◌<◌, ◌≤◌, ◌-◌, eqb, leb, ltb, length, le-leb, lt-leb, lt-ltb, le-ltb}
 use Rattle.postings.specs.declared.Posting.{Posting}
 use Rattle.answers.specs.Answers.{refuse, leave, done, refuse_if, choose}
 use Rattle.state.specs.declared.Windows.{Windows}
@@ -7,10 +7,7 @@ use Rattle.state.specs.declared.Buffer.{Buffer}
 use Rattle.state.specs.Views.{buffered}
 use Rattle.card.specs.Blocks.{free_blocks}
 use Rattle.removals.specs.Removal.{is_live}
-use Rattle.sums.specs.Views.{first_place}
-use Rattle.sums.proofs.Slots.{place-elem, place-missing}
 use Rattle.batches.specs.declared.Room.{Room}
-use Rattle.batches.specs.Batch.{batch_rule}
 use Rattle.batches.specs.Steps.{flush_after, removal_after}
 
 module _ (r : Room) (taken : ℕ) (W : List ℕ) (k : ℕ) where
@@ -59,32 +56,3 @@ module _ (r : Room) (taken : ℕ) (W : List ℕ) (v : Windows) (b : Buffer) (k w
       pub needs-flush : ltb 128 (length (buffered b) + length counts) ≡ true → removal_after r taken W v b k w counts ≡ flush_after r taken W k
       unfolding removal_after refuse_if choose
       needs-flush e = rw (shut, live, e)
-
--- ---- the list
-
--- a list of no or more than 32 windows
-pub batch-size : (ws : List ℕ) → (eqb (length ws) 0 || ltb 32 (length ws)) ≡ true → false ≡ batch_rule ws
-batch-size ws e =
-    by-test (empty ws) (λ y. sym (rw y))
-    (λ n. let h = ltb-true 32 (length ws) (rw (empty-length ws, n) at e) in sym (rw (n, lt-leb (length ws) 32 h)))
-
--- of another, whether one is named twice decides
-pub batch-once : (ws : List ℕ) → (eqb (length ws) 0 || ltb 32 (length ws)) ≡ false → batch_rule ws ≡ different ws
-batch-once ws e =
-    let o = or-none (eqb (length ws) 0) _ e in
-    rw (sym (empty-length ws) ∙ o.0, le-leb (length ws) 32 (ltb-false 32 (length ws) o.1))
-
-module _ (ws : List ℕ) (i : ℕ) (here : i < length ws) where
-  once-turn : different (drop i ws) ≡ (not (elem (get_or ws i 0) (drop (i + 1) ws)) && different (drop (i + 1) ws))
-  once-turn = rw (drop-cons ws i 0 here, add-one i)
-
-  later : take (length ws - (i + 1)) (drop (i + 1) ws) ≡ drop (i + 1) ws
-  later = take_all (length ws - (i + 1)) (drop (i + 1) ws) (omega (arith, length-drop (i + 1) ws))
-
-  -- it comes again
-  pub named_again : first_place (get_or ws i 0) (take (length ws - (i + 1)) (drop (i + 1) ws)) < length ws - (i + 1) → different (drop i ws) ≡ false
-  named_again h = once-turn ∙ rw (place-elem (get_or ws i 0) (drop (i + 1) ws) (omega (arith, rw later at h, length-drop (i + 1) ws)))
-
-  -- or not
-  pub named-once : length ws - (i + 1) ≤ first_place (get_or ws i 0) (take (length ws - (i + 1)) (drop (i + 1) ws)) → different (drop i ws) ≡ different (drop (i + 1) ws)
-  named-once h = once-turn ∙ rw (place-missing (get_or ws i 0) (drop (i + 1) ws) (omega (arith, rw later at h, length-drop (i + 1) ws)))

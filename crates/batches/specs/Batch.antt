@@ -1,4 +1,5 @@
 -- Removal of several windows together: all or none.
+use Rattle.std.specs.Prelude.{⊤}
 use Rattle.std.specs.Prelude.{Bool, ◌&&◌, not, List, [], ◌∷◌, ℕ, leb, length}
 use Rattle.lists.specs.Lists.{every, empty, different}
 use Rattle.words.specs.Words.{words}
@@ -12,7 +13,7 @@ use Rattle.state.specs.Rules.{state_rule}
 use Rattle.state.specs.Probe.{Store, has_length, store_of}
 use Rattle.partitions.specs.Formed.{partitions_formed}
 use Rattle.sums.specs.Tally.{lists_ruled, window_formed}
-use Rattle.windows.specs.declared.Replied.{Replied}
+use Rattle.windows.specs.declared.After.{After}
 use Rattle.windows.specs.Promises.{Gives}
 use Rattle.removals.specs.Removal.{remove_of}
 
@@ -36,5 +37,5 @@ remove_all_of p ws =
     (in_turn remove_of p ws)
 
 -- what it promises
-abbrev pub RemovesAll : (s : State) (card : List ℕ) (ws : List ℕ) (r : Replied) (card' : List ℕ) → Type 0
-RemovesAll s card ws r card' = Gives (store_of s card) (remove_all_of (store_of s card) ws) (replied r.reply) (store_of r.state card')
+abbrev pub RemovesAll : (s : State) (card : List ℕ) (ws : List ℕ) (r : After ⊤) (card' : List ℕ) → Type 0
+RemovesAll s card ws r card' = Gives (store_of s card) (remove_all_of (store_of s card) ws) (replied r.answer) (store_of r.state card')

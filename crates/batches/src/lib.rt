@@ -17,12 +17,10 @@ ghost use Rattle.removals.specs.Removal.{remove_of};
 ghost use Rattle.batches.specs.Batch.{batch_rule, remove_all_of, RemovesAll};
 ghost use Rattle.batches.specs.Steps.{Admitted, room_of, Roomy, flush_after, removal_after, Writable, Listed};
 
-use admission::Admission;
-use answers::{Refusal, Reply};
-use blocks::Free;
+use answers::Refusal;
 use state::{BLOCK_BYTES, Buffer, Partitions, State, Windows};
 use sums::{Counts, MOST_WINDOWS, SLOT};
-use windows::Replied;
+use windows::After;
 
 // How many windows' counts are held at a time. With those of all 32 the call would take more than 16 KB of stack.
 const PORTION: usize = 16;
@@ -34,10 +32,11 @@ const SLOTS: usize = 1040;
 fn portion(left: usize) -> usize
     ensures { result ≡ min left 16 }
 {
-    if left < PORTION { left } else { PORTION }
+    left.min(PORTION)
 }
 
-// Judges what is read of every window named, in as many passes as they need. All lists are judged also where none is named.
+// Judges what is read of every window named, in as many passes as they need. All lists are judged also where none is named: so one pass is made at least, which
+// `chunks` would not make.
 fn lists_ok(card: &[u8], s: State, named: &[u32]) -> bool
     requires { (state_rule s ≡ true) × (length (words_of card.now) ≡ 1024 * blocks s)
         × (partitions_formed (words_of card.now) (blocks s) (finished s.partitions) ≡ true) }
@@ -69,13 +68,10 @@ fn batch_ok(named: &[u32]) -> bool
     if (n == 0) | (n > MOST_WINDOWS) {
         return false;
     }
-    let mut i: usize = 0;
-    while i < n {
-        let next = i + 1;
-        if sums::place_of(&named[next..n], named[i]) < n - next {
+    for (i, window) in named.iter().enumerate() {
+        if named[i + 1..].contains(window) {
             return false;
         }
-        i = next;
     }
     true
 }
@@ -93,30 +89,28 @@ fn room_of(s: State) -> Room
     requires { state_rule s ≡ true }
     ensures { (result ≡ room_of s) × (result.low ≤ 65535) × (result.used ≤ 219043332045) }
 {
-    let low = levels::of_level(s.partitions, 0);
-    let used = flushes::finished_blocks(s.partitions);
     Room {
-        low: low as u32,
-        used: used,
+        low: levels::of_level(s.partitions, 0) as u32,
+        used: flushes::finished_blocks(s.partitions),
         blocks: s.lengths.card / BLOCK_BYTES,
     }
 }
 
 // Judges a flush that comes after others of the list.
-fn judge_flush(card: &[u8], room: Room, taken: u16, before: u32) -> Reply
+fn judge_flush(card: &[u8], room: Room, taken: u16, before: u32) -> Result<(), Refusal>
     requires { Roomy room taken (words_of card.now) × (before ≤ 32) }
     ensures { replied result ≡ answer_of (flush_after room taken (words_of card.now) before) }
 {
     if room.low + before >= 16 {
-        return Reply::Refused(Refusal::LevelFull);
+        return Err(Refusal::LevelFull);
     }
     if 2 * (room.used + before as u64) + 2 > room.blocks as u64 {
-        return Reply::Refused(Refusal::HalfFull);
+        return Err(Refusal::HalfFull);
     }
     if !blocks::enough_free(card, room.blocks, taken, before + 1) {
-        return Reply::Refused(Refusal::TooFewFree);
+        return Err(Refusal::TooFewFree);
     }
-    Reply::Done
+    Ok(())
 }
 
 // Judges a removal that comes after others of the list, by what they leave of window numbers and buffer and the flushes that they make.
@@ -129,18 +123,18 @@ fn judge_removal(
     before: u32,
     window: u32,
     c: Counts,
-) -> Reply
+) -> Result<(), Refusal>
     requires { Roomy room taken (words_of card.now) × (before ≤ 32) × (b.used ≤ 128) × (c.used ≤ 64) }
     ensures { replied result ≡ answer_of (removal_after room taken (words_of card.now) v b before window (counts_in c)) }
 {
     if removals::names_open(v, window) {
-        return Reply::Refused(Refusal::OutOfTurn);
+        return Err(Refusal::OutOfTurn);
     }
     if removals::not_live(v, window, c) {
-        return Reply::Refused(Refusal::NotLive);
+        return Err(Refusal::NotLive);
     }
     if !removals::must_flush(b, c) {
-        return Reply::Done;
+        return Ok(());
     }
     judge_flush(card, room, taken, before)
 }
@@ -151,10 +145,8 @@ fn one_less(v: Windows) -> Windows
     ensures { result ≡ record { last = v.last; live = v.live - 1; current = v.current; events = v.events } }
 {
     Windows {
-        last: v.last,
         live: v.live - 1,
-        current: v.current,
-        events: v.events,
+        ..v
     }
 }
 
@@ -162,7 +154,7 @@ fn one_less(v: Windows) -> Windows
 fn begun(b: Buffer, flush: bool) -> Buffer
     ensures { result ≡ cond flush (buffer_of []) b }
 {
-    if flush { windows::empty_buffer() } else { b }
+    if flush { Buffer::new() } else { b }
 }
 
 // One flush more where a removal needs it.
@@ -173,8 +165,9 @@ fn counted(n: u32, flush: bool) -> u32
     if flush { n + 1 } else { n }
 }
 
-// Judges the removals one after another on copies of window numbers and buffer: nothing is written.
-fn judge_all(s: State, card: &[u8], named: &[u32]) -> Reply
+// Judges the removals one after another on copies of window numbers and buffer: nothing is written. A window is taken up by its place, since a loop over
+// portions would have a loop over their windows inside.
+fn judge_all(s: State, card: &[u8], named: &[u32]) -> Result<(), Refusal>
     requires { Admitted s card.now named.now }
     ensures { replied result ≡ answer_of (in_turn remove_of (store_of s card.now) named.now) }
 {
@@ -184,8 +177,7 @@ fn judge_all(s: State, card: &[u8], named: &[u32]) -> Reply
     let mut v = s.windows;
     let mut b = s.buffer;
     let mut flushed: u32 = 0;
-    let mut i: usize = 0;
-    while i < n {
+    for i in 0..n {
         let place = i % PORTION;
         if place == 0 {
             let count = portion(n - i);
@@ -196,36 +188,29 @@ fn judge_all(s: State, card: &[u8], named: &[u32]) -> Reply
         let from = SLOT * place;
         let to = from + SLOT;
         let c = sums::counts_of(&slots[from..to], named[i]);
-        let verdict = judge_removal(card, room, s.taken, v, b, flushed, named[i], c);
-        if let Reply::Refused(why) = verdict {
-            return Reply::Refused(why);
-        }
+        judge_removal(card, room, s.taken, v, b, flushed, named[i], c)?;
         let flush = removals::must_flush(b, c);
         b = removals::take_back(begun(b, flush), c);
         v = one_less(v);
         flushed = counted(flushed, flush);
-        i += 1;
     }
-    Reply::Done
+    Ok(())
 }
 
 // What a call for a list answers. Refusals 1 and 2 come by admission, 3 for what is read of the card, 16 for the list; then come the removals in the order given.
-pub fn judge(s: State, card: &[u8], named: &[u32]) -> Reply
+pub fn judge(s: State, card: &[u8], named: &[u32]) -> Result<(), Refusal>
     ensures { replied result ≡ answer_of (remove_all_of (store_of s card.now) named.now) }
 {
-    let a = admission::judge_card(rules::state_ok(s), s.lengths, card);
-    if let Admission::Refused(why) = a {
-        return Reply::Refused(why);
-    }
+    admission::judge_card(rules::state_ok(s), s.lengths, card)?;
     let ps = s.partitions;
     if !partitions::partitions_ok(card, s.lengths.card / BLOCK_BYTES, ps) {
-        return Reply::Refused(Refusal::Malformed);
+        return Err(Refusal::Malformed);
     }
     if !lists_ok(card, s, named) {
-        return Reply::Refused(Refusal::Malformed);
+        return Err(Refusal::Malformed);
     }
     if !batch_ok(named) {
-        return Reply::Refused(Refusal::BadList);
+        return Err(Refusal::BadList);
     }
     judge_all(s, card, named)
 }
@@ -252,16 +237,15 @@ fn list_flush(
     if !flush {
         return Listing {
             partitions: ps,
-            taken: taken,
+            taken,
         };
     }
-    let free = blocks::next_free(card, blocks, taken);
-    match free {
-        Free::Nothing => Listing {
+    match blocks::next_free(card, blocks, taken) {
+        None => Listing {
             partitions: ps,
-            taken: taken,
+            taken,
         },
-        Free::Block(block) => {
+        Some(block) => {
             let list = flushes::writing::flush(card, block, b, ps);
             Listing {
                 partitions: list,
@@ -280,8 +264,7 @@ pub fn remove_each(s: State, card: &mut [u8], named: &[u32]) -> State
     let n = named.len();
     let mut slots = [0u32; SLOTS];
     let mut t = s;
-    let mut i: usize = 0;
-    while i < n {
+    for i in 0..n {
         let place = i % PORTION;
         if place == 0 {
             let count = portion(n - i);
@@ -307,18 +290,16 @@ pub fn remove_each(s: State, card: &mut [u8], named: &[u32]) -> State
         t.buffer = left;
         t.partitions = list;
         t.taken = l.taken;
-        i += 1;
     }
     t
 }
 
 // Removes closed windows together: judged first, and then made.
-pub fn remove_all(s: State, card: &mut [u8], named: &[u32]) -> Replied
+pub fn remove_all(s: State, card: &mut [u8], named: &[u32]) -> After<()>
     ensures { RemovesAll s card.old named.now result card.new }
 {
-    let verdict = judge(s, card, named);
-    match verdict {
-        Reply::Refused(why) => windows::refuse(s, why),
-        Reply::Done => windows::done(remove_each(s, card, named)),
+    match judge(s, card, named) {
+        Err(why) => windows::refuse(s, why),
+        Ok(()) => windows::done(remove_each(s, card, named)),
     }
 }

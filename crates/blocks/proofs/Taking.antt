@@ -1,8 +1,7 @@
 -- The order in which blocks are taken, place by place, and a block word by word.
-use Rattle.lists.proofs.Prelude.{true, false, List, [], ◌∷◌, ◌≡◌, sym, ap, ◌∙◌, ℕ, suc, ◌+◌, ◌-◌, ◌*◌, ◌<◌, ◌≤◌, arith, add-one, eqb, length, get_or, take, drop, length-append, length-drop, List·getD-append, drop_of_length-le, drop-cons, get_or-take, get_or-drop, get_or-append-add, length-take-le, ne_eqb, keep, every, up_to, length-rising, get_or-rising, keep-here, keep-past}
-use Rattle.words.specs.Words.{all_ones}
-use Rattle.card.specs.Blocks.{block, is_free, after_taken}
-use Rattle.card.specs.Cursors.{word_in}
+use Rattle.lists.proofs.Prelude.{true, false, List, [], ◌∷◌, ◌≡◌, refl, ap, ◌∙◌, ℕ, zero, suc, ◌+◌, ◌-◌, ◌<◌, ◌≤◌, arith, add-one, eqb, length, get_or, take, drop, length-append, length-drop, List·getD-append, drop_of_length-le, drop-cons, get_or-take, get_or-drop, get_or-append-add, length-take-le, keep, every, up_to, length-rising, get_or-rising, keep-here, keep-past, eqb_swap}
+use Rattle.std.specs.List.{range_with_len}
+use Rattle.card.specs.Blocks.{is_free, after_taken}
 
 -- every block of the card is tried
 pub length-after : (n taken : ℕ) → taken < n → length (after_taken n taken) ≡ n
@@ -30,28 +29,18 @@ after-round n taken i t l h =
     ∙ get_or-rising 0 n (taken + 1 + i - n) (omega arith)
     ∙ (omega arith)
 
--- a block from word i on
-module _ (W : List ℕ) (b : ℕ) (h : 1024 * b + 1023 < length W) where
-  length-block : length (block W b) ≡ 1024
-  length-block = length-take-le 1024 (drop (1024 * b) W) (simp length-drop (omega arith))
+-- a test of the words at places that count up is one of that part of the words
+every-range : (W : List ℕ) (o a k n : ℕ) → o + k + n ≤ length W → every (λ i. eqb (get_or W (o + i) 0) a) (range_with_len k n) ≡ every (eqb a) (take n (drop (o + k) W))
+every-range W o a k zero h = refl
+every-range W o a k (suc n) h =
+    let e : o + (k + 1) ≡ suc (o + k) = omega arith in
+    let l : o + k < length W = omega arith in
+    let rest = rw e at (every-range W o a (k + 1) n (omega arith)) in
+    rw (drop-cons W (o + k) 0 l, eqb_swap (get_or W (o + k) 0) a, rest)
 
-  block_at : (i : ℕ) → i < 1024 → drop i (block W b) ≡ word_in W b i ∷ drop (i + 1) (block W b)
-  block_at i l =
-      let k : i < length (block W b) = omega (arith, length-block) in
-      let e : get_or (block W b) i 0 ≡ word_in W b i = get_or-take 1024 (drop (1024 * b) W) i 0 l ∙ get_or-drop (1024 * b) W i 0 in
-      rw (add-one i) (drop-cons (block W b) i 0 k ∙ rw e)
-
-  -- what is left of the test of a free block: past a word of all ones
-  pub free-past : (i : ℕ) → i < 1024 → word_in W b i ≡ all_ones → every (eqb all_ones) (drop i (block W b)) ≡ every (eqb all_ones) (drop (i + 1) (block W b))
-  free-past i l e = rw (block_at i l, e)
-
-  -- at another word
-  pub free-not : (i : ℕ) → i < 1024 → (word_in W b i ≡ all_ones → ⊥) → every (eqb all_ones) (drop i (block W b)) ≡ false
-  free-not i l e = rw (block_at i l, ne_eqb all_ones (word_in W b i) (λ q. e (sym q)))
-
-  -- at the end
-  pub free-end : (i : ℕ) → 1024 ≤ i → every (eqb all_ones) (drop i (block W b)) ≡ true
-  free-end i l = let k : length (block W b) ≤ i = omega (arith, length-block) in rw (drop_of_length-le (block W b) k)
+-- from the first place on
+pub every-places : (W : List ℕ) (o a n : ℕ) → o + n ≤ length W → every (λ i. eqb (get_or W (o + i) 0) a) (range_with_len 0 n) ≡ every (eqb a) (take n (drop o W))
+every-places W o a n h = let e : o + 0 ≡ o = omega arith in rw e at (every-range W o a 0 n (omega arith))
 
 -- the free blocks in the order of taking from place i on
 module _ (W : List ℕ) (n taken i : ℕ) (t : taken < n) where

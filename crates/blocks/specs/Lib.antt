@@ -1,3 +1,2 @@
-pub mod Free
 pub mod Writes
 pub mod Moves

@@ -1,28 +1,20 @@
 // Free blocks found in the order of taking, words of a block written, blocks freed.
 #![tactic(auto)]
 
-ghost use Rattle.std.specs.Prelude.{true, false, [], ◌∷◌, ◌≡◌, ◌+◌, ◌*◌, ◌%◌, ◌≤◌, ◌<◌, leb, length, get_or, set};
+ghost use Rattle.std.specs.Prelude.{true, false, [], ◌∷◌, ◌≡◌, ◌+◌, ◌*◌, ◌%◌, ◌≤◌, ◌<◌, leb, length, get_or, set, slice_get};
 ghost use Rattle.lists.specs.Lists.{different};
 ghost use Rattle.words.specs.Words.{words as words_of};
 ghost use Rattle.card.specs.Blocks.{is_free, after_taken, free_blocks};
 ghost use Rattle.card.specs.Chains.{chain};
 ghost use Rattle.blocks.specs.Writes.{release};
 ghost use Rattle.card.specs.Cursors.{Chained};
-ghost use Rattle.blocks.specs.Free.{first_of};
 
 // Whether a block is free: all of its words, the link too, are all ones.
 pub fn is_free(card: &[u8], block: u16) -> bool
     requires { 1024 * block + 1023 < length (words_of card.now) }
     ensures { result ≡ is_free (words_of card.now) block }
 {
-    let mut at: u16 = 0;
-    while at < 1024 {
-        if card::block_word(card, block, at) != 4294967295 {
-            return false;
-        }
-        at += 1;
-    }
-    true
+    (0..1024).all(|at| card::block_word(card, block, at) == u32::MAX)
 }
 
 // The block in place i, from 0 on, of the order of taking: upward after the block last taken, round the end.
@@ -38,27 +30,18 @@ fn tried(blocks: u32, taken: u16, i: u32) -> u16
     }
 }
 
-// A free block, if there is one.
-#[derive(Clone, Copy)]
-pub enum Free {
-    Block(u16),
-    Nothing,
-}
-
 // The free block that is taken next, if there is one.
-pub fn next_free(card: &[u8], blocks: u32, taken: u16) -> Free
+pub fn next_free(card: &[u8], blocks: u32, taken: u16) -> Option<u16>
     requires { (length (words_of card.now) ≡ 1024 * blocks) × (blocks ≤ 4096) × (taken < blocks) }
-    ensures { result ≡ first_of (free_blocks (words_of card.now) blocks taken) }
+    ensures { result ≡ slice_get (free_blocks (words_of card.now) blocks taken) 0 }
 {
-    let mut i = 0;
-    while i < blocks {
+    for i in 0..blocks {
         let block = tried(blocks, taken, i);
         if is_free(card, block) {
-            return Free::Block(block);
+            return Some(block);
         }
-        i += 1;
     }
-    Free::Nothing
+    None
 }
 
 // Whether so many blocks are free; the blocks are counted in the order of taking, as the free ones mostly lie ahead.
@@ -67,12 +50,13 @@ pub fn enough_free(card: &[u8], blocks: u32, taken: u16, wanted: u32) -> bool
     ensures { result ≡ leb wanted (length (free_blocks (words_of card.now) blocks taken)) }
 {
     let mut missing = wanted;
-    let mut i = 0;
-    while i < blocks && 0 < missing {
+    for i in 0..blocks {
+        if missing == 0 {
+            break;
+        }
         if is_free(card, tried(blocks, taken, i)) {
             missing -= 1;
         }
-        i += 1;
     }
     missing == 0
 }
@@ -90,10 +74,8 @@ pub fn release_block(card: &mut [u8], block: u16)
     requires { (length card.old % 4 ≡ 0) × (1024 * block + 1023 < length (words_of card.old)) }
     ensures { words_of card.new ≡ release (words_of card.old) (block ∷ []) }
 {
-    let mut i: u16 = 0;
-    while i < 1024 {
-        put_block_word(card, block, i, 4294967295);
-        i += 1;
+    for i in 0..1024 {
+        put_block_word(card, block, i, u32::MAX);
     }
 }
 
@@ -103,11 +85,9 @@ pub fn release_chain(card: &mut [u8], first: u16, n: u32)
     ensures { words_of card.new ≡ release (words_of card.old) (chain (words_of card.old) first n) }
 {
     let mut next = first as u32;
-    let mut left = n;
-    while 0 < left {
+    for _ in 0..n {
         let freed = next as u16;
         next = card::block_word(card, freed, card::LINK);
         release_block(card, freed);
-        left -= 1;
     }
 }

@@ -4,7 +4,9 @@ use Rattle.lists.proofs.Places.{any_at}
 use Rattle.postings.specs.declared.Posting.{Posting}
 use Rattle.postings.specs.Order.{precedes, same_pair, ordered}
 use Rattle.postings.proofs.Order.{precedes-trans, precedes-irreflexive, precedes-total, precedes-apart, same-swap, before-all, any-before}
-use Rattle.buffer.specs.declared.Place.{Place}
+use Rattle.std.proofs.Common.{Ok, Err}
+use Rattle.std.specs.List.Sorted.{IsPartitionedBy, IsPartitionPoint}
+use Rattle.state.specs.Views.{no_posting}
 use Rattle.buffer.specs.Places.{pair, places_before, place_of}
 
 -- of two postings at most one stands before the other
@@ -92,6 +94,26 @@ module _ (p : Posting) where
       (λ y. rw (rank-more q l y) (rank-rest l (and_right (every (precedes q) l) _ o) m.1))
       (λ n. rw (rank-none q l o n) (before-all p q l (precedes-total q p (same-swap q p ∙ m.0) n) o))
 
+  -- a search by halving may be made: what stands before p comes first
+  pub rank-parted : (l : List Posting) → ordered l ≡ true → IsPartitionedBy (λ q. precedes q p) l
+  rank-parted l o i j d h f e =
+      by-test (precedes (get_or l i d) p) (λ y. y)
+      (λ n. let a = rank-above l d j o f e in let b = rank_below l d i o (omega arith) n in absurd (omega arith))
+
+  -- and its answer is the rank
+  pub rank-point : (l : List Posting) (k : ℕ) → ordered l ≡ true → k ≤ length l → IsPartitionPoint (λ q. precedes q p ≡ true) (λ q. precedes q p ≡ false) l k → k ≡ places_before p l
+  rank-point l k o h point =
+      let r = places_before p l in
+      let most = rank-le l in
+      by-test (ltb k r)
+      (λ y. let f = ltb-true k r y in
+      let g = rank_below l no_posting k o (omega arith) (point.1 k no_posting (omega arith) (omega arith)) in absurd (omega arith))
+      (λ n. let f = ltb-false k r n in
+      by-test (ltb r k)
+      (λ y. let g = ltb-true r k y in
+      let m = rank-above l no_posting r o (omega arith) (point.0 r no_posting (omega arith) (omega arith)) in absurd (omega arith))
+      (λ m. let g = ltb-false r k m in omega arith))
+
   -- ---- what a place says
 
   -- a place depends on the pair alone
@@ -101,36 +123,36 @@ module _ (p : Posting) where
 
   module _ (l : List Posting) (o : ordered l ≡ true) (k : ℕ) where
     -- the pair at its rank
-    pub found_at : (d : Posting) → k ≡ places_before p l → k < length l → same_pair p (get_or l k d) ≡ true → Place.At k ≡ place_of p l
+    pub found_at : (d : Posting) → k ≡ places_before p l → k < length l → same_pair p (get_or l k d) ≡ true → Ok k ≡ place_of p l
     unfolding place_of
     found_at d e h t = rw (any_at (same_pair p) l d k h t, e)
 
     -- no such pair at its rank
-    pub found_before : (d : Posting) → k ≡ places_before p l → (k < length l → same_pair p (get_or l k d) ≡ false) → Place.Before k ≡ place_of p l
+    pub found_before : (d : Posting) → k ≡ places_before p l → (k < length l → same_pair p (get_or l k d) ≡ false) → Err k ≡ place_of p l
     unfolding place_of
     found_before d e f = rw (rank-missing l d o (rw e at f), e)
 
     -- the pair is there, at k
-    pub place_at : (d : Posting) → place_of p l ≡ Place.At k → (k ≡ places_before p l) × (k < length l) × (same_pair p (get_or l k d) ≡ true) × (any (same_pair p) l ≡ true)
+    pub place_at : (d : Posting) → place_of p l ≡ Ok k → (k ≡ places_before p l) × (k < length l) × (same_pair p (get_or l k d) ≡ true) × (any (same_pair p) l ≡ true)
     unfolding place_of
     place_at d e =
         by-test (any (same_pair p) l)
-        (λ y. let f : Place.At (places_before p l) ≡ Place.At k = rw y at e in
+        (λ y. let f : Ok (places_before p l) ≡ Ok k = rw y at e in
         let r : places_before p l ≡ k = cc in
         let t = rank-there l d o y in
         (sym r, omega (arith, t.0), rw r at t.1, y))
-        (λ n. let f : Place.Before (places_before p l) ≡ Place.At k = rw n at e in
+        (λ n. let f : Err (places_before p l) ≡ Ok k = rw n at e in
         let z : ◌≡◌ {A = ℕ} 0 1 = cc in
         absurd (omega arith))
 
     -- the pair is not there: those below k stand before it, and it stands before the others
-    pub place-before : place_of p l ≡ Place.Before k → (k ≡ places_before p l) × (k ≤ length l) × (any (same_pair p) l ≡ false) × (every (λ q. precedes q p) (take k l) ≡ true) × (every (precedes p) (drop k l) ≡ true)
+    pub place-before : place_of p l ≡ Err k → (k ≡ places_before p l) × (k ≤ length l) × (any (same_pair p) l ≡ false) × (every (λ q. precedes q p) (take k l) ≡ true) × (every (precedes p) (drop k l) ≡ true)
     unfolding place_of
     place-before e =
         by-test (any (same_pair p) l)
-        (λ y. let f : Place.At (places_before p l) ≡ Place.Before k = rw y at e in
+        (λ y. let f : Ok (places_before p l) ≡ Err k = rw y at e in
         let z : ◌≡◌ {A = ℕ} 0 1 = cc in
         absurd (omega arith))
-        (λ n. let f : Place.Before (places_before p l) ≡ Place.Before k = rw n at e in
+        (λ n. let f : Err (places_before p l) ≡ Err k = rw n at e in
         let r : places_before p l ≡ k = cc in
         (sym r, omega (arith, rank-le l), n, rw r at (rank-front l o), rw r at (rank-rest l o n)))

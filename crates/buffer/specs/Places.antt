@@ -1,11 +1,10 @@
 -- Where a pair stands in a list of postings in order, and the list with one posting more, one less, or one changed.
-use Rattle.std.specs.Prelude.{cond, List, ◌∷◌, ◌++◌, ℕ, suc, ℤ, pos, ◌+ℤ◌, length, get_or, take, drop, set}
+use Rattle.std.specs.Prelude.{cond, List, ◌∷◌, ◌++◌, ℕ, suc, ℤ, pos, ◌+ℤ◌, length, get_or, take, drop, set, Result, Ok, Err}
 use Rattle.lists.specs.Lists.{keep, any}
 use Rattle.postings.specs.declared.Posting.{Posting}
 use Rattle.postings.specs.Order.{precedes, same_pair}
 use Rattle.postings.specs.Merge.{counting, is_zero}
 use Rattle.state.specs.Views.{no_posting}
-use Rattle.buffer.specs.declared.Place.{Place}
 
 -- one count of a pair
 abbrev pub pair : ℕ → ℕ → Posting
@@ -16,8 +15,8 @@ unfoldable pub places_before : Posting → List Posting → ℕ
 places_before p l = length (keep (λ q. precedes q p) l)
 
 -- the place of p's pair, or the place before which it would be put in
-unfoldable pub place_of : Posting → List Posting → Place
-place_of p l = cond (any (same_pair p) l) (Place.At (places_before p l)) (Place.Before (places_before p l))
+unfoldable pub place_of : Posting → List Posting → Result ℕ ℕ
+place_of p l = cond (any (same_pair p) l) (Ok (places_before p l)) (Err (places_before p l))
 
 module _ {A : Type 0} where
   -- the list with x put in before place k

@@ -12,13 +12,6 @@ ghost use Rattle.buffer.specs.Canonical.{Canonical, Addable};
 use postings::Posting;
 use state::Buffer;
 
-// Where a pair stands, or before which place it would be put in.
-#[derive(Clone, Copy)]
-pub enum Place {
-    At(u16),
-    Before(u16),
-}
-
 // Whether `q` is of the pair.
 fn is_pair(q: Posting, id: u16, window: u16) -> bool
     ensures { result ≡ same_pair (pair id window) q }
@@ -31,16 +24,7 @@ pub fn holds_pair(b: Buffer, id: u16, window: u16) -> bool
     requires { b.used ≤ 128 }
     ensures { result ≡ any (same_pair (pair id window)) (buffered b) }
 {
-    let n = b.used as usize;
-    let mut i: usize = 0;
-    while i < n {
-        let q = b.postings[i];
-        if is_pair(q, id, window) {
-            return true;
-        }
-        i += 1;
-    }
-    false
+    b.buffered().iter().any(|q| is_pair(*q, id, window))
 }
 
 // How many buffered postings stand before the pair, by halving.
@@ -49,37 +33,27 @@ fn rank_of(b: Buffer, id: u16, window: u16) -> usize
     ensures { result ≡ places_before (pair id window) (buffered b) }
 {
     let p = Posting {
-        id: id,
-        window: window,
+        id,
+        window,
         count: 1,
     };
-    let mut low: usize = 0;
-    let mut high = b.used as usize;
-    while low < high {
-        let middle = (low + high) / 2;
-        let q = b.postings[middle];
-        if postings::precedes(q, p) {
-            low = middle + 1;
-        } else {
-            high = middle;
-        }
-    }
-    low
+    b.buffered().partition_point(|q| postings::precedes(*q, p))
 }
 
-// The place of the pair, or the place before which it would be put in.
-pub fn find_pair(b: Buffer, id: u16, window: u16) -> Place
+// The place of the pair, or else the place before which it would be put in.
+pub fn find_pair(b: Buffer, id: u16, window: u16) -> Result<usize, usize>
     requires { Canonical b }
     ensures { result ≡ place_of (pair id window) (buffered b) }
 {
     let k = rank_of(b, id, window);
-    if k < b.used as usize {
-        let q = b.postings[k];
-        if is_pair(q, id, window) {
-            return Place::At(k as u16);
-        }
+    if k == b.used as usize {
+        return Err(k);
     }
-    Place::Before(k as u16)
+    if is_pair(b.postings[k], id, window) {
+        Ok(k)
+    } else {
+        Err(k)
+    }
 }
 
 // Puts `p` in before place `k`; the rest moves up by one.
@@ -88,14 +62,10 @@ fn insert(b: Buffer, k: usize, p: Posting) -> Buffer
     ensures { result ≡ buffer_of (inserted_at k p (buffered b)) }
 {
     let mut c = b;
-    let mut i = c.used as usize;
-    while k < i {
-        let q = c.postings[i - 1];
-        c.postings[i] = q;
-        i -= 1;
-    }
+    let end = b.used as usize;
+    c.postings.copy_within(k..end, k + 1);
     c.postings[k] = p;
-    c.used = c.used + 1;
+    c.used = b.used + 1;
     c
 }
 
@@ -105,19 +75,10 @@ fn remove(b: Buffer, k: usize) -> Buffer
     ensures { result ≡ buffer_of (dropped_at k (buffered b)) }
 {
     let mut c = b;
-    let n = c.used as usize;
-    let mut i = k;
-    while i + 1 < n {
-        let q = c.postings[i + 1];
-        c.postings[i] = q;
-        i += 1;
-    }
-    c.postings[i] = Posting {
-        id: 0,
-        window: 0,
-        count: 0,
-    };
-    c.used = c.used - 1;
+    let end = b.used as usize;
+    c.postings.copy_within(k + 1..end, k);
+    c.postings[end - 1] = Posting::NONE;
+    c.used = b.used - 1;
     c
 }
 
@@ -161,10 +122,9 @@ pub fn add(b: Buffer, p: Posting) -> Buffer
     requires { Canonical b × Addable b p }
     ensures { result ≡ buffer_of (nonzero (put p (buffered b))) }
 {
-    let place = find_pair(b, p.id, p.window);
-    match place {
-        Place::At(k) => shift_count(b, k as usize, p.count),
-        Place::Before(k) => insert(b, k as usize, p),
+    match find_pair(b, p.id, p.window) {
+        Ok(k) => shift_count(b, k, p.count),
+        Err(k) => insert(b, k, p),
     }
 }
 
@@ -173,5 +133,5 @@ pub fn negate(c: i16) -> i16
     requires { nat_abs c ≤ 32767 }
     ensures { result ≡ neg_ℤ c }
 {
-    0 - c
+    -c
 }

@@ -1,8 +1,11 @@
 -- What an engine's call promises of states, promised of their images.
-use Rattle.lists.proofs.Prelude.{Bool, true, false, not, List, ◌≡◌, refl, sym, ap, ◌∙◌, ℕ, zero, suc, eqb, length, not-false}
+use Rattle.lists.proofs.Prelude.{Bool, true, false, not, List, ◌≡◌, refl, sym, ap, ◌∙◌, ℕ, eqb, length, not-false}
 use Rattle.words.specs.Words.{bytes, Below}
 use Rattle.answers.specs.Answers.{Answer, done, number, hits, mean, forecast, refused, Outcome, refuse, leave, refuse_if, carry, answer_of, state_of}
 use Rattle.answers.specs.Unchanged.{Unchanged}
+use Rattle.answers.specs.Numbers.{refusal_number}
+use Rattle.answers.specs.declared.Refusal.{Refusal}
+use Rattle.numbers.proofs.Told.{number-refused}
 use Rattle.state.specs.declared.State.{State}
 use Rattle.state.specs.Probe.{Store, Probe}
 use Rattle.windows.specs.Promises.{Gives, store_of, probe_of}
@@ -97,11 +100,6 @@ module _ (image : List ℕ) {good : Bool} (rule : good ≡ image_rule image) (le
 
 -- Judged and then made ------------------------------------------------------------------------------------------------
 
--- a number that is not 0 is a refusal's
-refused-by : (n : ℕ) → (n ≡ 0 → ⊥) → replied_by n ≡ refused n
-refused-by zero h = absurd (h refl)
-refused-by (suc n) h = refl
-
 -- a call that is made after it was judged: what it leaves of image and card
 pub made-on : (o : Store → Outcome Store) (image card : List ℕ) (s t : State) (image' card' : List ℕ) → s ≡ state_on image → o (store_of s card) ≡ leave done (store_of t card') → image' ≡ bytes (image_of t)
     → carry imaged_store (o (store_of (state_on image) card)) ≡ leave done (carded_of image' card')
@@ -111,11 +109,10 @@ made-on o image card s t image' card' read e put =
 
 module _ (image : List ℕ) {good : Bool} (rule : good ≡ image_rule image) (left : not good ≡ false) (o : Store → Outcome Store) (card : List ℕ) where
   -- refused as it is judged
-  pub judged-refused : Below 256 image → ((p : Store) → Unchanged p (o p)) → (n : ℕ) → (n ≡ 0 → ⊥) → replied_by n ≡ answer_of (o (store_of (state_on image) card))
-      → Gives (carded_of image card) (refuse_if (not (image_rule image)) 1 (carry imaged_store (o (store_of (state_on image) card)))) (replied_by n) (carded_of image card)
-  judged-refused known u n h e =
-      let r : refused n ≡ answer_of (o (store_of (state_on image) card)) = sym (refused-by n h) ∙ e in
-      rw (refused-by n h) (on_store image rule left known (state_on image) refl (refl, refl) o u (record { answer = r; left = sym ((u (store_of (state_on image) card)).same n (sym r)) }))
+  pub judged-refused : Below 256 image → ((p : Store) → Unchanged p (o p)) → (why : Refusal) → refused (refusal_number why) ≡ answer_of (o (store_of (state_on image) card))
+      → Gives (carded_of image card) (refuse_if (not (image_rule image)) 1 (carry imaged_store (o (store_of (state_on image) card)))) (replied_by (refusal_number why)) (carded_of image card)
+  judged-refused known u why r =
+      rw (number-refused why) (on_store image rule left known (state_on image) refl (refl, refl) o u (record { answer = r; left = sym ((u (store_of (state_on image) card)).same (refusal_number why) (sym r)) }))
 
   -- or made
   pub judged-made : (image' card' : List ℕ) → carry imaged_store (o (store_of (state_on image) card)) ≡ leave done (carded_of image' card')

@@ -1,4 +1,6 @@
 -- A lent list of hits as bytes: filling its first places.
+use Rattle.std.specs.Prelude.{Result, Ok, Err}
+use Rattle.answers.specs.declared.Refusal.{Refusal}
 use Rattle.lists.proofs.Prelude.{Bool, true, false, List, [], ◌∷◌, ◌++◌, map, append_assoc, ◌≡◌, refl, sym, ap, ap₂, ◌∙◌, ℕ, zero, suc, ◌+◌, ◌*◌, ◌/◌, ◌<◌, ◌≤◌, zero-add, add-one, arith, length, get_or, set, take, drop, length-append, length-drop, drop_of_length-le, sets, sets-eq, take_all, drop-drop, drop-cons, length-take-le, joined, length-joined}
 use Rattle.lists.proofs.Stores.{joined-append}
 use Rattle.words.specs.Words.{words, bytes, Below}
@@ -6,7 +8,6 @@ use Rattle.words.proofs.Views.{apart, length-words, words-drop}
 use Rattle.postings.specs.declared.Stretch.{Stretch}
 use Rattle.answers.specs.declared.Hit.{Hit}
 use Rattle.answers.specs.declared.Found.{Found}
-use Rattle.answers.specs.declared.Found.TheVariants as found
 use Rattle.answers.specs.Answers.{Answer, Outcome, refuse_if, carry}
 use Rattle.answers.specs.Numbers.{found_as}
 use Rattle.state.specs.Probe.{Probe}
@@ -148,10 +149,10 @@ pub places_of : (b : List ℕ) → length (hits_in (words b)) ≡ length b / 8
 places_of b = omega (arith, length-hits (words b), length-words b)
 
 -- the number of an answer of the code is that of the answer it stands for
-number-found : (x : Answer) (k : ℕ) (a : Found) (t : Top) → length t.hits ≡ 32 → Finds x k a t → number_found a ≡ number_for (found_as a t.hits)
-number-found x k (found.Refused why) t long v = refl
-number-found x k (found.Hits n taken) t long v =
-    let e : length (take n t.hits) ≡ n = length-take-le n t.hits (omega (arith, v.used n taken refl, v.most)) in
+number-found : (x : Answer) (k : ℕ) (a : Result Found Refusal) (t : Top) → length t.hits ≡ 32 → Finds x k a t → number_found a ≡ number_for (found_as a t.hits)
+number-found x k (Err why) t long v = refl
+number-found x k (Ok f) t long v =
+    let e : length (take f.hits t.hits) ≡ f.hits = length-take-le f.hits t.hits (omega (arith, v.used f refl, v.most)) in
     rw e
 
 -- a test that refuses, and one that does not
@@ -164,7 +165,7 @@ unfolding refuse_if
 tells-passed s t n o r after e g = rw e g
 
 -- a search promises the exported query
-pub on-query : (p : Probe) (st : Stretch) (ns : List Name) (b : List ℕ) → Below 256 b → (a : Found) (t : Top) → length t.hits ≡ 32 → Finds (answered p st ns (length b / 8)) (length b / 8) a t
+pub on-query : (p : Probe) (st : Stretch) (ns : List Name) (b : List ℕ) → Below 256 b → (a : Result Found Refusal) (t : Top) → length t.hits ≡ 32 → Finds (answered p st ns (length b / 8)) (length b / 8) a t
     → Tells b (carry (hit_bytes b) (query_of p st ns (hits_in (words b)))) (number_found a) (hit_bytes b (listed_hits t))
 on-query p st ns b h a t long v =
     let places = hits_in (words b) in

@@ -3,6 +3,7 @@
 
 ghost use Rattle.std.specs.Prelude.{true, cond, ◌&&◌, map, ◌≡◌, ◌*◌, ◌≤◌, length};
 ghost use Rattle.answers.specs.Answers.{done, leave, answer_of, carry};
+ghost use Rattle.answers.specs.Numbers.{replied};
 ghost use Rattle.identifiers.specs.Register.{register_rule};
 ghost use Rattle.state.specs.Rules.{register_length};
 ghost use Rattle.windows.specs.Promises.{Gives, store_of};
@@ -13,24 +14,16 @@ ghost use Rattle.capi.specs.Exports.{carded_of, lent_of, imaged_store, start_on,
 ghost use Rattle.numbers.specs.Images.{state_on, replied_by, opened_by, number_for, told_by};
 ghost use Rattle.capi.specs.Queries.{hit_bytes, Tells, query_on, mean_on, forecast_on};
 
-use answers::{Averaged, Forecast, Found, Opened, Reply};
+use answers::Refusal;
 use postings::Stretch;
 use ranking::Top;
-use windows::{Opening, Replied};
-
-// Has a register of so many bytes 1 to 1,024 whole entries?
-fn length_ok(bytes: usize) -> bool
-    ensures { result ≡ register_length bytes }
-{
-    (bytes % 65 == 0) & ((1 <= bytes / 65) & (bytes / 65 <= 1024))
-}
 
 // Is a register well formed? 1 where it is; 0 where it is not, or has no length within the limits.
 #[unsafe(no_mangle)]
 pub extern "C" fn gemsilver_register_ok(register: &[u8]) -> u8
     ensures { result ≡ cond (register_length (length register.now) && register_rule register.now) 1 0 }
 {
-    if !length_ok(register.len()) {
+    if !state::register_length_ok(register.len()) {
         return 0;
     }
     if registers::register_ok(register) {
@@ -52,8 +45,7 @@ pub extern "C" fn gemsilver_start(image: &mut [u8], card: &mut [u8], register: &
     }
     let r = windows::start(card, register);
     images::write_state(image, r.state);
-    let reply = r.reply;
-    numbers::reply_number(reply)
+    numbers::reply_number(r.answer)
 }
 
 // A window is opened: its number, or 65,536 more than a refusal's.
@@ -121,13 +113,10 @@ fn put_hits(hits: &mut [u8], t: Top)
     requires { (t.used ≤ 32) × (8 * t.used ≤ length hits.old) }
     ensures { (hits.new ≡ hit_bytes hits.old (listed_hits t)) × (length t.hits ≡ 32) }
 {
-    let n = t.used as usize;
-    let mut i: usize = 0;
-    while i < n {
+    for i in 0..t.used as usize {
         let h = t.hits[i];
         words::put_word(hits, 2 * i, h.window as u32);
         words::put_word(hits, 2 * i + 1, h.score);
-        i += 1;
     }
 }
 
@@ -149,14 +138,10 @@ pub extern "C" fn gemsilver_query(
         return 1;
     }
     let s = images::read_state(image);
-    let t = Stretch {
-        first: first,
-        last: last,
-    };
+    let t = Stretch { first, last };
     let r = queries::search(s, card, register, ids, t, hits.len() / 8);
     put_hits(hits, r.top);
-    let answer = r.answer;
-    numbers::found_number(answer)
+    numbers::found_number(r.answer)
 }
 
 // The mean count of an identifier. A refusal's number, or 65,536 times how many windows count, 65,536² times the remainder and 65,536³ times the quotient.
@@ -207,15 +192,14 @@ pub extern "C" fn gemsilver_remove(image: &mut [u8], card: &mut [u8], window: u3
     numbers::settle(image, r)
 }
 
-// What the removal of several windows together answers, as a number. The state that is read for it is gone before the removals are made, so that not both lie on the
+// What the removal of several windows together answers. The state that is read for it is gone before the removals are made, so that not both lie on the
 // stack.
-fn judge_list(image: &[u8], card: &[u8], windows: &[u32]) -> u32
+fn judge_list(image: &[u8], card: &[u8], windows: &[u32]) -> Result<(), Refusal>
     requires { image_rule image.now ≡ true }
-    ensures { replied_by result ≡ answer_of (remove_all_of (store_of (state_on image.now) card.now) windows.now) }
+    ensures { replied result ≡ answer_of (remove_all_of (store_of (state_on image.now) card.now) windows.now) }
 {
     let s = images::read_state(image);
-    let verdict = batches::judge(s, card, windows);
-    numbers::reply_number(verdict)
+    batches::judge(s, card, windows)
 }
 
 // Removes several windows together, where that is not refused.
@@ -238,9 +222,8 @@ pub extern "C" fn gemsilver_remove_all(image: &mut [u8], card: &mut [u8], window
     if !images::image_ok(image) {
         return 1;
     }
-    let why = judge_list(image, card, windows);
-    if why != 0 {
-        return why;
+    if let Err(why) = judge_list(image, card, windows) {
+        return u32::from(why);
     }
     remove_list(image, card, windows);
     0

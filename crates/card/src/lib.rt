@@ -1,13 +1,13 @@
 // The card as it is read: blocks, links, chains, cursors. A block's words begin at 1,024 times its number; the last one is its link.
 #![tactic(auto)]
 
-ghost use Rattle.std.specs.Prelude.{true, false, ◌||◌, ◌≡◌, ℕ, ◌+◌, ◌*◌, ◌%◌, ◌≤◌, ◌<◌, eqb, length, get_or, take, drop};
+ghost use Rattle.std.specs.Prelude.{true, false, ◌||◌, ◌≡◌, ℕ, ◌+◌, ◌*◌, ◌%◌, ◌≤◌, ◌<◌, eqb, length, get_or, take, drop, MatchOption};
 ghost use Rattle.lists.specs.Lists.{elem};
 ghost use Rattle.words.specs.Words.{words as words_of};
 ghost use Rattle.card.specs.Blocks.{link};
 ghost use Rattle.card.specs.Chains.{chain, chain_rule, content};
 ghost use Rattle.card.specs.Cursors.{InCard, Chained, ahead, Good, head_of, moved_of};
-ghost use Rattle.card.specs.Marks.{marked, unmarked};
+ghost use Rattle.card.specs.Marks.{marked, unmarked, Joins};
 
 // Words of a block.
 pub const WORDS: usize = 1024;
@@ -58,21 +58,17 @@ pub fn moved(card: &[u8], c: Cursor) -> Cursor
     requires { (0 < c.left) × Good (words_of card.now) c }
     ensures { result ≡ moved_of (words_of card.now) c }
 {
-    let block = c.block;
-    let word = c.word;
-    let left = c.left;
-    if word == 1022 && 1 < left {
-        let next = next_block(card, block);
+    if c.word == 1022 && 1 < c.left {
         Cursor {
-            block: next,
+            block: next_block(card, c.block),
             word: 0,
-            left: left - 1,
+            left: c.left - 1,
         }
     } else {
         Cursor {
-            block: block,
-            word: word + 1,
-            left: left - 1,
+            word: c.word + 1,
+            left: c.left - 1,
+            ..c
         }
     }
 }
@@ -83,18 +79,16 @@ pub fn seek(card: &[u8], first: u16, n: u32, offset: u32, left: u32) -> Cursor
     ensures { (ahead (words_of card.now) result ≡ take left (drop offset (content (words_of card.now) (chain (words_of card.now) first n))))
         × Good (words_of card.now) result }
 {
+    // The last link names no block, so the end of the whole content is a place past the last block's.
+    let passed = (offset / CONTENT).min(n.saturating_sub(1));
     let mut block = first;
-    let mut m = n;
-    let mut k = offset;
-    while CONTENT <= k && 1 < m {
+    for _ in 0..passed {
         block = next_block(card, block);
-        m -= 1;
-        k -= CONTENT;
     }
     Cursor {
-        block: block,
-        word: k as u16,
-        left: left,
+        block,
+        word: (offset - CONTENT * passed) as u16,
+        left,
     }
 }
 
@@ -104,13 +98,11 @@ pub fn chain_ok(card: &[u8], blocks: u32, first: u16, n: u32) -> bool
     ensures { result ≡ chain_rule (words_of card.now) blocks first n }
 {
     let mut next = first as u32;
-    let mut m = n;
-    while 0 < m {
+    for _ in 0..n {
         if blocks <= next {
             return false;
         }
         next = block_word(card, next as u16, LINK);
-        m -= 1;
     }
     0 < n && next == LAST
 }
@@ -148,37 +140,21 @@ fn mark(m: Marks, block: u16) -> Marks
     r
 }
 
-// Whether the blocks of a chain were unmarked and all different, and then the marks with theirs, else as they were.
-#[derive(Clone, Copy)]
-pub struct Marked {
-    pub apart: bool,
-    pub marks: Marks,
-}
-
-// Marks the n blocks from `first` on; marks that are handed on from chain to chain tell whether a block stands in two places.
-pub fn mark_chain(card: &[u8], m: Marks, first: u16, n: u32) -> Marked
+// Marks the n blocks from `first` on, if they are all different and none of them was marked. Marks that are handed on from chain to chain tell whether a
+// block stands in two places.
+pub fn mark_chain(card: &[u8], m: Marks, first: u16, n: u32) -> Option<Marks>
     requires { Chained (words_of card.now) first n }
-    ensures apart { result.apart ≡ unmarked m (chain (words_of card.now) first n) }
-    ensures kept { result.apart ≡ false → result.marks ≡ m }
-    ensures marks { result.apart ≡ true → (b : ℕ) → marked result.marks b ≡ (marked m b || elem b (chain (words_of card.now) first n)) }
+    ensures { MatchOption result (unmarked m (chain (words_of card.now) first n) ≡ false) (λ r. Joins m (chain (words_of card.now) first n) r) }
 {
     let mut marks = m;
     let mut next = first as u32;
-    let mut i = n;
-    while 0 < i {
+    for _ in 0..n {
         let block = next as u16;
         if is_marked(marks, block) {
-            return Marked {
-                apart: false,
-                marks: m,
-            };
+            return None;
         }
         marks = mark(marks, block);
         next = block_word(card, block, LINK);
-        i -= 1;
     }
-    Marked {
-        apart: true,
-        marks: marks,
-    }
+    Some(marks)
 }

@@ -1,28 +1,12 @@
 -- Marks set one by one, and how many windows are marked.
-use Rattle.lists.proofs.Prelude.{Bool, true, false, cond, ◌&&◌, ◌||◌, not, or-false, or_comm, and-true, List, ◌≡◌, refl, sym, ◌∙◌, ℕ, ◌+◌, ◌-◌, ◌/◌, ◌%◌, ◌<◌, ◌≤◌, arith, eqb, ltb, leb, ℤ, length, get_or, set, get_or-set_same, get_or-set_other, List·getD-eq-default, eqb-true, eqb-false, eq-eqb, ne_eqb, ltb-true, ltb-false, leb-true, by-test, and_left, and_right, and_both, never}
+use Rattle.lists.proofs.Prelude.{Bool, true, false, cond, ◌&&◌, ◌||◌, not, or-false, or_comm, and-true, List, ◌≡◌, refl, sym, ◌∙◌, ℕ, ◌-◌, ◌≤◌, arith, eqb, leb, ℤ, length, eqb-true, eqb-false, eq-eqb, ne_eqb, leb-true, by-test, and_left, and_right, and_both, never}
 use Rattle.postings.specs.declared.Stretch.{Stretch}
 use Rattle.postings.specs.Sums.{is_above}
 use Rattle.state.specs.Shown.{within, shows_in}
 use Rattle.card.specs.Marks.{bit_of}
-use Rattle.card.proofs.Marking.{bit-none}
-use Rattle.census.specs.Marks.{marked, Unmarked, MarkStep}
+use Rattle.census.specs.Marks.{marked, MarkStep}
 
 -- ---- clearing
-
--- the first i numbers are 0
-abbrev pub ClearTo : ℕ → List ℕ → Type 0
-ClearTo i M = (j : ℕ) → j < i → get_or M j 0 ≡ 0
-
-pub clear-more : (M : List ℕ) (i : ℕ) → i < length M → ClearTo i M → ClearTo (i + 1) (set M i 0)
-clear-more M i h z j l =
-    by-test (eqb j i)
-    (λ y. rw (eqb-true j i y) (get_or-set_same M i 0 0 h))
-    (λ n. let d = eqb-false j i n in get_or-set_other M i j 0 0 d ∙ z j (omega arith))
-
-pub clear-all : (M : List ℕ) → ClearTo (length M) M → Unmarked M
-clear-all M z k =
-    let none : (j : ℕ) → get_or M j 0 ≡ 0 = λ j. by-test (ltb j (length M)) (λ y. z j (ltb-true _ _ y)) (λ n. List·getD-eq-default M 0 {n = j} (ltb-false _ _ n)) in
-    rw (none (k / 32)) (bit-none (k % 32))
 
 -- ---- one window
 

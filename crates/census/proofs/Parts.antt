@@ -1,5 +1,5 @@
 -- A stretch counted part by part.
-use Rattle.lists.proofs.Prelude.{Bool, true, false, ◌&&◌, ◌||◌, and-false, or-false, List, [], ◌∷◌, ◌++◌, map, ◌≡◌, refl, sym, ap, ap₂, ◌∙◌, ℕ, zero, suc, ◌+◌, ◌<◌, ◌≤◌, arith, ltb, leb, length, lt-ltb, le-ltb, lt-leb, le-leb, ltb-true, ltb-false, leb-true, leb-false, every, keep, down, by-test, keep-both, every_map}
+use Rattle.lists.proofs.Prelude.{Bool, true, false, ◌&&◌, ◌||◌, and-false, or-false, List, [], ◌∷◌, ◌++◌, map, ◌≡◌, refl, sym, ap, ap₂, ◌∙◌, subst, ℕ, zero, suc, ◌+◌, ◌<◌, ◌≤◌, arith, ltb, leb, length, lt-ltb, le-ltb, lt-leb, le-leb, ltb-true, ltb-false, leb-true, leb-false, every, keep, down, by-test, keep-both, every_map}
 use Rattle.postings.specs.declared.Posting.{Posting}
 use Rattle.postings.specs.declared.Stretch.{Stretch}
 use Rattle.state.specs.declared.Buffer.{Buffer}
@@ -10,19 +10,18 @@ use Rattle.state.specs.Shown.{shows_in, shown_in}
 use Rattle.partitions.specs.Reading.{postings_of, in_partitions}
 use Rattle.partitions.specs.Formed.{list_rule}
 use Rattle.sums.specs.Tally.{counts_of, is_live}
-use Rattle.census.specs.declared.Census.{Census}
-use Rattle.census.specs.Existing.{existing, CountedIn}
+use Rattle.std.specs.Prelude.{Option}
+use Rattle.census.specs.Existing.{existing, CountedWell, CountedIn}
 use Rattle.census.specs.Walks.{lists, held}
 use Rattle.census.proofs.Counts.{few-kept}
 
 -- ---- what heads that were put at the first postings have to come
 
-pub opened-same : (W : List ℕ) (n : ℕ) (H : List ℕ) (b : Buffer) (ps : List Partition) (ws : List ℕ) (r : Census) → lists W n H ≡ map (postings_of W) ps
+pub opened-same : (W : List ℕ) (n : ℕ) (H : List ℕ) (b : Buffer) (ps : List Partition) (ws : List ℕ) (r : Option ℕ) → lists W n H ≡ map (postings_of W) ps
     → CountedIn (every list_rule (lists W n H)) (held W n H b) ws r → CountedIn (every (λ p. list_rule (postings_of W p)) ps) (in_partitions W ps ++ buffered b) ws r
 unfolding in_partitions
 opened-same W n H b ps ws r e c =
-    let d = rw e at c in
-    record { fine = d.fine ∙ every_map list_rule (postings_of W) ps; windows = d.windows; few = d.few }
+    subst (λ (f : Bool). CountedIn f (in_partitions W ps ++ buffered b) ws r) (every_map list_rule (postings_of W) ps) (rw e at c)
 
 -- ---- windows kept by two tests that exclude each other
 
@@ -131,5 +130,5 @@ module _ (t : Stretch) (v : Windows) (l : List Posting) where
       pub part-more : from ≤ part.last → part.last ≤ t.last → windows + more ≡ so_far (part.last + 1)
       part-more a b = together ∙ so_far_more (omega arith) b
 
-      pub part-last : part.last ≡ t.last → (formed : Bool) → formed ≡ true → CountedIn formed l (shown_in t v) (record { fine = true; windows = windows + more })
-      part-last e formed f = let s = together ∙ so-far-all e in record { fine = sym f; windows = λ y. s; few = omega (arith, s, existing-few) }
+      pub part-last : part.last ≡ t.last → (formed : Bool) → formed ≡ true → CountedWell formed l (shown_in t v) (windows + more)
+      part-last e formed f = let s = together ∙ so-far-all e in record { fine = f; windows = s; few = omega (arith, s, existing-few) }

@@ -1,6 +1,7 @@
 -- The walk's invariant, and its turns.
-use Rattle.lists.proofs.Prelude.{Bool, true, false, ◌&&◌, ◌||◌, List, [], ◌∷◌, map, ◌≡◌, refl, sym, ap, ap₂, ◌∙◌, ℕ, suc, ◌+◌, ◌*◌, ◌<◌, ◌≤◌, arith, eqb, ℤ, ◌+ℤ◌, +ℤ_idr, length, every, down, AllOf, by-test, keep-both, keep_same, and_comm, and-false, and_right, and_both, never}
-use Rattle.keyed.specs.Keys.{Item, larger, topmost_from, rest, head_val, head_vals, heads_fine}
+use Prim.Native.Nat.{max}
+use Rattle.lists.proofs.Prelude.{Bool, true, false, ◌&&◌, ◌||◌, List, [], ◌∷◌, map, ◌≡◌, refl, sym, ap, ap₂, ◌∙◌, ℕ, suc, ◌+◌, ◌*◌, ◌<◌, ◌≤◌, arith, eqb, ℤ, ◌+ℤ◌, +ℤ_idr, length, every, down, AllOf, by-test, keep-both, keep_same, and_comm, and-false, and_right, and_both}
+use Rattle.keyed.specs.Keys.{Item, topmost_from, rest, head_val, head_vals, heads_fine}
 use Rattle.keyed.specs.Groups.{Group, top_all, heads_fine_all}
 use Rattle.words.specs.Words.{Below}
 use Rattle.postings.specs.declared.Posting.{Posting}
@@ -27,8 +28,7 @@ use Rattle.sums.proofs.Tally.{buffer_items, Walkable, groups}
 use Rattle.sums.proofs.Buffers.{Shown, buffer-fine}
 use Rattle.sums.proofs.Resumes.{fine-pair}
 use Rattle.sums.proofs.ReadBack.{buffer-walkable}
-use Rattle.census.specs.declared.Census.{Census}
-use Rattle.census.specs.Existing.{existing, CountedIn}
+use Rattle.census.specs.Existing.{existing, CountedWell}
 use Rattle.census.specs.Marks.{marked, Covers, Unmarked, MarkStep}
 use Rattle.census.specs.Walks.{lists, held, Orderly}
 use Rattle.census.proofs.Counts.{counted, counted_none, counted-few, counted-more}
@@ -91,7 +91,7 @@ module _ (W : List ℕ) (n : ℕ) (H : List ℕ) (b : Buffer) (t : Stretch) (o :
   }
 
 module _ {W : List ℕ} {n : ℕ} {b : Buffer} {t : Stretch} {o : ℕ} {formed : Bool} {lives : ℕ → Bool} {size span : ℕ} {H : List ℕ} {i next lead others bound : ℕ} {M : List ℕ} {windows : ℕ}
-    (g : Going W n b t o formed lives size span H i next lead others bound M windows) (f : Front) (shown : Shown (buffer_items b i) f) (u : ℕ) (e : u ≡ larger next f.reach) where
+    (g : Going W n b t o formed lives size span H i next lead others bound M windows) (f : Front) (shown : Shown (buffer_items b i) f) (u : ℕ) (e : u ≡ max next f.reach) where
   abbrev left : List Group
   left = groups W n H b i
 
@@ -173,12 +173,9 @@ exists-marked t v l M e =
 
 -- where all lists are well formed, N is what was counted
 pub told : (t : Stretch) (v : Windows) (l : List Posting) (formed : Bool) (M : List ℕ) (windows : ℕ) → windows ≡ counted t v.current M
-    → (formed ≡ true) × ((w : ℕ) → shows_in t v.current w ≡ true → (formed && is_live (counts_of w l)) ≡ marked t M w) → CountedIn formed l (shown_in t v) (record { fine = true; windows = windows })
+    → (formed ≡ true) × ((w : ℕ) → shows_in t v.current w ≡ true → (formed && is_live (counts_of w l)) ≡ marked t M w) → CountedWell formed l (shown_in t v) windows
 told t v l formed M windows c e = record {
-  fine = sym e.0;
-  windows = λ y. c ∙ exists-marked t v l M (λ w s. rw e.0 at (e.1 w s));
+  fine = e.0;
+  windows = c ∙ exists-marked t v l M (λ w s. rw e.0 at (e.1 w s));
   few = rw c (counted-few t v.current M);
 }
-
-pub not-told : (ws : List ℕ) (l : List Posting) (formed : Bool) (r : Census) → formed ≡ false → r.fine ≡ false → r.windows ≡ 0 → CountedIn formed l ws r
-not-told ws l formed r f e z = record { fine = e ∙ sym f; windows = λ y. never (sym e ∙ y); few = omega arith }

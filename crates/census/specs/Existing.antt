@@ -1,16 +1,19 @@
 -- N, counted from what is stored.
-use Rattle.std.specs.Prelude.{Bool, true, List, ◌≡◌, ℕ, ◌≤◌, length}
+use Rattle.std.specs.Prelude.{Option, MatchOption, Bool, true, false, List, ◌≡◌, ℕ, ◌≤◌, length}
 use Rattle.lists.specs.Lists.{keep}
 use Rattle.postings.specs.declared.Posting.{Posting}
 use Rattle.sums.specs.Tally.{counts_of, is_live}
-use Rattle.census.specs.declared.Census.{Census}
 
 -- N: how many of these windows live in the postings l, that is have a count above 0
 unfoldable pub existing : List Posting → List ℕ → ℕ
 existing l ws = length (keep (λ w. is_live (counts_of w l)) ws)
 
--- whether what was read is well formed, and N of the windows ws in the postings l where it is
-pub record CountedIn (formed : Bool) (l : List Posting) (ws : List ℕ) (r : Census) : Type 0 where
-  pub fine : r.fine ≡ formed
-  pub windows : r.fine ≡ true → r.windows ≡ existing l ws
-  pub few : r.windows ≤ 65535
+-- what was read is well formed, and n is N of the windows ws in the postings l
+pub record CountedWell (formed : Bool) (l : List Posting) (ws : List ℕ) (n : ℕ) : Type 0 where
+  pub fine : formed ≡ true
+  pub windows : n ≡ existing l ws
+  pub few : n ≤ 65535
+
+-- whether what was read is well formed, and N where it is
+abbrev pub CountedIn : Bool → List Posting → List ℕ → Option ℕ → Type 0
+CountedIn formed l ws r = MatchOption r (formed ≡ false) (CountedWell formed l ws)

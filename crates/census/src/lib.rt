@@ -2,7 +2,7 @@
 // counted, at its first total above 0.
 #![tactic(auto)]
 
-ghost use Rattle.std.specs.Prelude.{true, false, cond, ◌||◌, ◌≡◌, ◌++◌, ℕ, ◌+◌, ◌*◌, ◌≤◌, ◌<◌, eqb, length};
+ghost use Rattle.std.specs.Prelude.{true, cond, ◌||◌, ◌≡◌, ◌++◌, ℕ, ◌+◌, ◌*◌, ◌≤◌, ◌<◌, eqb, length};
 ghost use Rattle.lists.specs.All.{AllOf};
 ghost use Rattle.lists.specs.Lists.{every};
 ghost use Rattle.words.specs.Words.{words as words_of};
@@ -21,6 +21,7 @@ ghost use Rattle.census.specs.Marks.{Covers, Unmarked, MarkStep};
 ghost use Rattle.census.specs.Walks.{lists, held, Orderly};
 
 use postings::Stretch;
+use scans::Whole;
 use state::{Buffer, Partitions, State, Windows};
 use sums::Front;
 
@@ -28,33 +29,11 @@ use sums::Front;
 // spare the second walk and take a query past 16 KB of stack.
 const MARKS: usize = 1024;
 
-// Whether what was read is well formed, and N where it is.
-#[derive(Clone, Copy)]
-pub struct Census {
-    pub fine: bool,
-    pub windows: u32,
-}
-
-// What is told where a list is malformed.
-fn malformed() -> Census
-    ensures { (result.fine ≡ false) × (result.windows ≡ 0) }
-{
-    Census {
-        fine: false,
-        windows: 0,
-    }
-}
-
 // Takes all marks away.
 fn clear(marks: &mut [u32])
     ensures { (length marks.new ≡ length marks.old) × Unmarked marks.new }
 {
-    let n = marks.len();
-    let mut i: usize = 0;
-    while i < n {
-        marks[i] = 0;
-        i += 1;
-    }
+    marks.fill(0);
 }
 
 // Sets a mark, and tells 1 where it was not set.
@@ -95,39 +74,38 @@ fn walk(
     t: Stretch,
     v: Windows,
     marks: &mut [u32],
-) -> Census
+) -> Option<u32>
     requires { (n ≤ 51) × (10 * n ≤ length heads.old) × AllOf (Kept (words_of card.now)) (parts 10 n heads.old) × Orderly b
         × Covers t marks.old × Unmarked marks.old }
     ensures { CountedIn (every list_rule (lists (words_of card.now) n heads.old)) (held (words_of card.now) n heads.old b) (shown_in t v) result }
 {
     let used = b.used as usize;
-    let l = scans::leading::leader(card, heads, n);
+    let whole = Whole { card };
+    let l = kway::leading::leader(&whole, heads, n);
     let mut next = l.top;
     let mut lead = l.at;
     let mut others = l.others;
     let mut at: usize = 0;
     let mut bound: u32 = kway::KEYS;
     let mut windows: u32 = 0;
+    // by falling key, whichever list has it; the buffer's place moves on only where the buffer has the key
     loop {
         let mut front = Front { reach: 0, count: 0 };
         if at < used {
             let p = b.postings[at];
             front = sums::front_of(p);
         }
-        let top = kway::larger(next, front.reach);
+        let top = next.max(front.reach);
         if top == 0 {
-            return Census {
-                fine: true,
-                windows: windows,
-            };
+            return Some(windows);
         }
         if bound < top {
-            return malformed();
+            return None;
         }
         let key = top - 1;
-        let k = scans::leading::take_led(card, heads, n, lead, others, key);
+        let k = kway::leading::take_led(&whole, heads, n, lead, others, key);
         if !k.fine {
-            return malformed();
+            return None;
         }
         let total = kway::added(k.sum, sums::count_under(front, top));
         windows += mark_window(marks, t, v.current, scans::key_window(key), total);
@@ -146,10 +124,7 @@ fn part_from(from: u16, last: u16, n: usize) -> Stretch
 {
     let end = from as usize + (32 * n - 1);
     if last as usize <= end {
-        return Stretch {
-            first: from,
-            last: last,
-        };
+        return Stretch { first: from, last };
     }
     Stretch {
         first: from,
@@ -166,7 +141,7 @@ fn count_part(
     v: Windows,
     heads: &mut [u32],
     marks: &mut [u32],
-) -> Census
+) -> Option<u32>
     requires { (ps.used ≤ 51) × (length heads.old ≡ 510) × AllOf (Readable (words_of card.now)) (finished ps) × Orderly b × Covers t marks.old }
     ensures { CountedIn (every (λ p. list_rule (postings_of (words_of card.now) p)) (finished ps))
         (in_partitions (words_of card.now) (finished ps) ++ buffered b) (shown_in t v) result }
@@ -186,44 +161,37 @@ fn count_parts(
     v: Windows,
     heads: &mut [u32],
     marks: &mut [u32],
-) -> Census
+) -> Option<u32>
     requires { (ps.used ≤ 51) × (length heads.old ≡ 510) × AllOf (Readable (words_of card.now)) (finished ps) × Orderly b
         × (1 ≤ length marks.old) × (length marks.old ≤ 65536) }
     ensures { CountedIn (every (λ p. list_rule (postings_of (words_of card.now) p)) (finished ps))
         (in_partitions (words_of card.now) (finished ps) ++ buffered b) (shown_in t v) result }
 {
     let n = marks.len();
-    let mut from = t.first;
-    if from == 0 {
-        from = 1;
-    }
+    let mut from = t.first.max(1);
     let mut windows: u32 = 0;
+    // part by part: no index is counted
     loop {
         let part = part_from(from, t.last, n);
-        let c = count_part(card, ps, b, part, v, heads, marks);
-        if !c.fine {
-            return malformed();
-        }
-        windows += c.windows;
+        let more = count_part(card, ps, b, part, v, heads, marks)?;
+        windows += more;
         if part.last == t.last {
-            return Census {
-                fine: true,
-                windows: windows,
-            };
+            return Some(windows);
         }
         from = part.last + 1;
     }
 }
 
-// N of a stretch: how many of its windows that show have a count above 0, over all that is stored. All lists of the finished partitions are judged.
-pub fn count(card: &[u8], s: State, t: Stretch) -> Census
+// N of a stretch: how many of its windows that show have a count above 0, over all that is stored. All lists of the finished partitions are judged: `None` where
+// one is malformed.
+pub fn count(card: &[u8], s: State, t: Stretch) -> Option<u32>
     requires { (state_rule s ≡ true) × (length (words_of card.now) ≡ 1024 * blocks s)
         × (partitions_formed (words_of card.now) (blocks s) (finished s.partitions) ≡ true) }
     ensures { CountedIn (lists_ruled (words_of card.now) s) (stored (words_of card.now) s) (shown_in t s.windows) result }
 {
     let ps = s.partitions;
     if !spans::spans_ok(card, ps) {
-        return malformed();
+        return None;
     }
     let mut heads = [0u32; 510];
     let mut marks = [0u32; MARKS];
@@ -239,6 +207,5 @@ pub fn lists_ok(card: &[u8], s: State) -> bool
     ensures { result ≡ lists_ruled (words_of card.now) s }
 {
     let nowhere = Stretch { first: 0, last: 0 };
-    let c = count(card, s, nowhere);
-    c.fine
+    count(card, s, nowhere).is_some()
 }

@@ -5,9 +5,7 @@ ghost use Rattle.std.specs.Prelude.{[], ◌∷◌, map, ◌≡◌};
 ghost use Rattle.texts.specs.Fields.{number_in};
 ghost use Rattle.commands.specs.Commands.{remove_order, query_order, Names, Means};
 
-use texts::Number;
-
-// A call that is answered with a reply. An event's identifier is the line's second field.
+// A call whose answer gives no value. An event's identifier is the line's second field.
 #[derive(Clone, Copy)]
 pub enum Change {
     Event,
@@ -23,76 +21,59 @@ pub enum Order {
     Open,
     Change(Change),
     Query(u32),
-    Unknown,
 }
 
 // The order of a letter alone.
-fn single(letter: u8) -> Order
+fn single(letter: u8) -> Option<Order>
     ensures { Names letter [] result }
 {
-    if letter == 79 {
-        return Order::Open;
+    match letter {
+        b'O' => Some(Order::Open),
+        b'C' => Some(Order::Change(Change::Close)),
+        b'F' => Some(Order::Change(Change::Flush)),
+        b'M' => Some(Order::Change(Change::Step)),
+        _ => None,
     }
-    if letter == 67 {
-        return Order::Change(Change::Close);
-    }
-    if letter == 70 {
-        return Order::Change(Change::Flush);
-    }
-    if letter == 77 {
-        return Order::Change(Change::Step);
-    }
-    Order::Unknown
 }
 
 // A removal of the window that a field gives.
-fn removal(field: &[u8]) -> Order
+fn removal(field: &[u8]) -> Option<Order>
     ensures { result ≡ remove_order (number_in field.now) }
 {
-    let n = texts::read_number(field);
-    match n {
-        Number::Value(window) => Order::Change(Change::Remove(window)),
-        Number::Nothing => Order::Unknown,
-    }
+    let window = texts::read_number(field)?;
+    Some(Order::Change(Change::Remove(window)))
 }
 
 // A query with as many places as a field gives.
-fn asking(field: &[u8]) -> Order
+fn asking(field: &[u8]) -> Option<Order>
     ensures { result ≡ query_order (number_in field.now) }
 {
-    let n = texts::read_number(field);
-    match n {
-        Number::Value(places) => Order::Query(places),
-        Number::Nothing => Order::Unknown,
-    }
+    let places = texts::read_number(field)?;
+    Some(Order::Query(places))
 }
 
 // The order of a letter and one field.
-fn double(letter: u8, field: &[u8]) -> Order
+fn double(letter: u8, field: &[u8]) -> Option<Order>
     ensures { Names letter (field.now ∷ []) result }
 {
-    if letter == 69 {
-        return Order::Change(Change::Event);
+    match letter {
+        b'E' => Some(Order::Change(Change::Event)),
+        b'R' => removal(field),
+        b'Q' => asking(field),
+        _ => None,
     }
-    if letter == 82 {
-        return removal(field);
-    }
-    if letter == 81 {
-        return asking(field);
-    }
-    Order::Unknown
 }
 
-// The order of a line's fields.
-pub fn order_of(parts: &[&[u8]]) -> Order
+// The order of a line's fields, if they are one.
+pub fn order_of(parts: &[&[u8]]) -> Option<Order>
     ensures { Means (map (λ x. x.now) parts.now) result }
 {
     if parts.len() == 0 {
-        return Order::Unknown;
+        return None;
     }
     let name = parts[0];
     if name.len() != 1 {
-        return Order::Unknown;
+        return None;
     }
     let letter = name[0];
     if parts.len() == 1 {
@@ -102,8 +83,8 @@ pub fn order_of(parts: &[&[u8]]) -> Order
     if parts.len() == 2 {
         return double(letter, field);
     }
-    if letter == 81 {
+    if letter == b'Q' {
         return asking(field);
     }
-    Order::Unknown
+    None
 }

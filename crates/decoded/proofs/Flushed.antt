@@ -1,5 +1,5 @@
 -- After a flush the state and the card hold what the account holds after it.
-use Rattle.lists.proofs.Prelude.{Bool, true, false, ◌||◌, ◌&&◌, not, cond, true≢false, or-false, List, [], ◌∷◌, ◌++◌, map, append-nil, append_assoc, ◌≡◌, refl, sym, ap, ap₂, ◌∙◌, subst, ℕ, ◌*◌, ◌<◌, ◌≤◌, arith, eqb, ltb, length, eqb-true, eqb-false, eq-eqb, ne_eqb, lt-ltb, not-true, AllOf, every, empty, elem, different, same, by-test, and_left, and_right, and_both, or-none, or_right, every_append, any_append, elem-every, different-insert, map-append}
+use Rattle.lists.proofs.Prelude.{Bool, true, false, ◌||◌, ◌&&◌, not, cond, true≢false, or-false, List, [], ◌∷◌, ◌++◌, map, append-nil, append_assoc, ◌≡◌, refl, sym, ap, ap₂, ◌∙◌, subst, ℕ, ◌*◌, ◌<◌, ◌≤◌, arith, eqb, ltb, length, eqb-true, eqb-false, ne_eqb, lt-ltb, not-true, AllOf, every, empty, elem, different, same, by-test, and_left, and_right, and_both, or-none, or_right, every_append, any_append, elem-every, different-insert, map-append}
 use Rattle.lists.proofs.Stores.{joined-append}
 use Rattle.words.specs.Words.{all_ones}
 use Rattle.postings.specs.declared.Posting.{Posting}

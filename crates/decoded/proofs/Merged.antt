@@ -1,5 +1,5 @@
 -- After the step that ends a merge, state and card hold what the account holds after it: the result in its inputs' place, and the inputs' blocks free.
-use Rattle.lists.proofs.Prelude.{Bool, true, false, ◌||◌, ◌&&◌, not, cond, false≢true, List, [], ◌∷◌, ◌++◌, map, append-nil, ◌≡◌, refl, sym, ap, ap₂, ◌∙◌, ℕ, ◌*◌, ◌<◌, ◌≤◌, arith, eqb, length, get_or, take, drop, eq-eqb, AllOf, every, empty, elem, different, by-test, and_left, and_both, every_append, every_take, every_drop, map-append, map-take, map-drop, elem-append, elem-left, elem-right, empty-none, elem-neither}
+use Rattle.lists.proofs.Prelude.{Bool, true, false, ◌||◌, ◌&&◌, not, cond, false≢true, List, [], ◌∷◌, ◌++◌, map, append-nil, ◌≡◌, refl, sym, ap, ap₂, ◌∙◌, ℕ, ◌*◌, ◌<◌, ◌≤◌, arith, length, get_or, take, drop, AllOf, every, empty, elem, different, by-test, and_left, and_both, every_append, every_take, every_drop, map-append, map-take, map-drop, elem-append, elem-left, elem-right, empty-none, elem-neither}
 use Rattle.lists.proofs.Stores.{joined-append}
 use Rattle.words.specs.Words.{all_ones}
 use Rattle.postings.specs.declared.Posting.{Posting}

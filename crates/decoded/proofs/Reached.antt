@@ -1,5 +1,5 @@
 -- What a stretch has read on bytes is what it has read on lists.
-use Rattle.lists.proofs.Prelude.{Bool, true, ◌&&◌, List, ◌++◌, map, ◌≡◌, refl, sym, ap, ap₂, ◌∙◌, fun_ext, ℕ, eqb, leb, eqb-true, length, keep, every, elem, and_left, and_right, every-from, every-keep, every_map, keep-agree, keep-map}
+use Rattle.lists.proofs.Prelude.{Bool, true, ◌&&◌, List, ◌++◌, map, ◌≡◌, sym, ap, ap₂, ◌∙◌, fun_ext, ℕ, eqb, leb, eqb-true, length, keep, every, elem, and_left, and_right, every-from, every-keep, every_map, keep-agree, keep-map}
 use Rattle.postings.specs.declared.Posting.{Posting}
 use Rattle.postings.specs.declared.Stretch.{Stretch}
 use Rattle.postings.specs.Sums.{sum, under, above}

@@ -1,10 +1,9 @@
 -- Query, mean and removals on bytes are those on lists.
-use Rattle.lists.proofs.Prelude.{Bool, true, ◌||◌, ◌&&◌, not, List, [], ◌∷◌, foldr, ◌≡◌, refl, sym, ap, ap₂, ◌∙◌, subst, fun_ext, ℕ, ◌+◌, ◌-◌, eqb, ltb, leb, length, replicate, length-replicate, keep, every, elem, total_by, and_both, every_map}
+use Rattle.lists.proofs.Prelude.{Bool, true, ◌||◌, ◌&&◌, not, List, [], ◌∷◌, foldr, ◌≡◌, refl, sym, ap, ap₂, ◌∙◌, subst, fun_ext, ℕ, ◌+◌, ◌-◌, eqb, ltb, leb, length, replicate, length-replicate, every, total_by, and_both, every_map}
 use Rattle.words.specs.Words.{words}
 use Rattle.postings.specs.declared.Posting.{Posting}
 use Rattle.postings.specs.declared.Stretch.{Stretch}
 use Rattle.postings.specs.Merge.{put, nonzero, negated}
-use Rattle.postings.specs.Sums.{sum, under, above}
 use Rattle.answers.specs.Answers.{Answer, done, hits, leave, in_turn}
 use Rattle.answers.specs.declared.Hit.{Hit}
 use Rattle.state.specs.declared.Lengths.{Lengths}
@@ -17,7 +16,7 @@ use Rattle.state.specs.Shown.{shown_in}
 use Rattle.identifiers.specs.Names.{Name, numbers_of}
 use Rattle.identifiers.specs.Register.{register_rule}
 use Rattle.partitions.specs.Reading.{postings_of, in_partitions, stored}
-use Rattle.partitions.specs.Formed.{partitions_formed, list_rule, sums_in_range, identifier_formed}
+use Rattle.partitions.specs.Formed.{partitions_formed, list_rule, sums_in_range}
 use Rattle.flushes.specs.Flush.{flushing_if}
 use Rattle.ranking.specs.Hits.{frequency, ranked}
 use Rattle.averages.specs.Average.{total, averaged}

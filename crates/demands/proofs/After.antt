@@ -20,7 +20,7 @@ use Rattle.partitions.specs.Reading.{postings_of}
 use Rattle.partitions.specs.Formed.{span_rule}
 use Rattle.plans.specs.Merging.{taking, result, output_blocks, progress}
 use Rattle.plans.specs.Step.{in_progress}
-use Rattle.ranking.specs.Hits.{frequency, ranked}
+use Rattle.ranking.specs.Hits.{frequency}
 use Rattle.averages.specs.Average.{total, averaging}
 use Rattle.means.specs.Mean.{mean_of}
 use Rattle.queries.specs.Query.{query_of}

@@ -1,5 +1,8 @@
 -- The three demands as theorems, each under a plain sentence. Who believes the definitions that they name, and the promises of the public functions,
 -- which equate result and lent buffers with those definitions, need read no further: every proof here cites a law.
+use Rattle.std.specs.Prelude.{Result, ⊤}
+use Rattle.answers.specs.declared.Refusal.{Refusal}
+use Rattle.answers.specs.declared.Mean.{Mean}
 use Rattle.lists.proofs.Prelude.{true, false, ◌||◌, ◌&&◌, cond, List, [], ◌∷◌, ◌++◌, map, ◌≡◌, sym, ap, ◌∙◌, ℕ, ◌+◌, ◌-◌, ◌*◌, ◌/◌, ◌^◌, ◌≤◌, ◌<◌, eqb, ltb, leb, pos, length, get_or, any, elem, every, empty, different}
 use Rattle.words.specs.Words.{words, all_ones, Below}
 use Rattle.weights.specs.Weights.{sixteenths, tf_weight, idf_weight}
@@ -10,7 +13,6 @@ use Rattle.postings.specs.Merge.{pairs}
 use Rattle.postings.specs.Sums.{sum}
 use Rattle.answers.specs.Answers.{Answer, done, hits, mean, refused, answer_of, state_of, carry}
 use Rattle.answers.specs.declared.Found.{Found}
-use Rattle.answers.specs.declared.Averaged.{Averaged}
 use Rattle.answers.specs.declared.Forecast.{Forecast}
 use Rattle.answers.specs.declared.Hit.{Hit}
 use Rattle.state.specs.declared.State.{State}
@@ -33,8 +35,7 @@ use Rattle.partitions.proofs.Kept.{rule-written, lists-written, postings-written
 use Rattle.windows.specs.Calls.{fresh, start_of, unstarted}
 use Rattle.events.specs.Event.{event_of}
 use Rattle.windows.specs.Promises.{probe_of}
-use Rattle.windows.specs.declared.Opening.{Opening}
-use Rattle.windows.specs.declared.Replied.{Replied}
+use Rattle.windows.specs.declared.After.{After}
 use Rattle.windows.proofs.Refused.{start-unchanged}
 use Rattle.stretches.specs.Reached.{read_by, whole}
 use Rattle.queries.specs.Query.{count_in, numbers, taken_up, query_formed, fill, existing_on, query_of}
@@ -77,43 +78,43 @@ use Rattle.demands.proofs.After.{by-books, listing-by-ledger, whole-left, hits-k
 -- ==== 1. Every call does what the page says, on every input
 
 -- Two results that keep the promise of one call on the same input are equal: the answer, the state and every buffer at exit. For each public function:
-pub one-start : (card register : List ℕ) (x y : Replied) (card₁ register₁ card₂ register₂ : List ℕ) → Starts card register x card₁ register₁ → Starts card register y card₂ register₂
+pub one-start : (card register : List ℕ) (x y : After ⊤) (card₁ register₁ card₂ register₂ : List ℕ) → Starts card register x card₁ register₁ → Starts card register y card₂ register₂
     → (x ≡ y) × (card₁ ≡ card₂) × (register₁ ≡ register₂)
 one-start card register x y card₁ register₁ card₂ register₂ g h = one-probe x y g h
 
-pub one-open : (s : State) (x y : Opening) → Opens s x → Opens s y → x ≡ y
+pub one-open : (s : State) (x y : After ℕ) → Opens s x → Opens s y → x ≡ y
 one-open s x y g h = one-opening x y g h
 
-pub one-event : (s : State) (card register : List ℕ) (id : Name) (x y : Replied) (card₁ register₁ card₂ register₂ : List ℕ)
+pub one-event : (s : State) (card register : List ℕ) (id : Name) (x y : After ⊤) (card₁ register₁ card₂ register₂ : List ℕ)
     → Counts s card register id x card₁ register₁ → Counts s card register id y card₂ register₂ → (x ≡ y) × (card₁ ≡ card₂) × (register₁ ≡ register₂)
 one-event s card register id x y card₁ register₁ card₂ register₂ g h = one-probe x y g h
 
-pub one-close : (s : State) (x y : Replied) → Closes s x → Closes s y → x ≡ y
+pub one-close : (s : State) (x y : After ⊤) → Closes s x → Closes s y → x ≡ y
 one-close s x y g h = one_state x y g h
 
-pub one-removal : (s : State) (card : List ℕ) (window : ℕ) (x y : Replied) (card₁ card₂ : List ℕ) → Removes s card window x card₁ → Removes s card window y card₂ → (x ≡ y) × (card₁ ≡ card₂)
+pub one-removal : (s : State) (card : List ℕ) (window : ℕ) (x y : After ⊤) (card₁ card₂ : List ℕ) → Removes s card window x card₁ → Removes s card window y card₂ → (x ≡ y) × (card₁ ≡ card₂)
 one-removal s card window x y card₁ card₂ g h = one_store x y g h
 
-pub one-removals : (s : State) (card windows : List ℕ) (x y : Replied) (card₁ card₂ : List ℕ) → RemovesAll s card windows x card₁ → RemovesAll s card windows y card₂ → (x ≡ y) × (card₁ ≡ card₂)
+pub one-removals : (s : State) (card windows : List ℕ) (x y : After ⊤) (card₁ card₂ : List ℕ) → RemovesAll s card windows x card₁ → RemovesAll s card windows y card₂ → (x ≡ y) × (card₁ ≡ card₂)
 one-removals s card windows x y card₁ card₂ g h = one_store x y g h
 
-pub one-flush : (s : State) (card : List ℕ) (x y : Replied) (card₁ card₂ : List ℕ) → Flushes s card x card₁ → Flushes s card y card₂ → (x ≡ y) × (card₁ ≡ card₂)
+pub one-flush : (s : State) (card : List ℕ) (x y : After ⊤) (card₁ card₂ : List ℕ) → Flushes s card x card₁ → Flushes s card y card₂ → (x ≡ y) × (card₁ ≡ card₂)
 one-flush s card x y card₁ card₂ g h = one_store x y g h
 
-pub one-step : (s : State) (card : List ℕ) (x y : Replied) (card₁ card₂ : List ℕ) → Steps s card x card₁ → Steps s card y card₂ → (x ≡ y) × (card₁ ≡ card₂)
+pub one-step : (s : State) (card : List ℕ) (x y : After ⊤) (card₁ card₂ : List ℕ) → Steps s card x card₁ → Steps s card y card₂ → (x ≡ y) × (card₁ ≡ card₂)
 one-step s card x y card₁ card₂ g h = one_store x y g h
 
-pub one-query : (s : State) (card register : List ℕ) (t : Stretch) (ids : List Name) (places : List Hit) (x y : Found) (places₁ places₂ : List Hit)
+pub one-query : (s : State) (card register : List ℕ) (t : Stretch) (ids : List Name) (places : List Hit) (x y : Result Found Refusal) (places₁ places₂ : List Hit)
     → Asks s card register t ids places x places₁ → Asks s card register t ids places y places₂ → (x ≡ y) × (places₁ ≡ places₂)
 one-query s card register t ids places x y places₁ places₂ g h = one_list x y places₁ places₂ g.0 h.0 g.1 h.1
 
 pub one-query-value : (s : State) (card register : List ℕ) (t : Stretch) (ids : List Name) (places : ℕ) (x y : Answered) → AsksValue s card register t ids places x → AsksValue s card register t ids places y → x ≡ y
 one-query-value s card register t ids places x y g h = one_found (answered (probe_of s card register) t ids places) places x y g h
 
-pub one-mean : (s : State) (card register : List ℕ) (id : Name) (x y : Averaged) → Averages s card register id x → Averages s card register id y → x ≡ y
+pub one-mean : (s : State) (card register : List ℕ) (id : Name) (x y : Result Mean Refusal) → Averages s card register id x → Averages s card register id y → x ≡ y
 one-mean s card register id x y g h = one-averaged x y (g ∙ sym h)
 
-pub one-forecast : (s : State) (register plan counts : List ℕ) (x y : Forecast) → Foretells s register plan counts x → Foretells s register plan counts y → x ≡ y
+pub one-forecast : (s : State) (register plan counts : List ℕ) (x y : Result Forecast Refusal) → Foretells s register plan counts x → Foretells s register plan counts y → x ≡ y
 one-forecast s register plan counts x y g h = one-forecasted x y (g ∙ sym h)
 
 -- A start on any bytes of lengths within the limits is done, and leaves the fresh state, card and register.

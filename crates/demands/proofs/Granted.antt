@@ -9,7 +9,7 @@ use Rattle.state.specs.declared.State.{State}
 use Rattle.state.specs.Views.{register_size}
 use Rattle.state.specs.Rules.{state_rule}
 use Rattle.state.specs.Probe.{Probe, has_length}
-use Rattle.state.specs.Shown.{within, shows, shows_in, shown_in}
+use Rattle.state.specs.Shown.{shows_in, shown_in}
 use Rattle.identifiers.specs.Names.{Name, bad_length, among}
 use Rattle.identifiers.specs.Register.{names, register_rule, added}
 use Rattle.identifiers.proofs.Added.{good_length, names-added}

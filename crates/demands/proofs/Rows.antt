@@ -1,11 +1,13 @@
 -- Calls in a row that keep the promises of the public functions are the calls on one probe: the same answers, and the same probe between them.
+use Rattle.std.specs.Prelude.{Result}
+use Rattle.answers.specs.declared.Refusal.{Refusal}
+use Rattle.answers.specs.declared.Mean.{Mean as Averaged}
 use Rattle.lists.proofs.Prelude.{Bool, true, false, ◌&&◌, List, ◌∷◌, ◌≡◌, refl, sym, ap, ap₂, ◌∙◌, ℕ, arith, length, replicate, length-replicate}
 use Rattle.words.specs.Words.{words}
 use Rattle.postings.specs.declared.Stretch.{Stretch}
 use Rattle.answers.specs.Answers.{Answer, done, refused, Outcome, refuse, leave, refuse_if, hits, answer_of, state_of, carry}
 use Rattle.answers.specs.Numbers.{found_as, averaged_as, forecast_as}
 use Rattle.answers.specs.declared.Found.{Found}
-use Rattle.answers.specs.declared.Averaged.{Averaged}
 use Rattle.answers.specs.declared.Forecast.{Forecast}
 use Rattle.answers.specs.declared.Hit.{Hit}
 use Rattle.state.specs.declared.State.{State}
@@ -127,17 +129,17 @@ module _ (p : Probe) where
   query-is : (t : Stretch) (ns : List Name) (places : List Hit) (x : Answer) (l : List Hit) → Gives places (query_of p t ns places) x l → Is p (Query (length places) t ns) x p
   query-is t ns places x l g = (g.answer ∙ query-called p t ns places, query-left (length places) t ns)
 
-  value-is : (t : Stretch) (ns : List Name) (k : ℕ) (a : Found) (u : Top) → Finds (answered p t ns k) k a u → Is p (Query k t ns) (found_as a u.hits) p
+  value-is : (t : Stretch) (ns : List Name) (k : ℕ) (a : Result Found Refusal) (u : Top) → Finds (answered p t ns k) k a u → Is p (Query k t ns) (found_as a u.hits) p
   unfolding probe_call
   value-is t ns k a u f = (f.answer ∙ sym (answer-carry (λ (l : List Hit). p) (query_of p t ns (replicate k no_hit))), query-left k t ns)
 
   -- a mean leaves it too
-  mean-is : (n : Name) (a : Averaged) → averaged_as a ≡ answer_of (mean_of p n) → Is p (Mean n) (averaged_as a) p
+  mean-is : (n : Name) (a : Result Averaged Refusal) → averaged_as a ≡ answer_of (mean_of p n) → Is p (Mean n) (averaged_as a) p
   unfolding probe_call
   mean-is n a e = (e ∙ mean-called p n, sym (state-carry (λ (u : Unit {0}). p) tt (mean_of p n)))
 
   -- and so does a forecast
-  forecast-is : (plan counts : List ℕ) (a : Forecast) → forecast_as a ≡ answer_of (forecast_of p.state p.register plan counts) → Is p (calls.Forecast plan counts) (forecast_as a) p
+  forecast-is : (plan counts : List ℕ) (a : Result Forecast Refusal) → forecast_as a ≡ answer_of (forecast_of p.state p.register plan counts) → Is p (calls.Forecast plan counts) (forecast_as a) p
   unfolding probe_call
   forecast-is plan counts a e =
       let o = forecast_of p.state p.register plan counts in

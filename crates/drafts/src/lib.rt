@@ -19,12 +19,18 @@ use card::Marks;
 use inputs::Batch;
 use state::Partitions;
 
-// Whether the output in progress holds what it should, how many postings that is, and the pairs that come next.
+// How many postings an output in progress should hold, and the pairs that come next.
 #[derive(Clone, Copy)]
 pub struct Draft {
-    pub ok: bool,
     pub written: u32,
     pub batch: Batch,
+}
+
+// A draft, and whether the output holds it. No Option of a draft: `read_draft` tells it of an output that does not hold it too.
+#[derive(Clone, Copy)]
+pub struct Reading {
+    pub held: bool,
+    pub draft: Draft,
 }
 
 // Whether the blocks of partitions are apart from marks, and from each other.
@@ -32,17 +38,12 @@ fn apart_from(card: &[u8], marks: Marks, ps: Partitions) -> bool
     requires { (ps.used ≤ 51) × AllChained (words_of card.now) (finished ps) }
     ensures { result ≡ unmarked marks (chains_of (words_of card.now) (finished ps)) }
 {
-    let n = ps.used as usize;
     let mut m = marks;
-    let mut i: usize = 0;
-    while i < n {
-        let p = ps.records[i];
-        let k = card::mark_chain(card, m, p.first, partitions::blocks_for(p.length));
-        if !k.apart {
+    for p in ps.finished() {
+        let Some(k) = card::mark_chain(card, m, p.first, partitions::blocks_for(p.length)) else {
             return false;
-        }
-        m = k.marks;
-        i += 1;
+        };
+        m = k;
     }
     true
 }
@@ -52,11 +53,10 @@ pub fn stands_apart(card: &[u8], first: u16, n: u32, ps: Partitions) -> bool
     requires { (ps.used ≤ 51) × AllChained (words_of card.now) (finished ps) × Chained (words_of card.now) first n }
     ensures { result ≡ stands_apart (words_of card.now) first n (finished ps) }
 {
-    let k = card::mark_chain(card, card::no_marks(), first, n);
-    if !k.apart {
+    let Some(k) = card::mark_chain(card, card::no_marks(), first, n) else {
         return false;
-    }
-    apart_from(card, k.marks, ps)
+    };
+    apart_from(card, k, ps)
 }
 
 // The pairs that a merge takes first.
@@ -73,15 +73,22 @@ pub fn first_batch(card: &[u8], ps: Partitions) -> Batch
 }
 
 // Reads the output in the n blocks from `first` on, of which `front` words are for header and entries, after `passed` pairs of the inputs.
-pub fn read_draft(card: &[u8], ps: Partitions, first: u16, n: u32, front: u32, passed: u32) -> Draft
+pub fn read_draft(
+    card: &[u8],
+    ps: Partitions,
+    first: u16,
+    n: u32,
+    front: u32,
+    passed: u32,
+) -> Reading
     requires { (ps.used ≤ 8) × AllOf (Readable (words_of card.now)) (finished ps) × (inputs_formed (words_of card.now) (finished ps) ≡ true)
         × Chained (words_of card.now) first n × (1023 * n < 4294967296)
         × (front + length (nonzero (pairs_of (in_partitions (words_of card.now) (finished ps)))) ≤ 1023 * n) }
-    ensures { (result.ok ≡ holds_draft (words_of card.now) first n front passed (pairs_of (in_partitions (words_of card.now) (finished ps))))
-        × (result.written ≡ length (nonzero (take passed (pairs_of (in_partitions (words_of card.now) (finished ps))))))
-        × (batched result.batch ≡ nonzero (take 16 (drop passed (pairs_of (in_partitions (words_of card.now) (finished ps))))))
-        × (result.batch.taken ≡ length (take 16 (drop passed (pairs_of (in_partitions (words_of card.now) (finished ps))))))
-        × (result.batch.used ≤ 16) }
+    ensures { (result.held ≡ holds_draft (words_of card.now) first n front passed (pairs_of (in_partitions (words_of card.now) (finished ps))))
+        × (result.draft.written ≡ length (nonzero (take passed (pairs_of (in_partitions (words_of card.now) (finished ps))))))
+        × (batched result.draft.batch ≡ nonzero (take 16 (drop passed (pairs_of (in_partitions (words_of card.now) (finished ps))))))
+        × (result.draft.batch.taken ≡ length (take 16 (drop passed (pairs_of (in_partitions (words_of card.now) (finished ps))))))
+        × (result.draft.batch.used ≤ 16) }
 {
     let k = ps.used as usize;
     let head = card::seek(card, first, n, 0, front);
@@ -93,9 +100,11 @@ pub fn read_draft(card: &[u8], ps: Partitions, first: u16, n: u32, front: u32, p
     let p = inputs::pass(card, &mut heads, k, top, passed, out);
     let rest = outputs::rest_free(card, p.out);
     let b = inputs::sixteen(card, &mut heads, k, p.top);
-    Draft {
-        ok: kway::both(kway::both(space, p.same), rest),
-        written: room - p.out.left,
-        batch: b,
+    Reading {
+        held: space & p.same & rest,
+        draft: Draft {
+            written: room - p.out.left,
+            batch: b,
+        },
     }
 }

@@ -1,4 +1,6 @@
 -- What counting an event asks for, from its admission and its flush's target.
+use Rattle.std.specs.Prelude.{Option, None, Result, Ok}
+use Rattle.answers.specs.declared.Refusal.{Refusal}
 use Rattle.lists.proofs.Prelude.{Bool, true, false, ◌&&◌, not, List, [], ◌≡◌, refl, sym, ap, subst, ◌∙◌, ℕ, ◌/◌, ◌<◌, ◌≤◌, arith, eqb, leb, length, length-take, leb-false, eqb-true, eqb-false, not-false, any, elem, empty, by-test, empty-length}
 use Rattle.postings.specs.Order.{same_pair}
 use Rattle.state.specs.declared.State.{State}
@@ -10,7 +12,6 @@ use Rattle.identifiers.specs.Names.{Name, number_of}
 use Rattle.identifiers.specs.Register.{names, register_rule}
 use Rattle.identifiers.proofs.Names.{number-within, number-full}
 use Rattle.identifiers.proofs.Entries.{names-within, length-entries, rule-formed}
-use Rattle.flushes.specs.declared.Target.{Target}
 use Rattle.flushes.specs.Flush.{flushed_to}
 use Rattle.events.specs.Event.{is_new, once, event_flushes}
 use Rattle.flushes.specs.Targets.{Aimed}
@@ -43,7 +44,7 @@ room-plain len there h e f =
     (λ n. let z = eqb-false len 128 n in omega arith)
 
 -- a target judged with the test as the code makes it
-pub judged : (s : State) (i : ℕ) (card : List ℕ) (wanted : Bool) (t : Target)
+pub judged : (s : State) (i : ℕ) (card : List ℕ) (wanted : Bool) (t : Result (Option ℕ) Refusal)
     → wanted ≡ (eqb (length (buffered s.buffer)) 128 && not (any (same_pair (once s i)) (buffered s.buffer))) → Aimed wanted s card t → Aimed (event_flushes s i) s card t
 unfolding event_flushes
 judged s i card wanted t e a = subst (λ (w : Bool). Aimed w s card t) e a
@@ -73,7 +74,7 @@ module _ (p : Probe) (n : Name) (i : ℕ) (a : Admitted p n i) where
   listed-room f = leb-false _ _ (and_none _ _ a.room (rw a.number at f))
 
   -- without a flush
-  pub countable-plain : Aimed (event_flushes p.state i) p.state p.card Target.Nothing → Countable p.state i
+  pub countable-plain : Aimed (event_flushes p.state i) p.state p.card (Ok None) → Countable p.state i
   unfolding event_flushes
   countable-plain e =
       let s = p.state in

@@ -1,5 +1,6 @@
 -- What an event comes to, by what is judged first and by its turn.
-use Rattle.lists.proofs.Prelude.{Bool, true, false, not, List, [], ◌∷◌, ◌≡◌, refl, ap, ◌∙◌, arith, eqb, leb, not-false, Bool·not-not}
+use Rattle.std.specs.Prelude.{Result, Ok, Err}
+use Rattle.lists.proofs.Prelude.{ℕ, Bool, true, false, not, List, [], ◌∷◌, ◌≡◌, refl, ap, ◌∙◌, arith, eqb, leb, not-false, Bool·not-not}
 use Rattle.answers.specs.declared.Refusal.{Refusal}
 use Rattle.answers.specs.Answers.{Outcome, leave, done}
 use Rattle.answers.specs.Numbers.{refusal_number}
@@ -13,7 +14,6 @@ use Rattle.admission.proofs.Laws.{barred, granted, probe-sound, register-size}
 use Rattle.flushes.specs.Flush.{flushing_if}
 use Rattle.windows.specs.Calls.{is_open}
 use Rattle.events.specs.Event.{number_for, event_flushes, counted, register_full, window_full, registered, event_of}
-use Rattle.events.specs.declared.Verdict.{Verdict}
 use Rattle.events.specs.Verdicts.{Judged, turn_tests, Turned}
 use Rattle.events.proofs.Counts.{placed}
 
@@ -41,7 +41,7 @@ module _ (p : Probe) (n : Name) where
       (λ s card. leave done (record { state = counted s (number_for p n); card = card; register = registered p.register n }))
 
   -- refused by what is judged first
-  pub event-first : (why : Refusal) → refusal_number why ≡ first_of (1 ∷ 2 ∷ 3 ∷ []) earlier → Judged p n (Verdict.Refused why)
+  pub event-first : (why : Refusal) → refusal_number why ≡ first_of (1 ∷ 2 ∷ 3 ∷ []) earlier → Judged p n (Err why)
   unfolding event_of
   event-first why e = barred (past 3 order.event) later after (1 ∷ 2 ∷ 3 ∷ []) earlier why e
 
@@ -52,12 +52,12 @@ module _ (p : Probe) (n : Name) where
         rw (placed p.state p.register n k.formed (register-size p.state.lengths p.card p.register k.lengths), Bool·not-not (eqb p.state.windows.current 0))
 
     -- judged by its turn
-    pub event-judged : (v : Verdict) → Turned p.state.windows p.state.listed p.register n v → Judged p n v
+    pub event-judged : (v : Result ℕ Refusal) → Turned p.state.windows p.state.listed p.register n v → Judged p n v
     unfolding event_of
-    event-judged (Verdict.Refused why) e =
+    event-judged (Err why) e =
         granted (past 3 order.event) later after (1 ∷ 2 ∷ 3 ∷ []) earlier refl refl told
         ∙ barred [] [] after (past 3 order.event) later why (e ∙ ap (first_of (past 3 order.event)) same_tests)
-    event-judged (Verdict.Number i) e =
+    event-judged (Ok i) e =
         let k = probe-sound (state_rule p.state) p.state.lengths p.card p.register told in
         let h = five (bad_length n) (not (is_open p.state)) (leb 32767 p.state.windows.events) (register_full p n) (window_full p n) (e.0 ∙ ap (first_of (past 3 order.event)) same_tests) in
         record {

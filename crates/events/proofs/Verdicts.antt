@@ -1,4 +1,5 @@
 -- What an event that is admitted comes to, by its flush's target.
+use Rattle.std.specs.Prelude.{Some, None, Ok, Err}
 use Rattle.lists.proofs.Prelude.{List, ◌≡◌, ◌∙◌, ℕ, ◌<◌, leb-false}
 use Rattle.words.specs.Words.{words, bytes}
 use Rattle.answers.specs.declared.Refusal.{Refusal}
@@ -7,7 +8,6 @@ use Rattle.answers.specs.Numbers.{refusal_number}
 use Rattle.state.specs.declared.State.{State}
 use Rattle.state.specs.Probe.{Probe}
 use Rattle.identifiers.specs.Names.{Name}
-use Rattle.flushes.specs.declared.Target.{Target}
 use Rattle.flushes.specs.Flush.{flushing_if, flushed_to, flushed_card}
 use Rattle.events.specs.Event.{event_flushes, counted, registered, event_of}
 use Rattle.flushes.specs.Targets.{Aimed}
@@ -35,14 +35,14 @@ module _ (p : Probe) (n : Name) (i : ℕ) (a : Admitted p n i) where
   event-admitted = rw (a.rule, a.lengths, a.formed, a.good, a.current, a.events, a.place, a.room, a.number)
 
   -- refused by its flush
-  pub event-barred : (why : Refusal) → Aimed (event_flushes p.state i) p.state p.card (Target.Refused why) → Gives p (event_of p n) (refused (refusal_number why)) p
+  pub event-barred : (why : Refusal) → Aimed (event_flushes p.state i) p.state p.card (Err why) → Gives p (event_of p n) (refused (refusal_number why)) p
   event-barred why f = gives-by _ _ (event-admitted ∙ follows-refused after _ p.state p.card why f) (refuses _)
 
   -- counted without a flush
-  pub event-plain : Aimed (event_flushes p.state i) p.state p.card Target.Nothing → Gives p (event_of p n) done (probe_of (counted p.state i) p.card (registered p.register n))
+  pub event-plain : Aimed (event_flushes p.state i) p.state p.card (Ok None) → Gives p (event_of p n) done (probe_of (counted p.state i) p.card (registered p.register n))
   event-plain f = gives-by _ _ (event-admitted ∙ follows-plain after _ p.state p.card f) (leaves _ _)
 
   -- counted after a flush
-  pub event-flushed : (b : ℕ) → Aimed (event_flushes p.state i) p.state p.card (Target.Block b)
+  pub event-flushed : (b : ℕ) → Aimed (event_flushes p.state i) p.state p.card (Ok (Some b))
       → Gives p (event_of p n) done (probe_of (counted (flushed_to p.state b) i) (bytes (flushed_card p.state (words p.card) b)) (registered p.register n))
   event-flushed b f = gives-by _ _ (event-admitted ∙ follows-written after _ p.state p.card b f) (leaves _ _)

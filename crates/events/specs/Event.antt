@@ -1,4 +1,5 @@
 -- The event: what it answers and leaves, for every input.
+use Rattle.std.specs.Prelude.{⊤}
 use Rattle.std.specs.Prelude.{Bool, ◌&&◌, not, cond, List, [], ◌∷◌, ◌++◌, ℕ, suc, eqb, leb, pos, length}
 use Rattle.lists.specs.Lists.{any, elem}
 use Rattle.postings.specs.declared.Posting.{Posting}
@@ -17,7 +18,7 @@ use Rattle.admission.specs.Admission.{same_lengths}
 use Rattle.flushes.specs.Flush.{flushing_if}
 use Rattle.windows.specs.Calls.{is_open}
 use Rattle.answers.specs.Numbers.{replied}
-use Rattle.windows.specs.declared.Replied.{Replied}
+use Rattle.windows.specs.declared.After.{After}
 use Rattle.windows.specs.Promises.{Gives}
 
 -- one count of identifier i in the open window
@@ -74,6 +75,6 @@ event_of p n =
     (λ s card. leave done (record { state = counted s (number_for p n); card = card; register = registered p.register n })))
 
 -- what an event promises
-abbrev pub Counts : (s : State) (card register : List ℕ) (id : Name) (r : Replied) (card' register' : List ℕ) → Type 0
+abbrev pub Counts : (s : State) (card register : List ℕ) (id : Name) (r : After ⊤) (card' register' : List ℕ) → Type 0
 Counts s card register id r card' register' =
-    Gives (probe_of s card register) (event_of (probe_of s card register) id) (replied r.reply) (probe_of r.state card' register')
+    Gives (probe_of s card register) (event_of (probe_of s card register) id) (replied r.answer) (probe_of r.state card' register')

@@ -1,4 +1,6 @@
 -- What an event comes to before anything is written: the number of its identifier, or a refusal.
+use Rattle.std.specs.Prelude.{Result, Ok, Err}
+use Rattle.answers.specs.declared.Refusal.{Refusal}
 use Rattle.std.specs.Prelude.{Bool, true, false, ◌&&◌, not, List, [], ◌∷◌, ◌≡◌, ℕ, ◌+◌, ◌*◌, ◌/◌, ◌<◌, ◌≤◌, eqb, leb, length}
 use Rattle.lists.specs.Lists.{any, elem}
 use Rattle.postings.specs.Order.{same_pair}
@@ -17,7 +19,6 @@ use Rattle.identifiers.specs.Register.{names, register_rule}
 use Rattle.admission.specs.Admission.{first_of, same_lengths}
 use Rattle.windows.specs.Calls.{is_open}
 use Rattle.events.specs.Event.{once, number_for, register_full, window_full, event_of}
-use Rattle.events.specs.declared.Verdict.{Verdict}
 
 -- an event that none of refusals 1 to 9 stops, and its identifier's number
 pub record Admitted (p : Probe) (n : Name) (i : ℕ) : Type 0 where
@@ -32,9 +33,9 @@ pub record Admitted (p : Probe) (n : Name) (i : ℕ) : Type 0 where
   pub number : i ≡ number_for p n
 
 -- a verdict tells what the event comes to: its refusal, or that its flush and then its count are what is left
-abbrev pub Judged : Probe → Name → Verdict → Type 0
-Judged p n (Verdict.Refused why) = event_of p n ≡ refuse (refusal_number why)
-Judged p n (Verdict.Number i) = Admitted p n i
+abbrev pub Judged : Probe → Name → Result ℕ Refusal → Type 0
+Judged p n (Err why) = event_of p n ≡ refuse (refusal_number why)
+Judged p n (Ok i) = Admitted p n i
 
 -- refusals 5 to 9 of an event of the identifier with a number, by the parts that they look at, with room for so many identifiers: a new one finds none where
 -- its number is no place
@@ -50,12 +51,12 @@ abbrev pub turn_tests : Windows → Listed → List ℕ → Name → List Bool
 turn_tests w l register n = tests_among w l (length register / 65) (names register) n
 
 -- a verdict by tests with these numbers, of an identifier with the number m
-abbrev pub Weighed : List ℕ → List Bool → ℕ → Verdict → Type 0
-Weighed ns ts m (Verdict.Refused why) = refusal_number why ≡ first_of ns ts
-Weighed ns ts m (Verdict.Number i) = (0 ≡ first_of ns ts) × (i ≡ m)
+abbrev pub Weighed : List ℕ → List Bool → ℕ → Result ℕ Refusal → Type 0
+Weighed ns ts m (Err why) = refusal_number why ≡ first_of ns ts
+Weighed ns ts m (Ok i) = (0 ≡ first_of ns ts) × (i ≡ m)
 
 -- a verdict of refusals 4 to 9
-abbrev pub Turned : Windows → Listed → List ℕ → Name → Verdict → Type 0
+abbrev pub Turned : Windows → Listed → List ℕ → Name → Result ℕ Refusal → Type 0
 Turned w l register n v = Weighed (past 3 order.event) (turn_tests w l register n) (number_of (names register) n) v
 
 -- an identifier of a good length has its number's entry in the register, used or not

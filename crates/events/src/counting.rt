@@ -9,10 +9,9 @@ ghost use Rattle.buffer.specs.Places.{pair};
 ghost use Rattle.events.specs.Event.{registered, counted};
 ghost use Rattle.events.specs.Verdicts.{Countable, Placed};
 
-use answers::Reply;
 use postings::Posting;
 use state::{Buffer, Listed, State, Windows};
-use windows::Replied;
+use windows::After;
 
 // Is the pair new to a full buffer?
 pub fn must_flush(b: Buffer, i: u16, window: u16) -> bool
@@ -31,10 +30,8 @@ pub fn count_window(w: Windows) -> Windows
     ensures { result ≡ record { last = w.last; live = w.live; current = w.current; events = suc w.events } }
 {
     Windows {
-        last: w.last,
-        live: w.live,
-        current: w.current,
         events: w.events + 1,
+        ..w
     }
 }
 
@@ -70,11 +67,12 @@ fn count_event(s: State, i: u16) -> State
     let w = count_window(s.windows);
     let l = count_listed(s.listed, i);
     let b = count_pair(s.buffer, s.windows, i);
-    let mut t = s;
-    t.windows = w;
-    t.listed = l;
-    t.buffer = b;
-    t
+    State {
+        windows: w,
+        listed: l,
+        buffer: b,
+        ..s
+    }
 }
 
 // The register gets an identifier that it has not.
@@ -89,9 +87,9 @@ fn note(register: &mut [u8], id: &[u8], i: u16)
 }
 
 // The event counted, and its identifier in the register.
-pub fn enter(s: State, register: &mut [u8], id: &[u8], i: u16) -> Replied
+pub fn enter(s: State, register: &mut [u8], id: &[u8], i: u16) -> After<()>
     requires { Countable s i × Placed register.old id.now i }
-    ensures { (result ≡ record { reply = Reply.Done; state = counted s i }) × (register.new ≡ registered register.old id.now) }
+    ensures { (result ≡ record { answer = Ok tt; state = counted s i }) × (register.new ≡ registered register.old id.now) }
 {
     note(register, id, i);
     windows::done(count_event(s, i))

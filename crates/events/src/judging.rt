@@ -7,8 +7,6 @@ ghost use Rattle.identifiers.specs.Register.{register_rule};
 ghost use Rattle.windows.specs.Promises.{probe_of};
 ghost use Rattle.events.specs.Verdicts.{Judged, number_tests, Weighed, Turned};
 
-use super::Verdict;
-use admission::Admission;
 use answers::Refusal;
 use state::{Listed, State, Windows};
 
@@ -22,32 +20,32 @@ fn is_full(l: Listed, i: u16) -> bool
 
 // Judges the turn of an identifier by its number: the open window, its events, and the room for the identifier. A new one has the number of those that there
 // are, which is no place where there is no room for it.
-pub fn judge_number(w: Windows, l: Listed, room: usize, i: usize) -> Verdict
+pub fn judge_number(w: Windows, l: Listed, room: usize, i: usize) -> Result<u16, Refusal>
     requires { (l.used ≤ 64) × (room ≤ 1024) }
     ensures { Weighed (past 4 event) (number_tests w l room i) i result }
 {
     if w.current == 0 {
-        return Verdict::Refused(Refusal::OutOfTurn);
+        return Err(Refusal::OutOfTurn);
     }
     if w.events >= 32767 {
-        return Verdict::Refused(Refusal::Exhausted);
+        return Err(Refusal::Exhausted);
     }
     if i >= room {
-        return Verdict::Refused(Refusal::RegisterFull);
+        return Err(Refusal::RegisterFull);
     }
     if is_full(l, i as u16) {
-        return Verdict::Refused(Refusal::WindowFull);
+        return Err(Refusal::WindowFull);
     }
-    Verdict::Number(i as u16)
+    Ok(i as u16)
 }
 
 // Judges an event's identifier and its turn, where refusals 1 to 3 are ruled out.
-fn judge_turn(w: Windows, l: Listed, register: &[u8], id: &[u8]) -> Verdict
+fn judge_turn(w: Windows, l: Listed, register: &[u8], id: &[u8]) -> Result<u16, Refusal>
     requires { (l.used ≤ 64) × (length register.now ≤ 66560) × (register_rule register.now ≡ true) }
     ensures { Turned w l register.now id.now result }
 {
     if identifiers::bad_length(id) {
-        return Verdict::Refused(Refusal::BadIdentifier);
+        return Err(Refusal::BadIdentifier);
     }
     judge_number(
         w,
@@ -57,13 +55,10 @@ fn judge_turn(w: Windows, l: Listed, register: &[u8], id: &[u8]) -> Verdict
     )
 }
 
-// Judges an event.
-pub fn judge_event(s: State, card: &[u8], register: &[u8], id: &[u8]) -> Verdict
+// Judges an event: its identifier's number, or why it is refused before anything is written.
+pub fn judge_event(s: State, card: &[u8], register: &[u8], id: &[u8]) -> Result<u16, Refusal>
     ensures { Judged (probe_of s card.now register.now) id.now result }
 {
-    let a = admission::judge_probe(rules::state_ok(s), s.lengths, card, register);
-    match a {
-        Admission::Refused(why) => Verdict::Refused(why),
-        Admission::Granted => judge_turn(s.windows, s.listed, register, id),
-    }
+    admission::judge_probe(rules::state_ok(s), s.lengths, card, register)?;
+    judge_turn(s.windows, s.listed, register, id)
 }

@@ -1,5 +1,6 @@
 -- What a flush comes to, by its target, and what an outcome gives.
-use Rattle.lists.proofs.Prelude.{true, List, [], ◌≡◌, refl, sym, ◌∙◌, ℕ, arith}
+use Rattle.std.specs.Prelude.{Option, Some, None, Result, Ok, Err}
+use Rattle.lists.proofs.Prelude.{true, List, [], ◌≡◌, refl, ◌∙◌, ℕ}
 use Rattle.answers.specs.declared.Refusal.{Refusal}
 use Rattle.answers.specs.Answers.{Answer, Outcome, refuse, leave, refused}
 use Rattle.answers.specs.Numbers.{refusal_number}
@@ -8,7 +9,6 @@ use Rattle.state.specs.declared.State.{State}
 use Rattle.state.specs.Rules.{state_rule}
 use Rattle.admission.specs.Admission.{first_of, card_tests}
 use Rattle.admission.proofs.Laws.{barred, granted, card-sound}
-use Rattle.flushes.specs.declared.Target.{Target}
 use Rattle.flushes.specs.Flush.{flushing, flushing_if, flush_of}
 use Rattle.flushes.specs.Targets.{written, Aimed, Judged}
 use Rattle.windows.specs.Promises.{Gives, store_of}
@@ -28,7 +28,7 @@ leaves a t = record { answer = refl; left = refl }
 
 module _ (s : State) (card : List ℕ) where
   -- refused before a target is sought
-  pub flush-barred : (why : Refusal) → refusal_number why ≡ first_of order.flush (card_tests (state_rule s) s.lengths card) → Judged s card (Target.Refused why)
+  pub flush-barred : (why : Refusal) → refusal_number why ≡ first_of order.flush (card_tests (state_rule s) s.lengths card) → Judged s card (Err why)
   unfolding flush_of
   flush-barred why e = barred [] [] (flushing s card written) order.flush (card_tests (state_rule s) s.lengths card) why e
 
@@ -38,13 +38,7 @@ module _ (s : State) (card : List ℕ) where
     flush-admitted = granted [] [] (flushing s card written) order.flush (card_tests (state_rule s) s.lengths card) refl refl told ∙ flushing-wanted s card written
 
     -- judged by its target
-    pub flush-judged : (t : Target) → Aimed true s card t → Judged s card t
-    flush-judged (Target.Refused why) a = flush-admitted ∙ a
-    flush-judged Target.Nothing a = flush-admitted ∙ a.0
-    flush-judged (Target.Block b) a = let k = card-sound (state_rule s) s.lengths card told in (flush-admitted ∙ a.0, k.rule, k.size, a.1)
-
--- nothing to write, as the answer's kind tells
-pub nothing-told : (tag : Target → ℕ) → ((b : ℕ) → tag (Target.Block b) ≡ 1) → ((why : Refusal) → tag (Target.Refused why) ≡ 2) → (t : Target) → tag t ≡ 0 → t ≡ Target.Nothing
-nothing-told tag one two Target.Nothing e = refl
-nothing-told tag one two (Target.Block b) e = let z : ◌≡◌ {A = ℕ} 1 0 = sym (one b) ∙ e in absurd (omega arith)
-nothing-told tag one two (Target.Refused why) e = let z : ◌≡◌ {A = ℕ} 2 0 = sym (two why) ∙ e in absurd (omega arith)
+    pub flush-judged : (t : Result (Option ℕ) Refusal) → Aimed true s card t → Judged s card t
+    flush-judged (Err why) a = flush-admitted ∙ a
+    flush-judged (Ok None) a = flush-admitted ∙ a.0
+    flush-judged (Ok (Some b)) a = let k = card-sound (state_rule s) s.lengths card told in (flush-admitted ∙ a.0, k.rule, k.size, a.1)

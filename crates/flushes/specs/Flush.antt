@@ -1,4 +1,5 @@
 -- A flush: the buffer is written as one partition of level 0.
+use Rattle.std.specs.Prelude.{⊤}
 use Rattle.std.specs.Prelude.{Bool, not, List, [], ◌∷◌, ◌++◌, ℕ, suc, ◌*◌, ltb, leb, get_or}
 use Rattle.lists.specs.Lists.{empty, total_by}
 use Rattle.words.specs.Words.{words, bytes}
@@ -16,7 +17,7 @@ use Rattle.partitions.specs.Layout.{encode, record_for}
 use Rattle.state.specs.Rules.{state_rule}
 use Rattle.state.specs.Probe.{Store, has_length, store_of}
 use Rattle.answers.specs.Numbers.{replied}
-use Rattle.windows.specs.declared.Replied.{Replied}
+use Rattle.windows.specs.declared.After.{After}
 use Rattle.windows.specs.Promises.{Gives}
 
 -- the blocks of finished partitions, by their records' lengths
@@ -63,5 +64,5 @@ flush_of p =
     (flushing p.state p.card (λ s card. leave done (record { state = s; card = card })))
 
 -- what a flush promises
-abbrev pub Flushes : (s : State) (card : List ℕ) (r : Replied) (card' : List ℕ) → Type 0
-Flushes s card r card' = Gives (store_of s card) (flush_of (store_of s card)) (replied r.reply) (store_of r.state card')
+abbrev pub Flushes : (s : State) (card : List ℕ) (r : After ⊤) (card' : List ℕ) → Type 0
+Flushes s card r card' = Gives (store_of s card) (flush_of (store_of s card)) (replied r.answer) (store_of r.state card')

@@ -1,4 +1,6 @@
 -- Where a flush writes, judged before anything is written.
+use Rattle.std.specs.Prelude.{Option, Some, None, Result, Ok, Err}
+use Rattle.answers.specs.declared.Refusal.{Refusal}
 use Rattle.std.specs.Prelude.{Bool, true, ◌||◌, not, List, ◌≡◌, ℕ, suc, ◌*◌, ◌<◌, ◌≤◌, length, get_or}
 use Rattle.lists.specs.Lists.{empty}
 use Rattle.words.specs.Words.{words, bytes}
@@ -12,7 +14,6 @@ use Rattle.state.specs.Levels.{of_level}
 use Rattle.state.specs.Probe.{Store, store_of}
 use Rattle.card.specs.Blocks.{free_blocks}
 use Rattle.flushes.specs.Flush.{finished_blocks, flushed_to, flushed_card, flushing_if, flush_of}
-use Rattle.flushes.specs.declared.Target.{Target}
 
 -- a block to write to, where the flush is judged: something is buffered, level 0 and the card have room, and the block is the first free one
 pub record Chosen (s : State) (W : List ℕ) (b : ℕ) : Type 0 where
@@ -28,18 +29,18 @@ written s card = leave done (store_of s card)
 
 -- a target tells what a flush, where one is wanted, comes to: its refusal; nothing to write, as none is wanted or the buffer is empty; or the block
 -- that it is written to
-abbrev pub Aimed : Bool → State → List ℕ → Target → Type 0
-Aimed wanted s card (Target.Refused why) = flushing_if wanted s card written ≡ refuse (refusal_number why)
-Aimed wanted s card Target.Nothing = (flushing_if wanted s card written ≡ written s card) × ((not wanted || empty (buffered s.buffer)) ≡ true)
-Aimed wanted s card (Target.Block b) =
+abbrev pub Aimed : Bool → State → List ℕ → Result (Option ℕ) Refusal → Type 0
+Aimed wanted s card (Err why) = flushing_if wanted s card written ≡ refuse (refusal_number why)
+Aimed wanted s card (Ok None) = (flushing_if wanted s card written ≡ written s card) × ((not wanted || empty (buffered s.buffer)) ≡ true)
+Aimed wanted s card (Ok (Some b)) =
     (flushing_if wanted s card written ≡ written (flushed_to s b) (bytes (flushed_card s (words card) b))) × Chosen s (words card) b
 
 -- a target tells what a flush that stands alone comes to, refusals 1 and 2 with it; a block is told only where the state and the card's length are
 -- as they should be
-abbrev pub Judged : State → List ℕ → Target → Type 0
-Judged s card (Target.Refused why) = flush_of (store_of s card) ≡ refuse (refusal_number why)
-Judged s card Target.Nothing = flush_of (store_of s card) ≡ written s card
-Judged s card (Target.Block b) =
+abbrev pub Judged : State → List ℕ → Result (Option ℕ) Refusal → Type 0
+Judged s card (Err why) = flush_of (store_of s card) ≡ refuse (refusal_number why)
+Judged s card (Ok None) = flush_of (store_of s card) ≡ written s card
+Judged s card (Ok (Some b)) =
     (flush_of (store_of s card) ≡ written (flushed_to s b) (bytes (flushed_card s (words card) b)))
     × (state_rule s ≡ true)
     × (length card ≡ s.lengths.card)

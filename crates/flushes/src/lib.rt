@@ -10,34 +10,20 @@ ghost use Rattle.card.specs.Chains.{blocks_for};
 ghost use Rattle.flushes.specs.Flush.{flushed_to, flushed_card, Flushes};
 ghost use Rattle.flushes.specs.Targets.{Aimed, Chosen, Judged};
 
-use admission::Admission;
 use answers::Refusal;
-use blocks::Free;
 use state::{BLOCK_BYTES, Buffer, Partition, Partitions, State};
-use windows::Replied;
+use windows::After;
 
 pub mod writing; // the buffered postings as one partition of level 0
-
-// What a flush comes to: nothing to write, a block to write to, or a refusal.
-#[derive(Clone, Copy)]
-pub enum Target {
-    Nothing,
-    Block(u16),
-    Refused(Refusal),
-}
 
 // The blocks of finished partitions.
 pub fn finished_blocks(p: Partitions) -> u64
     requires { p.used ≤ 51 }
     ensures { (result ≤ 219043332045) × (result ≡ total_by (λ q. blocks_for q.length) (finished p)) }
 {
-    let n = p.used as usize;
-    let mut i: usize = 0;
     let mut total: u64 = 0;
-    while i < n {
-        let q = p.records[i];
+    for q in p.finished() {
         total += partitions::blocks_for(q.length) as u64;
-        i += 1;
     }
     total
 }
@@ -50,37 +36,33 @@ fn is_empty(b: Buffer) -> bool
     b.used == 0
 }
 
-// Judges the flush of a call that is admitted, where one is wanted, and finds the block that it takes.
-pub fn target_of(s: State, card: &[u8], wanted: bool) -> Target
+// Judges the flush of a call that is admitted, where one is wanted, and finds the block that it takes: none where there is nothing to write.
+pub fn target_of(s: State, card: &[u8], wanted: bool) -> Result<Option<u16>, Refusal>
     requires { (state_rule s ≡ true) × (length card.now ≡ s.lengths.card) }
     ensures { Aimed wanted s card.now result }
 {
     if !wanted | is_empty(s.buffer) {
-        return Target::Nothing;
+        return Ok(None);
     }
     if levels::of_level(s.partitions, 0) >= 16 {
-        return Target::Refused(Refusal::LevelFull);
+        return Err(Refusal::LevelFull);
     }
     let blocks = s.lengths.card / BLOCK_BYTES;
     if 2 * finished_blocks(s.partitions) + 2 > blocks as u64 {
-        return Target::Refused(Refusal::HalfFull);
+        return Err(Refusal::HalfFull);
     }
-    let free = blocks::next_free(card, blocks, s.taken);
-    match free {
-        Free::Block(b) => Target::Block(b),
-        Free::Nothing => Target::Refused(Refusal::TooFewFree),
+    match blocks::next_free(card, blocks, s.taken) {
+        Some(b) => Ok(Some(b)),
+        None => Err(Refusal::TooFewFree),
     }
 }
 
 // Judges a flush that stands alone.
-pub fn judge_flush(s: State, card: &[u8]) -> Target
+pub fn judge_flush(s: State, card: &[u8]) -> Result<Option<u16>, Refusal>
     ensures { Judged s card.now result }
 {
-    let a = admission::judge_card(rules::state_ok(s), s.lengths, card);
-    match a {
-        Admission::Refused(why) => Target::Refused(why),
-        Admission::Granted => target_of(s, card, true),
-    }
+    admission::judge_card(rules::state_ok(s), s.lengths, card)?;
+    target_of(s, card, true)
 }
 
 // Writes the buffer to the block that a flush takes. The buffer is empty then, and the partition the youngest.
@@ -89,22 +71,21 @@ pub fn flush_to(s: State, card: &mut [u8], block: u16) -> State
     ensures { (result ≡ flushed_to s block) × (card.new ≡ bytes (flushed_card s (words_of card.old) block)) }
 {
     let list = writing::flush(card, block, s.buffer, s.partitions);
-    let empty = windows::empty_buffer();
-    let mut t = s;
-    t.buffer = empty;
-    t.partitions = list;
-    t.taken = block;
-    t
+    State {
+        buffer: Buffer::new(),
+        partitions: list,
+        taken: block,
+        ..s
+    }
 }
 
 // The buffer is written as one partition; an empty one writes nothing.
-pub fn flush(s: State, card: &mut [u8]) -> Replied
+pub fn flush(s: State, card: &mut [u8]) -> After<()>
     ensures { Flushes s card.old result card.new }
 {
-    let target = judge_flush(s, card);
-    match target {
-        Target::Refused(why) => windows::refuse(s, why),
-        Target::Block(b) => windows::done(flush_to(s, card, b)),
-        Target::Nothing => windows::done(s),
+    match judge_flush(s, card) {
+        Err(why) => windows::refuse(s, why),
+        Ok(Some(b)) => windows::done(flush_to(s, card, b)),
+        Ok(None) => windows::done(s),
     }
 }

@@ -25,20 +25,16 @@ fn tally(b: Buffer, counts: &mut [u16], content: &mut [u32]) -> u16
     ensures { (result ≡ term_count (buffered b)) × (counts.new ≡ map (λ i. length (under i (buffered b))) (up_to 1024))
         × (content.new ≡ sets content.old 0 (map word_of (buffered b))) }
 {
-    let n = b.used;
     let mut terms: u16 = 0;
-    let mut i: u16 = 0;
-    while i < n {
-        let p = b.postings[i as usize];
-        let size = p.count;
-        content[i as usize] = pack(size, p.window);
+    for i in 0..b.used as usize {
+        let p = b.postings[i];
+        content[i] = pack(p.count, p.window);
         let id = p.id as usize;
         let count = counts[id];
         if count == 0 {
             terms += 1;
         }
         counts[id] = count + 1;
-        i += 1;
     }
     terms
 }
@@ -48,16 +44,12 @@ fn span_of(b: Buffer) -> Span
     requires { b.used ≤ 128 }
     ensures { (result.lowest ≡ lowest (buffered b)) × (result.highest ≡ highest (buffered b)) }
 {
-    let n = b.used as usize;
     let mut span = Span {
         lowest: 65535,
         highest: 0,
     };
-    let mut i: usize = 0;
-    while i < n {
-        let p = b.postings[i];
+    for p in b.buffered() {
         span = spans::widened(span, p.window);
-        i += 1;
     }
     span
 }

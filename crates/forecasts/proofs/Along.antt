@@ -1,9 +1,8 @@
 -- The events of a plan's window, one after another.
+use Rattle.std.specs.Prelude.{Some, None, Err}
 use Rattle.lists.proofs.Prelude.{List, ◌∷◌, ◌++◌, ◌≡◌, refl, sym, ap, ap₂, ◌∙◌, subst, ℕ, suc, ◌+◌, ◌-◌, ◌*◌, ◌/◌, ◌<◌, ◌≤◌, arith, length}
 use Rattle.answers.specs.Answers.{halted}
 use Rattle.answers.specs.declared.Refusal.{Refusal}
-use Rattle.answers.specs.declared.Reply.{Reply}
-use Rattle.answers.specs.declared.Stop.{Stop}
 use Rattle.answers.specs.Numbers.{refusal_number}
 use Rattle.identifiers.specs.Register.{entries}
 use Rattle.forecasts.specs.declared.Sketch.{Sketch}
@@ -54,8 +53,8 @@ module _ (card : ℕ) (register : List ℕ) (used : ℕ) (plan places₀ : List 
           rw (stretch-on plan at to h inside, e)
 
       -- the event is refused
-      pub along-refused : (why : Refusal) (r : Sketch) (places' : List ℕ) → Made card register plan places t (event_at card register plan places t at) (Reply.Refused why) r places'
-          → Followed card register plan places₀ q (λ cs. event_calls window 1 (stretch plan from to) ++ cs) (Stop.At window (at - from + 1) why) r places' (closed_by window (to - from + 1))
+      pub along-refused : (why : Refusal) (r : Sketch) (places' : List ℕ) → Made card register plan places t (event_at card register plan places t at) (Err why) r places'
+          → Followed card register plan places₀ q (λ cs. event_calls window 1 (stretch plan from to) ++ cs) (Some (record { window = window; event = at - from + 1; why = why })) r places' (closed_by window (to - from + 1))
       along-refused why r places' m = record {
         told = λ cs. x.told cs ∙ ap (ahead card register plan places t) (one_on cs) ∙ follow-refused card register plan places t _ (calls_from (at + 1) cs) (refusal_number why) m.0
             ∙ sym (ap₂ (λ (s : Sketch) (P : List ℕ). told outlook_gauge (planned card (length register / 65)) s.flushes (outlook register plan P s) (halted window (at - from + 1) (refusal_number why))) m.1 m.2);
@@ -80,7 +79,7 @@ module _ (card : ℕ) (register : List ℕ) (used : ℕ) (plan places₀ : List 
       pub along-left : Counting q t from to
       along-left = record { last = x.last; current = x.current; events = omega (arith, x.events, x.high) }
 
-      pub along-end : Followed card register plan places₀ q (λ cs. event_calls window 1 (stretch plan from to) ++ cs) Stop.Nowhere t places (closed_by window (to - from + 1))
+      pub along-end : Followed card register plan places₀ q (λ cs. event_calls window 1 (stretch plan from to) ++ cs) None t places (closed_by window (to - from + 1))
       along-end = record {
         told = λ cs. let e : at ≡ to = omega (arith, x.high) in x.told cs ∙ ap (ahead card register plan places t) (rw (stretch-none plan at to h, e));
         sound = x.sound;

@@ -15,7 +15,6 @@ use Rattle.state.proofs.Forms.{buffer-rule}
 use Rattle.buffer.specs.Places.{pair}
 use Rattle.identifiers.specs.Names.{Name, bad_length, number_of}
 use Rattle.identifiers.specs.Register.{names}
-use Rattle.identifiers.proofs.Names as numbers
 use Rattle.admission.specs.Admission.{first_of}
 use Rattle.admission.proofs.Laws.{barred, granted}
 use Rattle.events.proofs.Turns.{five}

@@ -1,5 +1,5 @@
 -- What an event of a plan comes to, by its verdict.
-use Rattle.lists.proofs.Prelude.{Bool, List, [], ◌∷◌, map, ◌≡◌, refl, sym, ap, ◌∙◌, ℕ, ◌+◌, ◌/◌, arith, eqb, length, take, length-append, length-map, length-take-le, Bool·not-not}
+use Rattle.lists.proofs.Prelude.{List, [], ◌∷◌, map, ◌≡◌, refl, sym, ap, ◌∙◌, ℕ, ◌+◌, ◌/◌, arith, eqb, length, take, length-append, length-map, length-take-le, Bool·not-not}
 use Rattle.answers.specs.declared.Refusal.{Refusal}
 use Rattle.answers.specs.Answers.{Outcome, refuse, leave, done}
 use Rattle.answers.specs.Numbers.{refusal_number}

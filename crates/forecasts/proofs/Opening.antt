@@ -1,4 +1,5 @@
 -- A plan's window, opened and closed.
+use Rattle.std.specs.Prelude.{Some, None}
 use Rattle.lists.proofs.Prelude.{Bool, true, false, not, cond, List, [], ◌∷◌, ◌++◌, ◌≡◌, refl, sym, ap, ◌∙◌, ℕ, suc, ◌+◌, ◌-◌, ◌/◌, ◌<◌, ◌≤◌, zero-le, arith, eqb, ltb, leb, length, eqb-true, ne_eqb, leb-false, le-ltb, by-test}
 use Rattle.answers.specs.declared.Refusal.{Refusal}
 use Rattle.answers.specs.declared.Stop.{Stop}
@@ -28,7 +29,7 @@ module _ (card : ℕ) (register : List ℕ) (used : ℕ) (plan places : List ℕ
   o = outlook register plan places q
 
   -- the open is refused
-  pub open-refused : (why : Refusal) → refusal_number why ≡ open_number → Followed card register plan places q (opened_by window (stretch plan from to)) (Stop.At window 0 why) q places (λ cs. cs)
+  pub open-refused : (why : Refusal) → refusal_number why ≡ open_number → Followed card register plan places q (opened_by window (stretch plan from to)) (Some (record { window = window; event = 0; why = why })) q places (λ cs. cs)
   open-refused why e = record { told = λ cs. follow-refused card register plan places q _ _ (refusal_number why) refused; sound = x.sound }
     where
       refused : planned card (length register / 65) o opening ≡ refuse (refusal_number why)
@@ -82,13 +83,13 @@ module _ (card : ℕ) (register : List ℕ) (used : ℕ) (plan places : List ℕ
 
     module _ (r : Sketch) (places' : List ℕ) where
       -- an event is refused
-      pub window-stopped : (w j : ℕ) (why : Refusal)
-          → Followed card register plan places (opened_sketch q) (λ cs. event_calls window 1 (stretch plan from to) ++ cs) (Stop.At w j why) r places' (closed_by window (to - from + 1))
-          → Followed card register plan places q (opened_by window (stretch plan from to)) (Stop.At w j why) r places' (λ cs. cs)
-      window-stopped w j why f = record { told = λ cs. on cs ∙ f.told cs; sound = f.sound }
+      pub window-stopped : (st : Stop)
+          → Followed card register plan places (opened_sketch q) (λ cs. event_calls window 1 (stretch plan from to) ++ cs) (Some st) r places' (closed_by window (to - from + 1))
+          → Followed card register plan places q (opened_by window (stretch plan from to)) (Some st) r places' (λ cs. cs)
+      window-stopped st f = record { told = λ cs. on cs ∙ f.told cs; sound = f.sound }
 
       -- or none is
-      module _ (f : Followed card register plan places (opened_sketch q) (λ cs. event_calls window 1 (stretch plan from to) ++ cs) Stop.Nowhere r places' (closed_by window (to - from + 1)))
+      module _ (f : Followed card register plan places (opened_sketch q) (λ cs. event_calls window 1 (stretch plan from to) ++ cs) None r places' (closed_by window (to - from + 1)))
           (c : Counting (opened_sketch q) r from to) where
         number_is : r.windows.current ≡ r.windows.last
         number_is = c.current ∙ sym c.last
@@ -96,7 +97,7 @@ module _ (card : ℕ) (register : List ℕ) (used : ℕ) (plan places : List ℕ
         pub close-room : 1 ≤ r.windows.last
         close-room = omega (arith, c.last)
 
-        pub window-closed : Followed card register plan places q (opened_by window (stretch plan from to)) Stop.Nowhere (closed_sketch r) places' (λ cs. cs)
+        pub window-closed : Followed card register plan places q (opened_by window (stretch plan from to)) None (closed_sketch r) places' (λ cs. cs)
         window-closed = record {
           told = λ cs. on cs ∙ f.told cs ∙ follow-done card register plan places' r _ cs done places' (closed_sketch r) is (low-stays r.low r.flushes);
           sound = record {

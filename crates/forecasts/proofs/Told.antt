@@ -1,4 +1,5 @@
 -- What a forecast tells, by what the code is left with.
+use Rattle.std.specs.Prelude.{Option, Some, None}
 use Rattle.lists.proofs.Prelude.{true, ◌&&◌, List, [], ◌∷◌, ◌≡◌, refl, sym, ap, ap₂, ◌∙◌, ℕ, ◌+◌, ◌/◌, ◌≤◌, arith, length, eqb-true, and_left, and_right}
 use Rattle.answers.specs.declared.Refusal.{Refusal}
 use Rattle.answers.specs.declared.Stop.{Stop}
@@ -16,18 +17,18 @@ use Rattle.admission.specs.Admission.{first_of}
 use Rattle.admission.proofs.Laws.{barred, granted, all_three, register-most}
 use Rattle.forecasts.specs.declared.Sketch.{Sketch}
 use Rattle.forecasts.specs.Plan.{plan_calls}
-use Rattle.forecasts.specs.Course.{told, follow}
+use Rattle.forecasts.specs.Course.{follow}
 use Rattle.forecasts.specs.Outlook.{outlook_of, outlook_gauge, planned, plan_tests, forecast_of}
 use Rattle.forecasts.specs.Sketches.{outlook, Sound, Lent, Begun, onward, Followed}
 use Rattle.forecasts.proofs.Judging.{names-count}
 use Rattle.forecasts.proofs.Windows.{whole}
 
 -- where the calls have ended
-onward-end : (card : ℕ) (register plan places : List ℕ) (r : Sketch) → Sound register plan places r → (stop : Stop)
+onward-end : (card : ℕ) (register plan places : List ℕ) (r : Sketch) → Sound register plan places r → (stop : Option Stop)
     → onward card register plan places r stop [] ≡ forecast r.flushes r.blocks (length (names register) + r.known) (halt_as stop)
 unfolding follow outlook
-onward-end card register plan places r s Stop.Nowhere = ap (λ m. forecast r.flushes r.blocks m never) (names-count register plan places r s)
-onward-end card register plan places r s (Stop.At w j why) = ap (λ m. forecast r.flushes r.blocks m (halted w j (refusal_number why))) (names-count register plan places r s)
+onward-end card register plan places r s None = ap (λ m. forecast r.flushes r.blocks m never) (names-count register plan places r s)
+onward-end card register plan places r s (Some t) = ap (λ m. forecast r.flushes r.blocks m (halted t.window t.event (refusal_number t.why))) (names-count register plan places r s)
 
 module _ (s : State) (register plan counts : List ℕ) (rule : state_rule s ≡ true) (size : length register ≡ s.lengths.register) (formed : register_rule register ≡ true) where
   -- what the plan's calls come to, with the state's outlook
@@ -44,7 +45,7 @@ module _ (s : State) (register plan counts : List ℕ) (rule : state_rule s ≡ 
   pub adds-up : recording_rule plan counts ≡ true → listed_in_all counts ≡ length (entries plan)
   adds-up e = omega (arith, (recording-kept plan counts e).adds, length-entries plan)
 
-  module _ (q r : Sketch) (places places' : List ℕ) (stop : Stop) (b : Begun s q)
+  module _ (q r : Sketch) (places places' : List ℕ) (stop : Option Stop) (b : Begun s q)
       (f : Followed (blocks s) register plan places q (whole (blocks s) register 0 plan counts places q) stop r places' (λ cs. [])) where
     pub known-most : length (names register) + r.known ≤ 1024
     known-most = omega (arith, f.sound.known, register-most s rule)

@@ -1,6 +1,6 @@
 -- The windows of a plan, one after another.
+use Rattle.std.specs.Prelude.{Some, None}
 use Rattle.lists.proofs.Prelude.{List, [], map, ◌≡◌, refl, ap, ◌∙◌, ℕ, ◌+◌, ◌-◌, ◌<◌, ◌≤◌, zero-le, add-one, arith, length, get_or, take, drop, total_by}
-use Rattle.answers.specs.declared.Refusal.{Refusal}
 use Rattle.answers.specs.declared.Stop.{Stop}
 use Rattle.identifiers.specs.Names.{Name}
 use Rattle.identifiers.specs.Register.{entries}
@@ -49,12 +49,12 @@ module _ (card : ℕ) (register : List ℕ) (used : ℕ) (plan counts places₀ 
 
       module _ (r : Sketch) (places' : List ℕ) where
         -- the plan stops in this window
-        pub far-stopped : (w j : ℕ) (why : Refusal) → Followed card register plan places t (opened_by (i + 1) (stretch plan from to)) (Stop.At w j why) r places' (λ cs. cs)
-            → Followed card register plan places₀ q whole (Stop.At w j why) r places' (λ cs. [])
-        far-stopped w j why f = record { told = λ cs. x.told cs ∙ ap (ahead card register plan places t) one_on ∙ f.told _; sound = f.sound }
+        pub far-stopped : (st : Stop) → Followed card register plan places t (opened_by (i + 1) (stretch plan from to)) (Some st) r places' (λ cs. cs)
+            → Followed card register plan places₀ q whole (Some st) r places' (λ cs. [])
+        far-stopped st f = record { told = λ cs. x.told cs ∙ ap (ahead card register plan places t) one_on ∙ f.told _; sound = f.sound }
 
         -- or it is passed
-        pub far-on : length places' ≡ length places → Followed card register plan places t (opened_by (i + 1) (stretch plan from to)) Stop.Nowhere r places' (λ cs. cs) → Early r to
+        pub far-on : length places' ≡ length places → Followed card register plan places t (opened_by (i + 1) (stretch plan from to)) None r places' (λ cs. cs) → Early r to
             → Far places' r to (i + 1)
         far-on same f e = record {
           high = omega arith;
@@ -66,7 +66,7 @@ module _ (card : ℕ) (register : List ℕ) (used : ℕ) (plan counts places₀ 
         }
 
     -- no window is left
-    pub far-end : length counts ≤ i → Followed card register plan places₀ q whole Stop.Nowhere t places (λ cs. [])
+    pub far-end : length counts ≤ i → Followed card register plan places₀ q whole None t places (λ cs. [])
     far-end h = record {
       told = λ cs. x.told cs ∙ ap (λ ws. ahead card register plan places t (window_calls (i + 1) ws)) (cut-end counts (map identifier_in (entries plan)) i h);
       sound = x.sound;

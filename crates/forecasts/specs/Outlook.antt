@@ -1,4 +1,6 @@
 -- A forecast: what a plan's calls come to, as far as state and register tell.
+use Rattle.std.specs.Prelude.{Result}
+use Rattle.answers.specs.declared.Refusal.{Refusal}
 use Rattle.std.specs.Prelude.{Bool, ◌&&◌, not, cond, List, [], ◌∷◌, ◌++◌, ◌≡◌, ℕ, suc, ◌-◌, ◌*◌, eqb, ltb, leb, pos, length}
 use Rattle.lists.specs.Lists.{any, elem}
 use Rattle.postings.specs.declared.Posting.{Posting}
@@ -156,5 +158,5 @@ forecast_of s register plan counts =
     (leave (follow outlook_gauge (planned (blocks s) (register_size s)) 0 (outlook_of s register) (plan_calls (recorded plan counts))) tt)
 
 -- what a forecast promises: nothing is lent to be written
-abbrev pub Foretells : (s : State) (register plan counts : List ℕ) (r : Forecast) → Type 0
+abbrev pub Foretells : (s : State) (register plan counts : List ℕ) (r : Result Forecast Refusal) → Type 0
 Foretells s register plan counts r = forecast_as r ≡ answer_of (forecast_of s register plan counts)

@@ -1,4 +1,6 @@
 -- What the code of a forecast keeps in place of an outlook, and what it goes on with.
+use Rattle.std.specs.Prelude.{Option, Some, None, Result, Ok, Err, ⊤}
+use Rattle.answers.specs.declared.Refusal.{Refusal}
 use Rattle.std.specs.Prelude.{Bool, true, ◌&&◌, not, cond, List, [], ◌∷◌, ◌++◌, map, ◌≡◌, ℕ, suc, ◌+◌, ◌-◌, ◌*◌, ◌/◌, ◌<◌, ◌≤◌, eqb, ltb, length, get_or, take, drop}
 use Rattle.lists.specs.Lists.{every, elem}
 use Rattle.postings.specs.Merge.{put}
@@ -7,7 +9,6 @@ use Rattle.answers.specs.Numbers.{refusal_number}
 use Rattle.answers.specs.Order as order
 use Rattle.answers.specs.Order.{past}
 use Rattle.answers.specs.declared.Stop.{Stop}
-use Rattle.answers.specs.declared.Reply.{Reply}
 use Rattle.state.specs.declared.State.{State}
 use Rattle.state.specs.Views.{listed, buffered, listed_of, buffer_of}
 use Rattle.state.specs.Rules.{buffer_rule}
@@ -122,17 +123,17 @@ module _ (card : ℕ) (register plan : List ℕ) where
     pub last : r.windows.last ≡ q.windows.last
     pub current : r.windows.current ≡ q.windows.current
 
-  -- an outcome, as it is told by a reply and what is left
-  abbrev pub Made : List ℕ → Sketch → Outcome Outlook → Reply → Sketch → List ℕ → Type 0
-  Made places q o (Reply.Refused why) r places' = (o ≡ refuse (refusal_number why)) × (r ≡ q) × (places' ≡ places)
-  Made places q o Reply.Done r places' = Done places q o r places'
+  -- an outcome, as it is told by an answer and what is left
+  abbrev pub Made : List ℕ → Sketch → Outcome Outlook → Result ⊤ Refusal → Sketch → List ℕ → Type 0
+  Made places q o (Err why) r places' = (o ≡ refuse (refusal_number why)) × (r ≡ q) × (places' ≡ places)
+  Made places q o (Ok tt) r places' = Done places q o r places'
 
   -- an event
-  abbrev pub Counted : List ℕ → Sketch → ℕ → Reply → Sketch → List ℕ → Type 0
+  abbrev pub Counted : List ℕ → Sketch → ℕ → Result ⊤ Refusal → Sketch → List ℕ → Type 0
   Counted places q at reply r places' = Made places q (event_at places q at) reply r places'
 
   -- the same past refusals 4 to 9: a flush where the pair finds no room, and then the count
-  abbrev pub Entered : List ℕ → Sketch → ℕ → Reply → Sketch → List ℕ → Type 0
+  abbrev pub Entered : List ℕ → Sketch → ℕ → Result ⊤ Refusal → Sketch → List ℕ → Type 0
   Entered places q at reply r places' =
       Made places q
       (flushing_if card (length register / 65) (overflows (identifier_at plan at) (outlook register plan places q)) (outlook register plan places q)
@@ -147,20 +148,20 @@ module _ (card : ℕ) (register plan : List ℕ) where
   ahead places q cs = follow outlook_gauge (planned card (length register / 65)) q.flushes (outlook register plan places q) cs
 
   -- the same where the calls before these came to this: they were all done, or one was refused
-  abbrev pub onward : List ℕ → Sketch → Stop → List Placed → Answer
-  onward places q Stop.Nowhere cs = ahead places q cs
-  onward places q (Stop.At w j why) cs =
-      told outlook_gauge (planned card (length register / 65)) q.flushes (outlook register plan places q) (halted w j (refusal_number why))
+  abbrev pub onward : List ℕ → Sketch → Option Stop → List Placed → Answer
+  onward places q None cs = ahead places q cs
+  onward places q (Some t) cs =
+      told outlook_gauge (planned card (length register / 65)) q.flushes (outlook register plan places q) (halted t.window t.event (refusal_number t.why))
 
   -- calls that come to this: what is told from here on is what is told with the sketch and the places that they leave, and with the calls after them
-  pub record Followed (places : List ℕ) (q : Sketch) (calls : List Placed → List Placed) (stop : Stop) (r : Sketch) (places' : List ℕ) (rest : List Placed → List Placed) : Type 0 where
+  pub record Followed (places : List ℕ) (q : Sketch) (calls : List Placed → List Placed) (stop : Option Stop) (r : Sketch) (places' : List ℕ) (rest : List Placed → List Placed) : Type 0 where
     pub told : (cs : List Placed) → ahead places q (calls cs) ≡ onward places' r stop (rest cs)
     pub sound : Sound register plan places' r
 
 -- something that holds unless the plan stops
-abbrev pub Unless : Stop → Type 0 → Type 0
-Unless Stop.Nowhere P = P
-Unless (Stop.At w j why) P = Unit {0}
+abbrev pub Unless : Option Stop → Type 0 → Type 0
+Unless None P = P
+Unless (Some t) P = Unit {0}
 
 -- the identifiers of the plan's places from a to before e
 abbrev pub stretch : List ℕ → ℕ → ℕ → List Name

@@ -10,27 +10,25 @@ ghost use Rattle.identifiers.specs.Names.{number_of};
 ghost use Rattle.identifiers.specs.Register.{entries};
 ghost use Rattle.admission.specs.Admission.{first_of, told};
 ghost use Rattle.events.specs.Verdicts.{tests_among, Weighed};
-ghost use Rattle.forecasts.specs.Sketches.{identifier_at, is_place, names_with, Sound, Lent, flushed_sketch, counted_sketch, Enterable, Entered, Counted};
+ghost use Rattle.forecasts.specs.Sketches.{identifier_at, is_place, names_with, Sound, flushed_sketch, counted_sketch, Enterable, Entered, Counted};
 
-use super::Sketch;
-use admission::Admission;
-use answers::{Refusal, Reply};
-use events::Verdict;
-use state::{Listed, Windows};
+use super::{Ground, Sketch};
+use answers::Refusal;
+use state::{Buffer, Listed, Windows};
 
 // What an event of a plan answers, and the sketch after it.
 #[derive(Clone, Copy)]
 pub struct Turn {
-    pub reply: Reply,
+    pub answer: Result<(), Refusal>,
     pub sketch: Sketch,
 }
 
 // A refusal: the sketch stays.
 fn refused(q: Sketch, why: Refusal) -> Turn
-    ensures { result ≡ record { reply = Reply.Refused why; sketch = q } }
+    ensures { result ≡ record { answer = Err why; sketch = q } }
 {
     Turn {
-        reply: Reply::Refused(why),
+        answer: Err(why),
         sketch: q,
     }
 }
@@ -39,41 +37,39 @@ fn refused(q: Sketch, why: Refusal) -> Turn
 fn judge(
     w: Windows,
     l: Listed,
-    register: &[u8],
-    used: usize,
-    plan: &[u8],
+    g: &Ground,
     places: &[u32],
     known: usize,
     at: usize,
-) -> Verdict
-    requires { Lent register.now used × (known ≤ length places.now) × (every (is_place plan.now) (take known places.now) ≡ true)
-        × (at < length (entries plan.now)) × (l.used ≤ 64) }
-    ensures { Weighed (past 3 event) (tests_among w l (length register.now / 65) (names_with register.now plan.now places.now known) (identifier_at plan.now at))
-        (number_of (names_with register.now plan.now places.now known) (identifier_at plan.now at)) result }
+) -> Result<u16, Refusal>
+    requires { (known ≤ length places.now) × (every (is_place g.now.plan.now) (take known places.now) ≡ true)
+        × (at < length (entries g.now.plan.now)) × (l.used ≤ 64) }
+    ensures { Weighed (past 3 event) (tests_among w l (length g.now.register.now / 65) (names_with g.now.register.now g.now.plan.now places.now known) (identifier_at g.now.plan.now at))
+        (number_of (names_with g.now.register.now g.now.plan.now places.now known) (identifier_at g.now.plan.now at)) result }
 {
-    if recordings::is_bad(plan, at) {
-        return Verdict::Refused(Refusal::BadIdentifier);
+    if recordings::is_bad(g.plan, at) {
+        return Err(Refusal::BadIdentifier);
     }
-    let id = recordings::identifier_at(plan, at);
-    let i = super::naming::find(register, used, plan, places, known, id);
-    events::judging::judge_number(w, l, register.len() / identifiers::ENTRY, i)
+    let id = recordings::identifier_at(g.plan, at);
+    let i = super::naming::find(g, places, known, id);
+    events::judging::judge_number(w, l, g.register.len() / identifiers::ENTRY, i)
 }
 
 // Judges the flush of an event, where one is wanted.
-fn judge_flush(wanted: bool, low: u16, blocks: u64, card: u32) -> Admission
+fn judge_flush(wanted: bool, low: u16, blocks: u64, card: u32) -> Result<(), Refusal>
     requires { blocks ≤ 219043332045 }
     ensures { told result ≡ first_of (10 ∷ 11 ∷ []) ((wanted && leb 16 low) ∷ (wanted && ltb card (2 * suc blocks)) ∷ []) }
 {
     if !wanted {
-        return Admission::Granted;
+        return Ok(());
     }
     if low >= 16 {
-        return Admission::Refused(Refusal::LevelFull);
+        return Err(Refusal::LevelFull);
     }
     if 2 * blocks + 2 > card as u64 {
-        return Admission::Refused(Refusal::HalfFull);
+        return Err(Refusal::HalfFull);
     }
-    Admission::Granted
+    Ok(())
 }
 
 // A flush, where one is wanted: one partition more at level 0, of one block, and an empty buffer.
@@ -84,13 +80,13 @@ fn flushed(q: Sketch, wanted: bool) -> Sketch
     if !wanted {
         return q;
     }
-    let b = windows::empty_buffer();
-    let mut t = q;
-    t.buffer = b;
-    t.blocks = q.blocks + 1;
-    t.low = q.low + 1;
-    t.flushes = q.flushes + 1;
-    t
+    Sketch {
+        buffer: Buffer::new(),
+        blocks: q.blocks + 1,
+        low: q.low + 1,
+        flushes: q.flushes + 1,
+        ..q
+    }
 }
 
 // The event counted: the window's events, its identifiers, and the pair's count.
@@ -103,12 +99,13 @@ fn counted(q: Sketch, i: u16, known: u16) -> Sketch
     let w = events::counting::count_window(q.windows);
     let l = events::counting::count_listed(q.listed, i);
     let b = events::counting::count_pair(q.buffer, q.windows, i);
-    let mut t = q;
-    t.windows = w;
-    t.listed = l;
-    t.buffer = b;
-    t.known = known;
-    t
+    Sketch {
+        windows: w,
+        listed: l,
+        buffer: b,
+        known,
+        ..q
+    }
 }
 
 // The place of an identifier that is none of the `count` there are is kept behind those of the others; how many places are kept then.
@@ -124,58 +121,31 @@ fn note(places: &mut [u32], known: u16, count: usize, i: u16, at: usize) -> u16
 }
 
 // An event that refusals 4 to 9 do not stop, of the identifier with a number.
-fn enter(
-    q: Sketch,
-    card: u32,
-    register: &[u8],
-    used: usize,
-    plan: &[u8],
-    places: &mut [u32],
-    at: usize,
-    i: u16,
-) -> Turn
-    requires { Enterable register.now used plan.now places.old q at i }
-    ensures { Entered card register.now plan.now places.old q at result.reply result.sketch places.new }
+fn enter(q: Sketch, g: &Ground, places: &mut [u32], at: usize, i: u16) -> Turn
+    requires { Enterable g.now.register.now g.now.used g.now.plan.now places.old q at i }
+    ensures { Entered g.now.card g.now.register.now g.now.plan.now places.old q at result.answer result.sketch places.new }
 {
     let wanted = events::counting::must_flush(q.buffer, i, q.windows.current);
     let t = flushed(q, wanted);
-    let a = judge_flush(wanted, q.low, q.blocks, card);
-    if let Admission::Refused(why) = a {
+    if let Err(why) = judge_flush(wanted, q.low, q.blocks, g.card) {
         return refused(q, why);
     }
-    let known = note(places, q.known, used + q.known as usize, i, at);
+    let known = note(places, q.known, g.used + q.known as usize, i, at);
     Turn {
-        reply: Reply::Done,
+        answer: Ok(()),
         sketch: counted(t, i, known),
     }
 }
 
 // An event of the plan's identifier at a place.
-pub fn count(
-    q: Sketch,
-    card: u32,
-    register: &[u8],
-    used: usize,
-    plan: &[u8],
-    places: &mut [u32],
-    at: usize,
-) -> Turn
-    requires { Lent register.now used × Sound register.now plan.now places.old q
-        × (at < length (entries plan.now)) × (at < 4294967296) }
-    ensures { Counted card register.now plan.now places.old q at result.reply result.sketch places.new }
+pub fn count(q: Sketch, g: &Ground, places: &mut [u32], at: usize) -> Turn
+    requires { Sound g.now.register.now g.now.plan.now places.old q
+        × (at < length (entries g.now.plan.now)) × (at < 4294967296) }
+    ensures { Counted g.now.card g.now.register.now g.now.plan.now places.old q at result.answer result.sketch places.new }
 {
-    let verdict = judge(
-        q.windows,
-        q.listed,
-        register,
-        used,
-        plan,
-        places,
-        q.known as usize,
-        at,
-    );
+    let verdict = judge(q.windows, q.listed, g, places, q.known as usize, at);
     match verdict {
-        Verdict::Refused(why) => refused(q, why),
-        Verdict::Number(i) => enter(q, card, register, used, plan, places, at, i),
+        Err(why) => refused(q, why),
+        Ok(i) => enter(q, g, places, at, i),
     }
 }

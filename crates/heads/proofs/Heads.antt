@@ -1,6 +1,6 @@
 -- One head: put, taken, and moved.
-use Rattle.lists.proofs.Prelude.{true, ◌&&◌, List, [], ◌∷◌, map, ◌≡◌, refl, sym, ap, ◌∙◌, subst, ℕ, zero, suc, ◌+◌, ◌-◌, ◌*◌, ◌/◌, ◌%◌, ◌<◌, ◌≤◌, arith, eqb, ltb, pos, length, get_or, set, take, drop, drop-cons, eq-eqb, ne_eqb, lt-ltb, le-ltb, ltb-true, ltb-false, by-test}
-use Rattle.keyed.specs.Keys.{Item, reach, rest, head_val, head_fine}
+use Rattle.lists.proofs.Prelude.{◌&&◌, List, [], ◌∷◌, map, ◌≡◌, refl, sym, ap, ◌∙◌, subst, ℕ, zero, suc, ◌+◌, ◌-◌, ◌*◌, ◌/◌, ◌%◌, ◌<◌, ◌≤◌, arith, eqb, ltb, length, get_or, set, take, drop, drop-cons, eq-eqb, ne_eqb, lt-ltb, le-ltb, ltb-true, ltb-false, by-test}
+use Rattle.keyed.specs.Keys.{reach, rest, head_val, head_fine}
 use Rattle.postings.specs.Pack.{word_count, word_window, is_posting}
 use Rattle.card.specs.declared.Cursor.{Cursor}
 use Rattle.card.specs.Blocks.{link}
@@ -163,11 +163,6 @@ module _ (W R : List ℕ) where
       each a b c d = (record { four = refl; lies = g; word = λ h. w; top = reached }, refl, reached)
 
   -- ---- a head is taken
-
-  -- another key stays
-  pub missed : (k : ℕ) (l : List Item) → (reach l ≡ k + 1 → ⊥) → (l ≡ rest k l) × (pos 0 ≡ head_val k l) × (true ≡ head_fine k l)
-  missed k [] e = (refl, refl, refl)
-  missed k (x ∷ l) e = let t = ne_eqb x.key k (λ q. e (omega arith)) in (rw t, rw t, rw t)
 
   module _ (h : List ℕ) (g : Kept W R h) (k : ℕ) (t : get_or h 0 0 ≡ k + 1) where
     -- there is one

@@ -2,11 +2,13 @@
 -- word, its place, and how many words are to come. A place below 4,194,304, the words of the largest card, is one on the card; the places from there on
 -- are those of the run, the words of the buffer's postings.
 use Rattle.std.specs.Prelude.{cond, List, map, ◌≡◌, ℕ, ◌+◌, ◌-◌, ◌/◌, ◌%◌, ◌<◌, ◌≤◌, ltb, length, get_or, take, drop}
+use Rattle.std.proofs.Common.{arith}
 use Rattle.keyed.specs.Keys.{Item, reach}
 use Rattle.postings.specs.Pack.{word_count, word_window, is_posting}
 use Rattle.card.specs.declared.Cursor.{Cursor}
 use Rattle.card.specs.Cursors.{ahead, Good}
 use Rattle.kway.specs.Parts.{parts}
+use Rattle.kway.specs.Sources.{SourceLaws}
 
 -- what a posting's word says, and whether it holds a posting
 abbrev pub item_of : ℕ → Item
@@ -47,3 +49,7 @@ pub record Kept (W R h : List ℕ) : Type 0 where
 -- what the first n heads have still to come
 abbrev pub views : List ℕ → List ℕ → ℕ → List ℕ → List (List Item)
 views W R n H = map (view W R) (parts 4 n H)
+
+-- such heads keep the laws of a source
+pub sourced : {S : Type 0} (W R : S → List ℕ) → SourceLaws 4 (λ s. Kept (W s) (R s)) (λ s. view (W s) (R s))
+sourced W R = record { some = omega arith; few = omega arith; long = λ s h k. k.four; top = λ s h k. k.top }

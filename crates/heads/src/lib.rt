@@ -1,18 +1,20 @@
-// The k-way merge of an identifier's lists, in the finished partitions and in the buffer: their heads stand in an array of numbers, four to a head, and are
-// moved in place. The buffer's part is one more head of the same kind: its places are those of the run, the buffer's postings packed as words.
+// The heads of an identifier's lists, in the finished partitions and in the buffer, as a source of the k-way merge: they stand in an array of numbers, four to a head, and
+// are moved in place. The buffer's part is one more head of the same kind: its places are those of the run, the buffer's postings packed as words.
 #![tactic(auto)]
 
-ghost use Rattle.std.specs.Prelude.{◌≡◌, ◌∷◌, map, ◌-◌, ◌*◌, ◌≤◌, ◌<◌, length};
-ghost use Rattle.std.specs.Int.Signed.{mag};
-ghost use Rattle.lists.specs.All.{AllOf};
-ghost use Rattle.keyed.specs.Keys.{reach, rest, topmost_from, head_val, head_fine, head_vals, heads_fine};
+ghost use Rattle.std.specs.Prelude.{◌≡◌, ◌∷◌, ◌-◌, ◌<◌, length};
+ghost use Rattle.keyed.specs.Keys.{reach, rest, head_val, head_fine};
 ghost use Rattle.words.specs.Words.{words as words_of};
-ghost use Rattle.kway.specs.Parts.{parts};
-ghost use Rattle.heads.specs.Heads.{word_at, comes, Lies, coming, view, Kept, views};
+ghost use Rattle.heads.specs.Heads.{word_at, comes, Lies, coming, view, Kept, sourced};
 
-use kway::{Part, Taken};
+use kway::{Part, Source};
 
-pub mod leading; // the merge where one list leads
+// Where the heads of an identifier's lists are read from.
+#[derive(Clone, Copy)]
+pub struct Lists<'a> {
+    pub card: &'a [u8],
+    pub run: &'a [u32],
+}
 
 // The word at a place.
 fn word_of(card: &[u8], run: &[u32], place: u32, left: u32) -> u32
@@ -65,74 +67,58 @@ pub fn put(card: &[u8], run: &[u32], head: &mut [u32], place: u32, left: u32) ->
     top
 }
 
-// Takes the head of a list, if it has the key.
-pub fn took(card: &[u8], run: &[u32], head: &mut [u32], key: u32) -> Part
-    requires { Kept (words_of card.now) run.now head.old × (key < 4294967295) }
-    ensures { Kept (words_of card.now) run.now head.new
-        × (view (words_of card.now) run.now head.new ≡ rest key (view (words_of card.now) run.now head.old))
-        × (result.count ≡ head_val key (view (words_of card.now) run.now head.old))
-        × (result.fine ≡ head_fine key (view (words_of card.now) run.now head.old))
-        × (result.reach ≡ reach (view (words_of card.now) run.now head.new)) }
-{
-    let top = head[0];
-    if top != key + 1 {
-        return Part {
-            count: 0,
-            fine: true,
-            reach: top,
-        };
+impl Source for Lists<'_> {
+    ghost WIDTH = { 4 };
+
+    ghost kept = { λ s. Kept (words_of s.card.now) s.run.now };
+
+    ghost view = { λ s. view (words_of s.card.now) s.run.now };
+
+    fn width() -> usize
+        ensures { result ≡ 4 }
+    {
+        4
     }
-    let word = head[1];
-    let place = head[2];
-    let left = head[3];
-    let p = postings::unpack(0, word);
-    let fine = postings::is_posting(word);
-    if left == 1 {
-        head[0] = 0;
-        head[3] = 0;
-        return Part {
+
+    fn took(&self, head: &mut [u32], key: u32) -> Part
+        requires { Kept (words_of self.now.card.now) self.now.run.now head.old × (key < 4294967295) }
+        ensures { Kept (words_of self.now.card.now) self.now.run.now head.new
+            × (view (words_of self.now.card.now) self.now.run.now head.new
+            ≡ rest key (view (words_of self.now.card.now) self.now.run.now head.old))
+            × (result.count ≡ head_val key (view (words_of self.now.card.now) self.now.run.now head.old))
+            × (result.fine ≡ head_fine key (view (words_of self.now.card.now) self.now.run.now head.old))
+            × (result.reach ≡ reach (view (words_of self.now.card.now) self.now.run.now head.new)) }
+    {
+        let top = head[0];
+        if top != key + 1 {
+            return Part {
+                count: 0,
+                fine: true,
+                reach: top,
+            };
+        }
+        let word = head[1];
+        let place = head[2];
+        let left = head[3];
+        let p = postings::unpack(0, word);
+        let fine = postings::is_posting(word);
+        if left == 1 {
+            head[0] = 0;
+            head[3] = 0;
+            return Part {
+                count: p.count,
+                fine: fine,
+                reach: 0,
+            };
+        }
+        let next = after(self.card, self.run, place, left);
+        let reach = put(self.card, self.run, head, next, left - 1);
+        Part {
             count: p.count,
             fine: fine,
-            reach: 0,
-        };
+            reach: reach,
+        }
     }
-    let next = after(card, run, place, left);
-    let reach = put(card, run, head, next, left - 1);
-    Part {
-        count: p.count,
-        fine: fine,
-        reach: reach,
-    }
-}
 
-// Takes the heads that have the key: their sum, and the next key, in one pass.
-pub fn take(card: &[u8], run: &[u32], heads: &mut [u32], n: usize, key: u32) -> Taken
-    requires { (4 * n ≤ length heads.old) × (n ≤ 512) × (key < 4294967295) × AllOf (Kept (words_of card.now) run.now) (parts 4 n heads.old) }
-    ensures heads { (length heads.new ≡ length heads.old)
-        × AllOf (Kept (words_of card.now) run.now) (parts 4 n heads.new)
-        × (views (words_of card.now) run.now n heads.new
-        ≡ map (rest key) (views (words_of card.now) run.now n heads.old)) }
-    ensures taken { (result.sum ≡ head_vals key (views (words_of card.now) run.now n heads.old))
-        × (result.fine ≡ heads_fine key (views (words_of card.now) run.now n heads.old))
-        × (result.next ≡ topmost_from 0 (views (words_of card.now) run.now n heads.new))
-        × (mag result.sum ≤ 32768 * n) }
-{
-    let mut sum: i32 = 0;
-    let mut fine = true;
-    let mut next: u32 = 0;
-    let mut i: usize = 0;
-    while i < n {
-        let at = 4 * i;
-        let end = at + 4;
-        let t = took(card, run, &mut heads[at..end], key);
-        sum = kway::added(sum, t.count);
-        fine = kway::both(fine, t.fine);
-        next = kway::larger(next, t.reach);
-        i += 1;
-    }
-    Taken {
-        sum: sum,
-        fine: fine,
-        next: next,
-    }
+    ghost laws = { sourced (λ s. words_of s.card.now) (λ s. s.run.now) };
 }

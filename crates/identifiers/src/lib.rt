@@ -22,35 +22,18 @@ pub fn bad_length(id: &[u8]) -> bool
     (id.len() == 0) | (LONGEST < id.len())
 }
 
-// Are two identifiers equal? The lengths come first, so that neither is read by the other's.
+// Are two identifiers equal, over their full length?
 pub fn equal(a: &[u8], b: &[u8]) -> bool
     ensures { result ≡ same a.now b.now }
 {
-    if a.len() != b.len() {
-        return false;
-    }
-    let mut i: usize = 0;
-    while i < a.len() {
-        if a[i] != b[i] {
-            return false;
-        }
-        i += 1;
-    }
-    true
+    a == b
 }
 
 // Is every byte zero?
 pub fn zeros(bytes: &[u8]) -> bool
     ensures { result ≡ every (λ b. eqb b 0) bytes.now }
 {
-    let mut i: usize = 0;
-    while i < bytes.len() {
-        if bytes[i] != 0 {
-            return false;
-        }
-        i += 1;
-    }
-    true
+    bytes.iter().all(|b| *b == 0)
 }
 
 // The entry at a place.
@@ -85,16 +68,13 @@ fn entry_ok(entry: &[u8], ended: bool) -> bool
 pub fn formed(register: &[u8]) -> bool
     ensures { result ≡ formed_rule register.now }
 {
-    let count = register.len() / ENTRY;
     let mut ended = false;
-    let mut i: usize = 0;
-    while i < count {
+    for i in 0..register.len() / ENTRY {
         let entry = entry_at(register, i);
         if !entry_ok(entry, ended) {
             return false;
         }
         ended = entry[0] == 0;
-        i += 1;
     }
     true
 }
@@ -105,14 +85,12 @@ pub fn count_used(register: &[u8]) -> usize
     ensures { result ≡ length (names register.now) }
 {
     let count = register.len() / ENTRY;
-    let mut i: usize = 0;
-    while i < count {
+    for i in 0..count {
         if register[ENTRY * i] == 0 {
             return i;
         }
-        i += 1;
     }
-    i
+    count
 }
 
 // The identifier with a number.
@@ -139,15 +117,12 @@ pub fn find(register: &[u8], id: &[u8]) -> usize
     ensures { result ≡ number_of (names register.now) id.now }
 {
     let used = count_used(register);
-    let mut i: usize = 0;
-    while i < used {
-        let name = name_at(register, i);
-        if equal(name, id) {
+    for i in 0..used {
+        if equal(name_at(register, i), id) {
             return i;
         }
-        i += 1;
     }
-    i
+    used
 }
 
 // An identifier is put into the first unused entry.
@@ -157,9 +132,5 @@ pub fn add(register: &mut [u8], id: &[u8], at: usize)
 {
     let start = ENTRY * at;
     register[start] = id.len() as u8;
-    let mut i: usize = 0;
-    while i < id.len() {
-        register[start + 1 + i] = id[i];
-        i += 1;
-    }
+    register[start + 1..start + 1 + id.len()].copy_from_slice(id);
 }

@@ -7,15 +7,7 @@ ghost use Rattle.identifiers.specs.Names.{bad_length, among, distinct};
 pub fn any_bad(ids: &[&[u8]]) -> bool
     ensures { result ≡ any bad_length (map (λ x. x.now) ids.now) }
 {
-    let mut i: usize = 0;
-    while i < ids.len() {
-        let id = ids[i];
-        if super::bad_length(id) {
-            return true;
-        }
-        i += 1;
-    }
-    false
+    ids.iter().any(|id| super::bad_length(*id))
 }
 
 // Whether the identifier at place i stands before it.
@@ -24,27 +16,17 @@ fn repeats(ids: &[&[u8]], i: usize) -> bool
     ensures { result ≡ among (get_or (map (λ x. x.now) ids.now) i []) (take i (map (λ x. x.now) ids.now)) }
 {
     let id = ids[i];
-    let mut j: usize = 0;
-    while j < i {
-        let other = ids[j];
-        if super::equal(other, id) {
-            return true;
-        }
-        j += 1;
-    }
-    false
+    ids[..i].iter().any(|other| super::equal(*other, id))
 }
 
 // Whether no identifier is there twice.
 pub fn all_differ(ids: &[&[u8]]) -> bool
     ensures { result ≡ distinct (map (λ x. x.now) ids.now) }
 {
-    let mut i: usize = 0;
-    while i < ids.len() {
+    for i in 0..ids.len() {
         if repeats(ids, i) {
             return false;
         }
-        i += 1;
     }
     true
 }

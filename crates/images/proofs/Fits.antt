@@ -1,5 +1,5 @@
 -- Which places hold numbers below 65,536, and the test of all of them.
-use Rattle.lists.proofs.Prelude.{Bool, true, false, ◌&&◌, ◌||◌, and-true, and_assoc, List, ◌≡◌, sym, ◌∙◌, ℕ, suc, ◌+◌, ◌-◌, ◌%◌, ◌<◌, ◌≤◌, arith, eqb, ltb, leb, length, get_or, ltb-true, leb-true, eqb-true, eqb-false, lt-ltb, le-ltb, le-leb, lt-leb, eq-eqb, ne_eqb, every, rising, up_to, by-test, and_left, and_right, every-up_to}
+use Rattle.lists.proofs.Prelude.{Bool, true, false, ◌&&◌, ◌||◌, List, ◌≡◌, ◌∙◌, ℕ, suc, ◌+◌, ◌-◌, ◌%◌, ◌<◌, ◌≤◌, arith, eqb, ltb, leb, length, get_or, ltb-true, leb-true, eqb-true, eqb-false, lt-ltb, le-ltb, le-leb, lt-leb, eq-eqb, ne_eqb, every, rising, up_to, by-test, and_left, and_right, every-up_to}
 use Rattle.words.specs.Words.{words}
 use Rattle.words.proofs.Views.{length-words}
 use Rattle.images.specs.Images.{wide, fits, image_rule}
@@ -51,17 +51,12 @@ wide-fifths i =
 -- The loop ---------------------------------------------------------------------------------------------------------
 
 -- one place more is tested
-pub fits-turn : (t : ℕ → Bool) (ok : Bool) (i : ℕ) → i < 716 → (ok && every t (rising i (716 - i))) ≡ ((ok && t i) && every t (rising (i + 1) (716 - (i + 1))))
+pub fits-turn : (t : ℕ → Bool) (i : ℕ) → i < 716 → every t (rising i (716 - i)) ≡ (t i && every t (rising (i + 1) (716 - (i + 1))))
 unfolding rising
-fits-turn t ok i l =
+fits-turn t i l =
     let e : 716 - i ≡ suc (716 - (i + 1)) = omega arith in
     let f : suc i ≡ i + 1 = omega arith in
-    rw (e, f) (sym (and_assoc ok (t i) (every t (rising (i + 1) (716 - (i + 1))))))
-
--- none is left
-pub fits-end : (t : ℕ → Bool) (ok : Bool) (i : ℕ) → 716 ≤ i → (ok && every t (rising i (716 - i))) ≡ ok
-unfolding rising
-fits-end t ok i l = let e : 716 - i ≡ 0 = omega arith in rw e (and-true ok)
+    rw (e, f)
 
 -- bytes of the right length are an image where all places fit
 pub image-whole : (b : List ℕ) → length b ≡ 2864 → image_rule b ≡ every (fits (words b)) (up_to 716)

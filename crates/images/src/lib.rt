@@ -11,6 +11,7 @@ use state::{
     Buffer, Lengths, Listed, MOST_BUFFERED, MOST_LISTED, MOST_PARTITIONS, MergeJob, Partition,
     Partitions, State, Windows,
 };
+use std::array;
 
 // Bytes of a state's image, a word for each number.
 pub const BYTES: usize = 2864;
@@ -29,39 +30,12 @@ pub fn image_ok(image: &[u8]) -> bool
     if image.len() != BYTES {
         return false;
     }
-    let mut ok = true;
-    let mut at: usize = 0;
-    while at < 716 {
-        ok = ok & (is_wide(at) | (words::word_at(image, at) < 65536));
-        at += 1;
+    for at in 0..716 {
+        if !(is_wide(at) | (words::word_at(image, at) < 65536)) {
+            return false;
+        }
     }
-    ok
-}
-
-// A number that is below 65,536.
-fn narrow(image: &[u8], at: usize) -> u16
-    requires { (image_rule image.now ≡ true) × (at < 716) × (wide at ≡ false) }
-    ensures { result ≡ get_or (words_of image.now) at 0 }
-{
-    words::word_at(image, at) as u16
-}
-
-// The open window's identifiers.
-fn read_listed(image: &[u8]) -> Listed
-    requires { image_rule image.now ≡ true }
-    ensures { result ≡ listed_in (words_of image.now) }
-{
-    let used = narrow(image, 6);
-    let mut ids: [u16; MOST_LISTED] = [0; MOST_LISTED];
-    let mut i: usize = 0;
-    while i < MOST_LISTED {
-        ids[i] = narrow(image, 7 + i);
-        i += 1;
-    }
-    Listed {
-        used: used,
-        ids: ids,
-    }
+    true
 }
 
 // A signed count, of which the image holds 32,768 more.
@@ -78,132 +52,125 @@ fn raise(count: i16) -> u16
     (count as i32 + 32768) as u16
 }
 
-// A buffered posting.
-fn read_posting(image: &[u8], i: usize) -> Posting
-    requires { (image_rule image.now ≡ true) × (i < 128) }
-    ensures { result ≡ posting_in (words_of image.now) i }
-{
-    let id = narrow(image, 72 + 3 * i);
-    let window = narrow(image, 73 + 3 * i);
-    let count = lower(narrow(image, 74 + 3 * i));
-    Posting {
-        id: id,
-        window: window,
-        count: count,
-    }
+// Bytes that are the image of a state.
+#[derive(Clone, Copy)]
+struct Image<'a> {
+    bytes: &'a [u8],
+    ghost ruled: { image_rule bytes.now ≡ true },
 }
 
-// The buffered postings.
-fn read_buffer(image: &[u8]) -> Buffer
-    requires { image_rule image.now ≡ true }
-    ensures { result ≡ buffer_in (words_of image.now) }
-{
-    let used = narrow(image, 71);
-    let none = Posting {
-        id: 0,
-        window: 0,
-        count: 0,
-    };
-    let mut postings = [none; MOST_BUFFERED];
-    let mut i: usize = 0;
-    while i < MOST_BUFFERED {
-        let p = read_posting(image, i);
-        postings[i] = p;
-        i += 1;
+impl<'a> Image<'a> {
+    // A number.
+    fn number(&self, at: usize) -> u32
+        requires { at < 716 }
+        ensures { result ≡ get_or (words_of self.now.bytes.now) at 0 }
+    {
+        words::word_at(self.bytes, at)
     }
-    Buffer {
-        used: used,
-        postings: postings,
-    }
-}
 
-// A finished partition's record.
-fn read_record(image: &[u8], i: usize) -> Partition
-    requires { (image_rule image.now ≡ true) × (i < 51) }
-    ensures { result ≡ record_in (words_of image.now) i }
-{
-    let first = narrow(image, 457 + 5 * i);
-    let level = narrow(image, 458 + 5 * i);
-    let length = words::word_at(image, 459 + 5 * i);
-    let lowest = narrow(image, 460 + 5 * i);
-    let highest = narrow(image, 461 + 5 * i);
-    Partition {
-        first: first,
-        level: level,
-        length: length,
-        lowest: lowest,
-        highest: highest,
+    // A number that is below 65,536.
+    fn narrow(&self, at: usize) -> u16
+        requires { (at < 716) × (wide at ≡ false) }
+        ensures { result ≡ get_or (words_of self.now.bytes.now) at 0 }
+    {
+        self.number(at) as u16
     }
-}
 
-// The finished partitions.
-fn read_partitions(image: &[u8]) -> Partitions
-    requires { image_rule image.now ≡ true }
-    ensures { result ≡ partitions_in (words_of image.now) }
-{
-    let used = narrow(image, 456);
-    let none = Partition {
-        first: 0,
-        level: 0,
-        length: 0,
-        lowest: 0,
-        highest: 0,
-    };
-    let mut records = [none; MOST_PARTITIONS];
-    let mut i: usize = 0;
-    while i < MOST_PARTITIONS {
-        let p = read_record(image, i);
-        records[i] = p;
-        i += 1;
+    // The lengths of the buffers.
+    fn lengths(&self) -> Lengths
+        ensures { result ≡ lengths_in (words_of self.now.bytes.now) }
+    {
+        Lengths {
+            card: self.number(0),
+            register: self.number(1),
+        }
     }
-    Partitions {
-        used: used,
-        records: records,
-    }
-}
 
-// The lengths of the buffers.
-fn read_lengths(image: &[u8]) -> Lengths
-    requires { image_rule image.now ≡ true }
-    ensures { result ≡ lengths_in (words_of image.now) }
-{
-    let card = words::word_at(image, 0);
-    let register = words::word_at(image, 1);
-    Lengths {
-        card: card,
-        register: register,
+    // The windows' numbers.
+    fn windows(&self) -> Windows
+        ensures { result ≡ windows_in (words_of self.now.bytes.now) }
+    {
+        let last = self.narrow(2);
+        let live = self.narrow(3);
+        let current = self.narrow(4);
+        let events = self.narrow(5);
+        Windows {
+            last,
+            live,
+            current,
+            events,
+        }
     }
-}
 
-// The windows' numbers.
-fn read_windows(image: &[u8]) -> Windows
-    requires { image_rule image.now ≡ true }
-    ensures { result ≡ windows_in (words_of image.now) }
-{
-    let last = narrow(image, 2);
-    let live = narrow(image, 3);
-    let current = narrow(image, 4);
-    let events = narrow(image, 5);
-    Windows {
-        last: last,
-        live: live,
-        current: current,
-        events: events,
+    // The open window's identifiers.
+    fn listed(&self) -> Listed
+        ensures { result ≡ listed_in (words_of self.now.bytes.now) }
+    {
+        Listed {
+            used: self.narrow(6),
+            ids: array::from_fn(|i| self.narrow(7 + i)),
+        }
     }
-}
 
-// The merge in progress.
-fn read_merge(image: &[u8]) -> MergeJob
-    requires { image_rule image.now ≡ true }
-    ensures { result ≡ merge_in (words_of image.now) }
-{
-    let first = narrow(image, 713);
-    let length = words::word_at(image, 714);
-    let steps = words::word_at(image, 715);
-    MergeJob {
-        first: first,
-        length: length,
-        steps: steps,
+    // A buffered posting.
+    fn posting(&self, i: usize) -> Posting
+        requires { i < 128 }
+        ensures { result ≡ posting_in (words_of self.now.bytes.now) i }
+    {
+        let id = self.narrow(72 + 3 * i);
+        let window = self.narrow(73 + 3 * i);
+        let count = lower(self.narrow(74 + 3 * i));
+        Posting { id, window, count }
+    }
+
+    // The buffered postings.
+    fn buffer(&self) -> Buffer
+        ensures { result ≡ buffer_in (words_of self.now.bytes.now) }
+    {
+        Buffer {
+            used: self.narrow(71),
+            postings: array::from_fn(|i| self.posting(i)),
+        }
+    }
+
+    // A finished partition's record.
+    fn record(&self, i: usize) -> Partition
+        requires { i < 51 }
+        ensures { result ≡ record_in (words_of self.now.bytes.now) i }
+    {
+        let first = self.narrow(457 + 5 * i);
+        let level = self.narrow(458 + 5 * i);
+        let length = self.number(459 + 5 * i);
+        let lowest = self.narrow(460 + 5 * i);
+        let highest = self.narrow(461 + 5 * i);
+        Partition {
+            first,
+            level,
+            length,
+            lowest,
+            highest,
+        }
+    }
+
+    // The finished partitions.
+    fn partitions(&self) -> Partitions
+        ensures { result ≡ partitions_in (words_of self.now.bytes.now) }
+    {
+        Partitions {
+            used: self.narrow(456),
+            records: array::from_fn(|i| self.record(i)),
+        }
+    }
+
+    // The merge in progress.
+    fn merge(&self) -> MergeJob
+        ensures { result ≡ merge_in (words_of self.now.bytes.now) }
+    {
+        MergeJob {
+            first: self.narrow(713),
+            length: self.number(714),
+            steps: self.number(715),
+        }
     }
 }
 
@@ -212,21 +179,15 @@ pub fn read_state(image: &[u8]) -> State
     requires { image_rule image.now ≡ true }
     ensures { result ≡ state_in (words_of image.now) }
 {
-    let lengths = read_lengths(image);
-    let windows = read_windows(image);
-    let listed = read_listed(image);
-    let buffer = read_buffer(image);
-    let partitions = read_partitions(image);
-    let taken = narrow(image, 712);
-    let merge = read_merge(image);
+    let image = Image { bytes: image };
     State {
-        lengths: lengths,
-        windows: windows,
-        listed: listed,
-        buffer: buffer,
-        partitions: partitions,
-        taken: taken,
-        merge: merge,
+        lengths: image.lengths(),
+        windows: image.windows(),
+        listed: image.listed(),
+        buffer: image.buffer(),
+        partitions: image.partitions(),
+        taken: image.narrow(712),
+        merge: image.merge(),
     }
 }
 
@@ -246,10 +207,8 @@ fn put_listed(image: &mut [u8], l: Listed)
     ensures { (words_of image.new ≡ sets (words_of image.old) 6 (listed_words l)) × (length l.ids ≡ 64) }
 {
     words::put_word(image, 6, l.used as u32);
-    let mut i: usize = 0;
-    while i < MOST_LISTED {
+    for i in 0..MOST_LISTED {
         words::put_word(image, 7 + i, l.ids[i] as u32);
-        i += 1;
     }
 }
 
@@ -259,8 +218,7 @@ fn put_buffer(image: &mut [u8], b: Buffer)
     ensures { (words_of image.new ≡ sets (words_of image.old) 71 (buffer_words b)) × (length b.postings ≡ 128) }
 {
     words::put_word(image, 71, b.used as u32);
-    let mut i: usize = 0;
-    while i < MOST_BUFFERED {
+    for i in 0..MOST_BUFFERED {
         let p = b.postings[i];
         put_three(
             image,
@@ -269,7 +227,6 @@ fn put_buffer(image: &mut [u8], b: Buffer)
             p.window as u32,
             raise(p.count) as u32,
         );
-        i += 1;
     }
 }
 
@@ -290,11 +247,8 @@ fn put_partitions(image: &mut [u8], ps: Partitions)
     ensures { (words_of image.new ≡ sets (words_of image.old) 456 (partitions_words ps)) × (length ps.records ≡ 51) }
 {
     words::put_word(image, 456, ps.used as u32);
-    let mut i: usize = 0;
-    while i < MOST_PARTITIONS {
-        let p = ps.records[i];
-        put_record(image, i, p);
-        i += 1;
+    for i in 0..MOST_PARTITIONS {
+        put_record(image, i, ps.records[i]);
     }
 }
 

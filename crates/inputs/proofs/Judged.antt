@@ -1,5 +1,6 @@
 -- The walk over opened heads tells what is told of the inputs.
 use Rattle.lists.proofs.Prelude.{true, false, cond, List, map, ◌≡◌, sym, ap, ◌∙◌, ℕ, AllOf, every, joined, by-test, and_left, and_right, every_map}
+use Rattle.std.specs.Prelude.{Option, Some, None, IfSome}
 use Rattle.keyed.specs.Keys.{all_fall}
 use Rattle.words.specs.Words.{Below}
 use Rattle.postings.specs.declared.Posting.{Posting}
@@ -14,23 +15,23 @@ use Rattle.scans.specs.Heads.{Kept, views}
 use Rattle.scans.proofs.Keys.{lists-rule}
 use Rattle.scans.proofs.Merged.{pairs-bound, pairs-keyed}
 use Rattle.inputs.specs.declared.Totals.{Totals}
-use Rattle.inputs.specs.Judging.{all_in_range, inputs_formed, totals_of, counts_by_id, judged_of, zeros, Tally, untold, broken, resumed, Told}
+use Rattle.inputs.specs.Judging.{all_in_range, inputs_formed, totals_of, counts_by_id, judged_of, Small, untold, resumed, Told}
 use Rattle.inputs.specs.Ahead.{posting_lists, pairs_ahead, Ready, Formed}
 use Rattle.inputs.proofs.Views.{items-lists, lists-keyed}
 use Rattle.inputs.proofs.Tallies.{told_of, tallied-all}
 
--- inputs are told to be well formed where they are
-pub judged-fine : (W : List ℕ) (ps : List Partition) → (judged_of W ps).fine ≡ inputs_formed W ps
-unfolding judged_of totals_of
-judged-fine W ps = by-test (inputs_formed W ps) (λ y. rw y) (λ n. rw n)
-
--- and then the totals are those of their pairs
-pub judged-totals : (W : List ℕ) (ps : List Partition) → inputs_formed W ps ≡ true → judged_of W ps ≡ totals_of (pairs (in_partitions W ps))
+-- of well formed inputs the totals of their pairs are told
+pub judged-some : (W : List ℕ) (ps : List Partition) (t : Totals) → Some t ≡ judged_of W ps → (inputs_formed W ps ≡ true) × (t ≡ totals_of (pairs (in_partitions W ps)))
 unfolding judged_of
-judged-totals W ps e = rw e
+judged-some W ps t e = by-test (inputs_formed W ps) (λ y. let h = rw y at e in (y, cc)) (λ n. let h = rw n at e in cc)
+
+-- and of malformed ones nothing is
+pub judged-none : (W : List ℕ) (ps : List Partition) → None ≡ judged_of W ps → inputs_formed W ps ≡ false
+unfolding judged_of
+judged-none W ps e = by-test (inputs_formed W ps) (λ y. let h = rw y at e in cc) (λ n. n)
 
 -- inputs whose records tell other windows are malformed
-pub judged-unspanned : (W : List ℕ) (ps : List Partition) → spans_told W ps ≡ false → judged_of W ps ≡ zeros false
+pub judged-unspanned : (W : List ℕ) (ps : List Partition) → spans_told W ps ≡ false → judged_of W ps ≡ None
 unfolding judged_of inputs_formed
 judged-unspanned W ps e = rw (lists-unspanned W ps e)
 
@@ -49,7 +50,7 @@ module _ (W : List ℕ) (small : Below 4294967296 W) (ps : List Partition) (n : 
 
   module _ (spanned : spans_told W ps ≡ true) where
     -- what the walk tells
-    walked : resumed 67108864 (views W n H) untold ≡ cond (inputs_formed W ps) (told_of (pairs (in_partitions W ps))) broken
+    walked : resumed 67108864 (views W n H) untold ≡ cond (inputs_formed W ps) (Some (told_of (pairs (in_partitions W ps)))) None
     unfolding resumed inputs_formed in_partitions
     walked =
         rw (items, lists-spanned W ps spanned)
@@ -57,13 +58,15 @@ module _ (W : List ℕ) (small : Below 4294967296 W) (ps : List Partition) (n : 
         (λ y. rw (pairs-keyed ls keyed y, tallied-all (pairs (joined ls)) (pairs-bound ls keyed), falls))
         (λ n. rw (n, sym falls ∙ n)))
 
-    module _ (r : Totals) (ns : List ℕ) (t : Told (resumed 67108864 (views W n H) untold) r ns) where
-      pub told-totals : r ≡ judged_of W ps
-      unfolding judged_of
-      told-totals = t.totals ∙ ap (λ (x : Tally). x.totals) walked ∙ by-test (inputs_formed W ps) (λ y. rw y) (λ n. rw n)
-
-      pub told-counts : r.fine ≡ true → ns ≡ counts_by_id (pairs (in_partitions W ps))
-      told-counts f = t.counts f ∙ ap (λ (x : Tally). x.counts) walked ∙ rw (sym (judged-fine W ps) ∙ ap (λ (x : Totals). x.fine) (sym told-totals) ∙ f)
+    -- is what is told of the inputs
+    pub told-judged : (r : Option Totals) (ns : List ℕ) → Told (resumed 67108864 (views W n H) untold) r ns → IfSome r Small
+        → (r ≡ judged_of W ps) × IfSome r (λ t. (ns ≡ counts_by_id (pairs (in_partitions W ps))) × Small t)
+    unfolding judged_of
+    told-judged r ns t fits =
+        by-test (inputs_formed W ps)
+        (λ y. let f : (r ≡ Some (totals_of (pairs (in_partitions W ps)))) × (ns ≡ counts_by_id (pairs (in_partitions W ps))) = rw (walked, y) at t in
+        (rw y f.0, rw f.0 (f.1, rw f.0 at fits)))
+        (λ n. let f : r ≡ None = rw (walked, n) at t in (rw n f, rw f tt))
 
   -- heads of well formed inputs
   pub opened-ahead : pairs_ahead W n H ≡ pairs (in_partitions W ps)

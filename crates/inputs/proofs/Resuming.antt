@@ -1,43 +1,31 @@
 -- The walk that judges the inputs: how what is told goes on from key to key.
-use Rattle.lists.proofs.Prelude.{true, false, List, map, ◌≡◌, sym, ap, ◌∙◌, ℕ, suc, ◌<◌, ◌≤◌, arith, by-test, and_right, never}
+use Rattle.lists.proofs.Prelude.{true, false, List, map, ◌≡◌, sym, ◌∙◌, ℕ, suc, ◌<◌, ◌≤◌, arith, by-test, and_right}
+use Rattle.std.specs.Prelude.{Some, None}
 use Rattle.keyed.specs.Keys.{Item, all_fall, topmost_from, rest, head_vals, heads_fine}
 use Rattle.keyed.proofs.Walk.{under_top, top-falls, spent-falls, under, step_falls, pairs-none, pairs-step}
 use Rattle.partitions.specs.Formed.{in_range}
 use Rattle.scans.specs.Keys.{posting_of}
-use Rattle.inputs.specs.declared.Totals.{Totals}
-use Rattle.inputs.specs.Judging.{zeros, Small, Tally, tally_of, tallied, broken, resumed, Told}
-
-module _ (t : Tally) (r : Totals) (ns : List ℕ) where
-  -- all is told
-  pub told-all : t ≡ record { totals = r; counts = ns } → Told t r ns
-  told-all e = record { totals = ap (λ (x : Tally). x.totals) (sym e); counts = λ f. ap (λ (x : Tally). x.counts) (sym e) }
-
-  -- nothing can be
-  pub told-broken : t ≡ broken → r ≡ zeros false → Told t r ns × Small r
-  told-broken e z = (
-    record { totals = z ∙ ap (λ (x : Tally). x.totals) (sym e); counts = λ f. never (sym (ap (λ (x : Totals). x.fine) z) ∙ f) },
-    rw z (record { pairs = omega arith; postings = omega arith; terms = omega arith }),
-  )
+use Rattle.inputs.specs.Judging.{Tally, tally_of, tallied, resumed}
 
 module _ (m : ℕ) (ls : List (List Item)) (t : Tally) where
   -- nothing is left
-  pub ended : topmost_from 0 ls ≡ 0 → resumed m ls t ≡ t
+  pub ended : topmost_from 0 ls ≡ 0 → resumed m ls t ≡ Some t
   unfolding resumed tallied
   ended e = let u = rw e at (under_top 0 ls) in rw (spent-falls m ls u, pairs-none m ls u)
 
   -- a key at or above one that was passed
-  pub too-high : m < topmost_from 0 ls → resumed m ls t ≡ broken
+  pub too-high : m < topmost_from 0 ls → resumed m ls t ≡ None
   unfolding resumed
   too-high h = by-test (all_fall m ls) (λ e. let f = top-falls m 0 ls (omega arith) e in absurd (omega arith)) (λ e. rw e)
 
   module _ (k : ℕ) (top : topmost_from 0 ls ≡ suc k) (low : suc k ≤ m) where
     -- a malformed posting
-    pub malformed : heads_fine k ls ≡ false → resumed m ls t ≡ broken
+    pub malformed : heads_fine k ls ≡ false → resumed m ls t ≡ None
     unfolding resumed
     malformed e = rw (step_falls m k ls (under k ls top) low, e)
 
     -- a sum that does not fit
-    pub out_of_range : in_range (head_vals k ls) ≡ false → resumed m ls t ≡ broken
+    pub out_of_range : in_range (head_vals k ls) ≡ false → resumed m ls t ≡ None
     unfolding resumed
     out_of_range e = by-test (all_fall m ls) (λ y. rw (y, pairs-step m k ls top low y, e)) (λ n. rw n)
 

@@ -1,7 +1,7 @@
 -- Totals fit: under each identifier there are at most 65,535 windows.
 use Prim.Native.Nat.{min, max}
-use Rattle.lists.proofs.Prelude.{Bool, true, false, not, cond, List, [], ◌∷◌, map, ◌⊎◌, inl, inr, ⊎_elim, ◌≡◌, refl, sym, ◌∙◌, ℕ, zero, suc, ◌+◌, ◌<◌, ◌≤◌, add-one, arith, eqb, leb, ltb, ℤ, length, get_or, set, replicate, length-set, get_or-set_same, get_or-set_other, leb-true, le-ltb, eqb-true, eqb-false, eq-eqb, ne_eqb, AllOf, keep, every, by-test, and_left, and_right, length-keep, get_or-same}
-use Rattle.keyed.specs.Keys.{topmost_from, larger, head_fine, heads_fine}
+use Rattle.lists.proofs.Prelude.{ltb-true, ltb-false, Bool, true, false, not, cond, List, [], ◌∷◌, map, ◌⊎◌, inl, inr, ⊎_elim, ◌≡◌, refl, sym, ◌∙◌, ℕ, zero, suc, ◌+◌, ◌<◌, ◌≤◌, add-one, arith, eqb, leb, ltb, ℤ, length, get_or, set, replicate, length-set, get_or-set_same, get_or-set_other, leb-true, eqb-true, eqb-false, eq-eqb, ne_eqb, AllOf, keep, every, by-test, and_left, and_right, length-keep, get_or-same}
+use Rattle.keyed.specs.Keys.{topmost_from, head_fine, heads_fine}
 use Rattle.words.specs.Words.{Below}
 use Rattle.postings.specs.declared.Posting.{Posting}
 use Rattle.postings.specs.Merge.{is_zero}
@@ -32,7 +32,7 @@ room_small t ns bound r =
     record { pairs = omega (arith, r.pairs); postings = r.postings; terms = omega (arith, r.terms, r.long, length-keep some ns) }
 
 -- at first there is room
-pub room-none : Room (zeros true) (replicate 1024 0) 67108864
+pub room-none : Room zeros (replicate 1024 0) 67108864
 room-none = record { long = refl; pairs = omega arith; postings = omega arith; terms = sym (none 1024); counts = λ i h. inl (get_or-same {A = ℕ} 1024 i 0) }
   where
     none : (n : ℕ) → length (keep some (replicate n 0)) ≡ 0
@@ -58,21 +58,21 @@ count_set (x ∷ l) (suc i) h =
 top-window : (k t : ℕ) (ls : List (List Posting)) → every (every is_keyed) ls ≡ true → topmost_from t (map (map item_of) ls) ≡ suc k → heads_fine k (map (map item_of) ls) ≡ true
     → (t ≡ suc k) ⊎ (1 ≤ key_window k)
 top-window k t [] e top f = inl top
-top-window k t ([] ∷ ls) e top f = ⊎_elim (λ q. inl (rw (le-ltb t 0 (omega arith)) at q)) (λ h. inr h) (top-window k (larger t 0) ls e top f)
+top-window k t ([] ∷ ls) e top f = ⊎_elim (λ q. inl (omega arith)) (λ h. inr h) (top-window k (max t 0) ls e top f)
 top-window k t ((p ∷ l) ∷ ls) e top f =
     ⊎_elim here (λ h. inr h)
-    (top-window k (larger t (suc (key_of p.id p.window))) ls (and_right (every is_keyed (p ∷ l)) _ e) top (and_right (head_fine k (map item_of (p ∷ l))) _ f))
+    (top-window k (max t (suc (key_of p.id p.window))) ls (and_right (every is_keyed (p ∷ l)) _ e) top (and_right (head_fine k (map item_of (p ∷ l))) _ f))
   where
-    here : larger t (suc (key_of p.id p.window)) ≡ suc k → (t ≡ suc k) ⊎ (1 ≤ key_window k)
+    here : max t (suc (key_of p.id p.window)) ≡ suc k → (t ≡ suc k) ⊎ (1 ≤ key_window k)
     here q =
         by-test (ltb t (suc (key_of p.id p.window)))
-        (λ b. let r : suc (key_of p.id p.window) ≡ suc k = rw b at q in
+        (λ b. let lt = ltb-true t (suc (key_of p.id p.window)) b in
         let s : key_of p.id p.window ≡ k = omega arith in
         let g : (item_of p).fine ≡ true = rw (eq-eqb (key_of p.id p.window) k s) at (and_left (head_fine k (map item_of (p ∷ l))) _ f) in
         let w : 1 ≤ p.window = leb-true 1 p.window (and_left (leb 1 p.window) _ g) in
         let c = key-of-window p.id p.window (bounds p (and_left (is_keyed p) _ (and_left (every is_keyed (p ∷ l)) _ e))).window in
         inr (rw (← s, c) w))
-        (λ b. inl (rw b at q))
+        (λ b. let le = ltb-false t (suc (key_of p.id p.window)) b in inl (omega arith))
 
 key-window : (k : ℕ) (ls : List (List Posting)) → every (every is_keyed) ls ≡ true → topmost_from 0 (map (map item_of) ls) ≡ suc k → heads_fine k (map (map item_of) ls) ≡ true → 1 ≤ key_window k
 key-window k ls e top f = ⊎_elim (λ q. absurd (omega arith)) (λ h. h) (top-window k 0 ls e top f)
@@ -102,7 +102,7 @@ module _ (t : Totals) (ns : List ℕ) (bound k : ℕ) (z : ℤ) (r : Room t ns b
       long : length ns ≡ 1024
       long = r.long
 
-      zero-sum : Room (record { fine = t.fine; pairs = t.pairs + 1; postings = t.postings; terms = t.terms; lowest = t.lowest; highest = t.highest }) ns k
+      zero-sum : Room (record { pairs = t.pairs + 1; postings = t.postings; terms = t.terms; lowest = t.lowest; highest = t.highest }) ns k
       zero-sum = record {
         long = long;
         pairs = omega (arith, r.pairs);
@@ -120,7 +120,7 @@ module _ (t : Totals) (ns : List ℕ) (bound k : ℕ) (z : ℤ) (r : Room t ns b
           (λ f. rw (get_or-set_other ns (key_id k) i (n + 1) 0 (eqb-false i (key_id k) f))
           (⊎_elim (λ q. inl q) (λ b. inr (omega arith)) (r.counts i h)))
 
-      other-sum : Room (record { fine = t.fine; pairs = t.pairs + 1; postings = t.postings + 1; terms = risen t.terms n; lowest = min t.lowest p.window; highest = max t.highest p.window }) (set ns (key_id k) (n + 1)) k
+      other-sum : Room (record { pairs = t.pairs + 1; postings = t.postings + 1; terms = risen t.terms n; lowest = min t.lowest p.window; highest = max t.highest p.window }) (set ns (key_id k) (n + 1)) k
       other-sum = record {
         long = length-set ns (key_id k) (n + 1) ∙ long;
         pairs = omega (arith, r.pairs);

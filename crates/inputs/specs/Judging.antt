@@ -1,5 +1,5 @@
--- What is told of a merge's inputs: whether they are well formed, and what their pairs come to.
-use Rattle.std.specs.Prelude.{Bool, true, false, cond, ◌&&◌, List, [], ◌∷◌, map, ◌≡◌, ℕ, ◌+◌, ◌≤◌, min, max, eqb, length, get_or, set, replicate}
+-- What is told of a merge's inputs that are well formed: what their pairs come to.
+use Rattle.std.specs.Prelude.{Bool, cond, Option, Some, None, MatchOption, ◌&&◌, List, [], ◌∷◌, map, ◌≡◌, ℕ, ◌+◌, ◌≤◌, min, max, eqb, length, get_or, set, replicate}
 use Rattle.lists.specs.Lists.{every, up_to}
 use Rattle.keyed.specs.Keys.{Item, all_fall, key_pairs as keyed_pairs}
 use Rattle.postings.specs.declared.Posting.{Posting}
@@ -24,7 +24,6 @@ inputs_formed W ps = every (lists_rule W) ps && all_in_range (pairs (in_partitio
 -- the totals of pairs: how many, how many with a sum other than 0, and of these how many identifiers, and the lowest and the highest window
 unfoldable pub totals_of : List Posting → Totals
 totals_of ps = record {
-  fine = true;
   pairs = length ps;
   postings = length (nonzero ps);
   terms = term_count (nonzero ps);
@@ -37,12 +36,12 @@ unfoldable pub counts_by_id : List Posting → List ℕ
 counts_by_id ps = map (λ i. length (under i (nonzero ps))) (up_to 1024)
 
 -- totals of no pairs
-abbrev pub zeros : Bool → Totals
-zeros fine = record { fine = fine; pairs = 0; postings = 0; terms = 0; lowest = 65535; highest = 0 }
+abbrev pub zeros : Totals
+zeros = record { pairs = 0; postings = 0; terms = 0; lowest = 65535; highest = 0 }
 
--- what is told of inputs; of malformed ones that of no pairs
-unfoldable pub judged_of : List ℕ → List Partition → Totals
-judged_of W ps = cond (inputs_formed W ps) (totals_of (pairs (in_partitions W ps))) (zeros false)
+-- what is told of inputs; of malformed ones nothing is
+unfoldable pub judged_of : List ℕ → List Partition → Option Totals
+judged_of W ps = cond (inputs_formed W ps) (Some (totals_of (pairs (in_partitions W ps)))) None
 
 -- totals that fit
 pub record Small (t : Totals) : Type 0 where
@@ -65,9 +64,8 @@ risen terms n = cond (eqb n 0) (terms + 1) terms
 unfoldable pub totals_more : Totals → ℕ → Posting → Totals
 totals_more t n p =
     cond (is_zero p.count)
-    (record { fine = t.fine; pairs = t.pairs + 1; postings = t.postings; terms = t.terms; lowest = t.lowest; highest = t.highest })
+    (record { pairs = t.pairs + 1; postings = t.postings; terms = t.terms; lowest = t.lowest; highest = t.highest })
     (record {
-      fine = t.fine;
       pairs = t.pairs + 1;
       postings = t.postings + 1;
       terms = risen t.terms n;
@@ -88,22 +86,18 @@ unfoldable pub tallied : Tally → List Posting → Tally
 tallied t [] = t
 tallied t (p ∷ ps) = tallied (tally_of t p) ps
 
--- nothing is told yet; and nothing can be
+-- nothing is told yet
 abbrev pub untold : Tally
-untold = record { totals = zeros true; counts = replicate 1024 0 }
-
-abbrev pub broken : Tally
-broken = record { totals = zeros false; counts = [] }
+untold = record { totals = zeros; counts = replicate 1024 0 }
 
 -- the pairs of lists by falling key below m, as postings
 abbrev pub postings_below : ℕ → List (List Item) → List Posting
 postings_below m ls = map posting_of (keyed_pairs m ls)
 
--- what is told where the lists ls with keys below m are left and t is told of what was taken
-unfoldable pub resumed : ℕ → List (List Item) → Tally → Tally
-resumed m ls t = cond (all_fall m ls && all_in_range (postings_below m ls)) (tallied t (postings_below m ls)) broken
+-- what is told where the lists ls with keys below m are left and t is told of what was taken; of malformed lists nothing is
+unfoldable pub resumed : ℕ → List (List Item) → Tally → Option Tally
+resumed m ls t = cond (all_fall m ls && all_in_range (postings_below m ls)) (Some (tallied t (postings_below m ls))) None
 
--- totals r and numbers ns are what is told; of malformed lists there are no numbers to tell
-pub record Told (t : Tally) (r : Totals) (ns : List ℕ) : Type 0 where
-  pub totals : r ≡ t.totals
-  pub counts : r.fine ≡ true → ns ≡ t.counts
+-- totals r and numbers ns are what is told; of malformed lists there are neither
+abbrev pub Told : Option Tally → Option Totals → List ℕ → Type 0
+Told t r ns = MatchOption t (r ≡ None) (λ y. (r ≡ Some y.totals) × (ns ≡ y.counts))

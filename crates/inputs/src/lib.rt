@@ -2,7 +2,7 @@
 // numbers (`scans`), and is moved in place.
 #![tactic(auto)]
 
-ghost use Rattle.std.specs.Prelude.{◌≡◌, true, [], ◌∷◌, ◌++◌, ◌+◌, ◌*◌, ◌≤◌, ◌<◌, nat_abs, length, get_or, take, drop, replicate};
+ghost use Rattle.std.specs.Prelude.{◌≡◌, true, [], ◌∷◌, ◌++◌, ◌+◌, ◌*◌, ◌≤◌, ◌<◌, nat_abs, length, get_or, take, drop, replicate, IfSome};
 ghost use Rattle.lists.specs.All.{AllOf};
 ghost use Rattle.words.specs.Words.{words as words_of};
 ghost use Rattle.postings.specs.Merge.{is_zero, nonzero, pairs as pairs_of};
@@ -12,18 +12,18 @@ ghost use Rattle.partitions.specs.Reading.{in_partitions};
 ghost use Rattle.partitions.specs.Terms.{Readable};
 ghost use Rattle.scans.specs.Keys.{posting_of};
 ghost use Rattle.scans.specs.Heads.{views};
-ghost use Rattle.inputs.specs.Judging.{inputs_formed, judged_of, counts_by_id, zeros as zeros_of, Small, risen as risen_of, totals_more, counts_more, untold, resumed, Told};
+ghost use Rattle.inputs.specs.Judging.{inputs_formed, judged_of, counts_by_id, Small, risen as risen_of, totals_more, counts_more, untold, resumed, Told};
 ghost use Rattle.inputs.specs.Ahead.{pairs_ahead, Ready, Formed, out_words, Matched, batched};
 
 use card::Cursor;
 use postings::{Posting, STEP_PAIRS};
+use scans::Whole;
 use state::Partitions;
 
-// What is told of a merge's inputs: whether they are well formed, how many pairs they have, how many of these have a sum other than 0, of how many
-// identifiers these are, and their lowest and highest window.
+// What is told of a merge's inputs: how many pairs they have, how many of these have a sum other than 0, of how many identifiers these are, and their
+// lowest and highest window.
 #[derive(Clone, Copy)]
 pub struct Totals {
-    pub fine: bool,
     pub pairs: u32,
     pub postings: u32,
     pub terms: u16,
@@ -46,14 +46,15 @@ pub struct Batch {
     pub taken: u16,
 }
 
-// Whether the output has a pair's word, and the cursor past it.
+// Whether the output has a pair's word, and the cursor past it, which is told in either case.
 #[derive(Clone, Copy)]
 struct Compared {
     pub same: bool,
     pub out: Cursor,
 }
 
-// Whether the output has the words of pairs, one more than the greatest key at any head past them, and the output past them.
+// Whether the output has the words of pairs, one more than the greatest key at any head past them, and the output past them, all of
+// which is told in either case.
 #[derive(Clone, Copy)]
 pub struct Passed {
     pub same: bool,
@@ -73,27 +74,22 @@ fn pair_of(key: u32, sum: i32) -> Posting
     requires { (key < 67108864) × (nat_abs sum ≤ 32767) }
     ensures { result ≡ posting_of (record { key = key; sum = sum }) }
 {
-    let id = scans::key_id(key);
-    let window = scans::key_window(key);
     Posting {
-        id: id,
-        window: window,
+        id: scans::key_id(key),
+        window: scans::key_window(key),
         count: sum as i16,
     }
 }
 
-// Totals of no pairs.
-fn zeros(fine: bool) -> Totals
-    ensures { result ≡ zeros_of fine }
-{
-    Totals {
-        fine: fine,
+impl Totals {
+    // Of no pairs.
+    const NONE: Totals = Totals {
         pairs: 0,
         postings: 0,
         terms: 0,
         lowest: 65535,
         highest: 0,
-    }
+    };
 }
 
 // The identifiers, of which the next posting's has n postings so far.
@@ -109,65 +105,59 @@ fn tally(t: Totals, counts: &mut [u16], p: Posting) -> Totals
     requires { Small t × (p.id < length counts.old) × (get_or counts.old p.id 0 ≤ 65534) }
     ensures { (result ≡ totals_more t (get_or counts.old p.id 0) p) × (counts.new ≡ counts_more counts.old p) }
 {
-    let mut next = t;
-    next.pairs = t.pairs + 1;
+    let pairs = t.pairs + 1;
     if is_zero(p) {
-        return next;
+        return Totals { pairs, ..t };
     }
     let i = p.id as usize;
     let n = counts[i];
-    next.postings = t.postings + 1;
-    next.terms = risen(t.terms, n);
-    next.lowest = spans::smaller(t.lowest, p.window);
-    next.highest = spans::larger(t.highest, p.window);
     counts[i] = n + 1;
-    next
+    Totals {
+        pairs,
+        postings: t.postings + 1,
+        terms: risen(t.terms, n),
+        lowest: t.lowest.min(p.window),
+        highest: t.highest.max(p.window),
+    }
 }
 
-// The walk over the inputs: key after key, from the greatest at any head down. No head may reach a key that was passed.
-fn walk(card: &[u8], heads: &mut [u32], n: usize, first: u32, counts: &mut [u16]) -> Totals
+// The walk over the inputs: key after key, from the greatest at any head down. No head may reach a key that was passed, and every sum has to fit.
+fn walk(card: &[u8], heads: &mut [u32], n: usize, first: u32, counts: &mut [u16]) -> Option<Totals>
     requires { Ready (words_of card.now) n heads.old first × (counts.old ≡ replicate 1024 0) }
-    ensures { Told (resumed 67108864 (views (words_of card.now) n heads.old) untold) result counts.new × Small result }
+    ensures { Told (resumed 67108864 (views (words_of card.now) n heads.old) untold) result counts.new × IfSome result Small }
 {
     let mut top = first;
     let mut bound: u32 = kway::KEYS;
-    let mut t = zeros(true);
-    loop {
-        if top == 0 {
-            return t;
-        }
+    let mut t = Totals::NONE;
+    // The next key is the greatest that is left: there is no index to count.
+    while 0 < top {
         if bound < top {
-            return zeros(false);
+            return None;
         }
         let key = top - 1;
-        let k = scans::take(card, heads, n, key);
-        if !k.fine {
-            return zeros(false);
+        let k = kway::take(&Whole { card }, heads, n, key);
+        if !k.fine | !kway::in_range(k.sum) {
+            return None;
         }
-        let sum = k.sum;
-        if !kway::in_range(sum) {
-            return zeros(false);
-        }
-        t = tally(t, counts, pair_of(key, sum));
+        t = tally(t, counts, pair_of(key, k.sum));
         bound = key;
         top = k.next;
     }
+    Some(t)
 }
 
-// What is told of a merge's inputs, by one walk over them, and where they are well formed how many postings are under each identifier.
-pub fn judge(card: &[u8], ps: Partitions, heads: &mut [u32], counts: &mut [u16]) -> Totals
+// What is told of a merge's inputs where they are well formed, by one walk over them, and how many postings are under each identifier.
+pub fn judge(card: &[u8], ps: Partitions, heads: &mut [u32], counts: &mut [u16]) -> Option<Totals>
     requires { (ps.used ≤ 51) × AllOf (Readable (words_of card.now)) (finished ps) × (10 * ps.used ≤ length heads.old) × (length heads.old ≤ 65536)
         × (counts.old ≡ replicate 1024 0) }
     ensures { (result ≡ judged_of (words_of card.now) (finished ps))
-        × (result.fine ≡ true → counts.new ≡ counts_by_id (pairs_of (in_partitions (words_of card.now) (finished ps))))
-        × Small result }
+        × IfSome result (λ t. (counts.new ≡ counts_by_id (pairs_of (in_partitions (words_of card.now) (finished ps)))) × Small t) }
 {
     if !spans::spans_ok(card, ps) {
-        return zeros(false);
+        return None;
     }
-    let n = ps.used as usize;
     let top = scans::open_heads(card, ps, heads);
-    walk(card, heads, n, top, counts)
+    walk(card, heads, ps.used as usize, top, counts)
 }
 
 // The heads of inputs that are well formed, and one more than the greatest key at any.
@@ -187,10 +177,9 @@ fn next_pair(card: &[u8], heads: &mut [u32], n: usize, top: u32) -> Next
         × Formed (words_of card.now) n heads.new result.top }
 {
     let key = top - 1;
-    let moved = scans::take(card, heads, n, key);
-    let pair = pair_of(key, moved.sum);
+    let moved = kway::take(&Whole { card }, heads, n, key);
     Next {
-        pair: pair,
+        pair: pair_of(key, moved.sum),
         top: moved.next,
     }
 }
@@ -203,10 +192,9 @@ fn kept(b: Batch, p: Posting) -> Batch
     if is_zero(p) {
         return b;
     }
-    let n = b.used as usize;
     let mut next = b;
-    next.pairs[n] = p;
-    next.used = b.used + 1;
+    next.pairs[b.used as usize] = p;
+    next.used += 1;
     next
 }
 
@@ -218,18 +206,14 @@ pub fn sixteen(card: &[u8], heads: &mut [u32], n: usize, first: u32) -> Batch
         × (result.used ≤ 16)
         × (pairs_ahead (words_of card.now) n heads.new ≡ drop 16 (pairs_ahead (words_of card.now) n heads.old)) }
 {
-    let none = Posting {
-        id: 0,
-        window: 0,
-        count: 0,
-    };
     let mut top = first;
     let mut b = Batch {
-        pairs: [none; STEP_PAIRS],
+        pairs: [Posting::NONE; STEP_PAIRS],
         used: 0,
         taken: 0,
     };
     let mut i: u16 = 0;
+    // left with the number of pairs taken, by which a step knows whether it is the last
     let taken = 'pairs: loop {
         if i == 16 {
             break 'pairs i;
@@ -238,8 +222,7 @@ pub fn sixteen(card: &[u8], heads: &mut [u32], n: usize, first: u32) -> Batch
             break 'pairs i;
         }
         let t = next_pair(card, heads, n, top);
-        let p = t.pair;
-        b = kept(b, p);
+        b = kept(b, t.pair);
         top = t.top;
         i += 1;
     };
@@ -253,17 +236,12 @@ fn compare(card: &[u8], out: Cursor, p: Posting) -> Compared
     ensures { Matched (ahead (words_of card.now) out) (out_words 1 (p ∷ [])) result.same (ahead (words_of card.now) result.out) × Good (words_of card.now) result.out }
 {
     if is_zero(p) {
-        return Compared {
-            same: true,
-            out: out,
-        };
+        return Compared { same: true, out };
     }
     let word = postings::pack(p.count, p.window);
-    let same = card::head(card, out) == word;
-    let next = card::moved(card, out);
     Compared {
-        same: same,
-        out: next,
+        same: card::head(card, out) == word,
+        out: card::moved(card, out),
     }
 }
 
@@ -279,26 +257,15 @@ pub fn pass(card: &[u8], heads: &mut [u32], n: usize, first: u32, m: u32, out: C
     let mut top = first;
     let mut o = out;
     let mut same = true;
-    let mut i: u32 = 0;
-    while i < m {
+    for _ in 0..m {
         if top == 0 {
-            return Passed {
-                same: same,
-                top: top,
-                out: o,
-            };
+            break;
         }
         let t = next_pair(card, heads, n, top);
-        let p = t.pair;
-        let d = compare(card, o, p);
-        same = kway::both(same, d.same);
+        let d = compare(card, o, t.pair);
+        same &= d.same;
         top = t.top;
         o = d.out;
-        i += 1;
     }
-    Passed {
-        same: same,
-        top: top,
-        out: o,
-    }
+    Passed { same, top, out: o }
 }

@@ -1,8 +1,9 @@
 -- A joint walk over several groups of lists, as the lists of a query's identifiers: each group has its own sum of a key.
+use Prim.Native.Nat.{max}
 use Rattle.lists.proofs.Prelude.{Bool, true, false, cond, ◌&&◌, and-false, List, [], ◌∷◌, map, ◌≡◌, refl, sym, ◌∙◌, ℕ, suc, ◌<◌, ◌≤◌, zero-le, arith, ℤ, pos, AllOf, by-test, and_left, and_right, and_both, and-swap}
-use Rattle.keyed.specs.Keys.{rest, sums, all_fall, over_keys, larger, topmost_from, head_vals, heads_fine}
+use Rattle.keyed.specs.Keys.{rest, sums, all_fall, over_keys, topmost_from, head_vals, heads_fine}
 use Rattle.keyed.specs.Groups.{Group, top_all, all_fall_all, move_all, heads_fine_all}
-use Rattle.keyed.proofs.Walk.{Under, none, more, under_top, larger-left, larger-right, larger-under, top-falls, spent-falls, spent-sums, Stepped, stepped, step_falls, over_none, over-step}
+use Rattle.keyed.proofs.Walk.{Under, none, more, under_top, top-falls, spent-falls, spent-sums, Stepped, stepped, step_falls, over_none, over-step}
 
 under-le : (s t : ℕ) (g : Group) → s ≤ t → Under s g → Under t g
 under-le s t [] h u = none
@@ -10,15 +11,14 @@ under-le s t (l ∷ g) h (more a u) = more {l = l} (omega arith) (under-le s t g
 
 top-all-from : (t : ℕ) (gs : List Group) → t ≤ top_all t gs
 top-all-from t [] = omega arith
-top-all-from t (g ∷ gs) = let a = larger-left t (topmost_from 0 g) in let b = top-all-from (larger t (topmost_from 0 g)) gs in omega arith
+top-all-from t (g ∷ gs) = let b = top-all-from (max t (topmost_from 0 g)) gs in omega arith
 
 pub under_all : (t : ℕ) (gs : List Group) → AllOf (Under (top_all t gs)) gs
 unfolding AllOf
 under_all t [] = tt
 under_all t (g ∷ gs) =
-    let a = larger-right t (topmost_from 0 g) in
-    let b = top-all-from (larger t (topmost_from 0 g)) gs in
-    (under-le (topmost_from 0 g) (top_all (larger t (topmost_from 0 g)) gs) g (omega arith) (under_top 0 g), under_all (larger t (topmost_from 0 g)) gs)
+    let b = top-all-from (max t (topmost_from 0 g)) gs in
+    (under-le (topmost_from 0 g) (top_all (max t (topmost_from 0 g)) gs) g (omega arith) (under_top 0 g), under_all (max t (topmost_from 0 g)) gs)
 
 pub stepped-all : (m k : ℕ) (gs : List Group) → AllOf (Under (suc k)) gs → k < m → all_fall_all m gs ≡ true → AllOf (Stepped k) gs
 unfolding AllOf
@@ -69,7 +69,7 @@ spent-zero j (g ∷ gs) u = (spent-sums j g u.0, spent-zero j gs u.1)
 pub top-all-falls : (m t : ℕ) (gs : List Group) → t ≤ m → all_fall_all m gs ≡ true → top_all t gs ≤ m
 top-all-falls m t [] h e = h
 top-all-falls m t (g ∷ gs) h e =
-    top-all-falls m (larger t (topmost_from 0 g)) gs (larger-under t (topmost_from 0 g) m h (top-falls m 0 g zero-le (and_left _ _ e))) (and_right (all_fall m g) _ e)
+    let a = top-falls m 0 g zero-le (and_left _ _ e) in top-all-falls m (max t (topmost_from 0 g)) gs (omega arith) (and_right (all_fall m g) _ e)
 
 pub step-falls-all : (m k : ℕ) (gs : List Group) → AllOf (Under (suc k)) gs → k < m → all_fall_all m gs ≡ (heads_fine_all k gs && all_fall_all k (move_all k gs))
 unfolding AllOf

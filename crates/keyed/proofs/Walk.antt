@@ -1,6 +1,7 @@
 -- The walk by falling key computes the definition: the laws of one step.
+use Prim.Native.Nat.{max}
 use Rattle.lists.proofs.Prelude.{true, false, ◌&&◌, ◌||◌, List, [], ◌∷◌, map, ◌⊎◌, inl, inr, ⊎_elim, ◌≡◌, refl, sym, ap, ◌∙◌, ℕ, zero, suc, ◌<◌, ◌≤◌, zero-le, eq-or-lt_of_le, arith, ltb, eqb, ℤ, pos, ◌+ℤ◌, +ℤ_idl, +ℤ_idr, +ℤ_assoc, +ℤ_comm, ltb-true, ltb-false, eqb-true, eqb-false, lt-ltb, eq-eqb, ne_eqb, by-test, and_left, and_right, and-swap, or_right}
-use Rattle.keyed.specs.Keys.{Item, falls, all_fall, sum_of, sums, held_in, held, over_keys, add_pair, key_pairs, reach, larger, topmost_from, rest, head_val, head_fine, head_vals, heads_fine}
+use Rattle.keyed.specs.Keys.{Item, falls, all_fall, sum_of, sums, held_in, held, over_keys, add_pair, key_pairs, reach, topmost_from, rest, head_val, head_fine, head_vals, heads_fine}
 
 sum-swap : (a b c d : ℤ) → (a +ℤ b) +ℤ (c +ℤ d) ≡ (a +ℤ c) +ℤ (b +ℤ d)
 sum-swap a b c d =
@@ -71,25 +72,15 @@ sums-over m k j h (l ∷ ls) (more a u) e = rw (sum_over m k j h l a (and_left _
 
 -- ---- the greatest key
 
-pub larger-left : (a b : ℕ) → a ≤ larger a b
-larger-left a b = by-test (ltb a b) (λ e. let h = ltb-true a b e in rw e (omega arith)) (λ e. rw e (omega arith))
-
-pub larger-right : (a b : ℕ) → b ≤ larger a b
-larger-right a b = by-test (ltb a b) (λ e. rw e (omega arith)) (λ e. let h = ltb-false a b e in rw e h)
-
-pub larger-under : (a b m : ℕ) → a ≤ m → b ≤ m → larger a b ≤ m
-larger-under a b m p q = by-test (ltb a b) (λ e. rw e q) (λ e. rw e p)
-
 top_from : (t : ℕ) (ls : List (List Item)) → t ≤ topmost_from t ls
 top_from t [] = omega arith
-top_from t (l ∷ ls) = let a = larger-left t (reach l) in let b = top_from (larger t (reach l)) ls in omega arith
+top_from t (l ∷ ls) = let b = top_from (max t (reach l)) ls in omega arith
 
 pub under_top : (t : ℕ) (ls : List (List Item)) → Under (topmost_from t ls) ls
 under_top t [] = none
 under_top t (l ∷ ls) =
-    let a = larger-right t (reach l) in
-    let b = top_from (larger t (reach l)) ls in
-    more {l = l} (omega arith) (under_top (larger t (reach l)) ls)
+    let b = top_from (max t (reach l)) ls in
+    more {l = l} (omega arith) (under_top (max t (reach l)) ls)
 
 reach-falls : (m : ℕ) (l : List Item) → falls m l ≡ true → reach l ≤ m
 reach-falls m [] e = zero-le
@@ -99,7 +90,7 @@ reach-falls m (x ∷ l) e = ltb-true x.key m (and_left _ _ e)
 pub top-falls : (m t : ℕ) (ls : List (List Item)) → t ≤ m → all_fall m ls ≡ true → topmost_from t ls ≤ m
 top-falls m t [] h e = h
 top-falls m t (l ∷ ls) h e =
-    top-falls m (larger t (reach l)) ls (larger-under t (reach l) m h (reach-falls m l (and_left _ _ e))) (and_right (falls m l) _ e)
+    let r = reach-falls m l (and_left _ _ e) in top-falls m (max t (reach l)) ls (omega arith) (and_right (falls m l) _ e)
 
 -- ---- nothing is left
 
@@ -150,13 +141,13 @@ holds-none j ((x ∷ l) ∷ ls) (more a u) = absurd (omega arith)
 -- the top is some list's
 holds-top : (k t : ℕ) (ls : List (List Item)) → topmost_from t ls ≡ suc k → (t ≡ suc k) ⊎ (held k ls ≡ true)
 holds-top k t [] e = inl e
-holds-top k t (l ∷ ls) e = ⊎_elim here (λ h. inr (or_right (held_in k l) (held k ls) h)) (holds-top k (larger t (reach l)) ls e)
+holds-top k t (l ∷ ls) e = ⊎_elim here (λ h. inr (or_right (held_in k l) (held k ls) h)) (holds-top k (max t (reach l)) ls e)
   where
-    here : larger t (reach l) ≡ suc k → (t ≡ suc k) ⊎ ((held_in k l || held k ls) ≡ true)
+    here : max t (reach l) ≡ suc k → (t ≡ suc k) ⊎ ((held_in k l || held k ls) ≡ true)
     here q =
         by-test (ltb t (reach l))
-        (λ b. let r : reach l ≡ suc k = rw b at q in inr (rw (held-reach k l r)))
-        (λ b. inl (rw b at q))
+        (λ b. let h = ltb-true t (reach l) b in inr (rw (held-reach k l (omega arith))))
+        (λ b. let h = ltb-false t (reach l) b in inl (omega arith))
 
 pub held-top : (k : ℕ) (ls : List (List Item)) → topmost_from 0 ls ≡ suc k → held k ls ≡ true
 held-top k ls e = ⊎_elim (λ q. absurd (omega arith)) (λ h. h) (holds-top k 0 ls e)

@@ -1,6 +1,6 @@
 -- Several groups of lists, as the lists of each identifier of a query: each group has its own sum of a key.
-use Rattle.std.specs.Prelude.{Bool, true, ◌&&◌, List, [], ◌∷◌, map, ℕ}
-use Rattle.keyed.specs.Keys.{Item, all_fall, larger, topmost_from, rest, heads_fine}
+use Rattle.std.specs.Prelude.{Bool, true, ◌&&◌, List, [], ◌∷◌, map, ℕ, max}
+use Rattle.keyed.specs.Keys.{Item, all_fall, topmost_from, rest, heads_fine}
 
 -- the lists of one group
 abbrev pub Group : Type 0
@@ -9,7 +9,7 @@ Group = List (List Item)
 -- the greatest key at any head of any group
 abbrev pub top_all : ℕ → List Group → ℕ
 top_all t [] = t
-top_all t (g ∷ gs) = top_all (larger t (topmost_from 0 g)) gs
+top_all t (g ∷ gs) = top_all (max t (topmost_from 0 g)) gs
 
 -- every list of every group falls
 abbrev pub all_fall_all : ℕ → List Group → Bool

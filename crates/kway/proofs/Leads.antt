@@ -1,7 +1,8 @@
 -- The list that leads: what is taken under a key that no other list has.
-use Rattle.lists.proofs.Prelude.{true, and-true, List, [], ◌∷◌, ◌++◌, map, ⊎_elim, ◌≡◌, refl, sym, ap, ap₂, ◌∙◌, ℕ, zero, suc, ◌+◌, ◌*◌, ◌<◌, ◌≤◌, eq-or-lt_of_le, arith, ltb, pos, +ℤ_idl, +ℤ_idr, length, get_or, set, length-append, set-append_left, set-append_seam, get_or_at, ltb-true, ltb-false, le-ltb, AllOf, by-test, map-append, set-set, List·getD-append}
-use Rattle.keyed.specs.Keys.{Item, reach, larger, topmost_from, rest, head_val, head_fine, head_vals, heads_fine}
-use Rattle.keyed.proofs.Walk.{Under, none, more, under_top, larger-left, larger-right}
+use Prim.Native.Nat.{max}
+use Rattle.lists.proofs.Prelude.{true, and-true, List, [], ◌∷◌, ◌++◌, map, ⊎_elim, ◌≡◌, refl, sym, ap, ap₂, ◌∙◌, ℕ, zero, suc, ◌+◌, ◌*◌, ◌<◌, ◌≤◌, eq-or-lt_of_le, arith, pos, +ℤ_idl, +ℤ_idr, length, get_or, set, length-append, set-append_left, set-append_seam, get_or_at, AllOf, map-append, set-set, List·getD-append}
+use Rattle.keyed.specs.Keys.{Item, reach, topmost_from, rest, head_val, head_fine, head_vals, heads_fine}
+use Rattle.keyed.proofs.Walk.{Under, none, more, under_top}
 use Rattle.kway.specs.Parts.{part, parts}
 use Rattle.kway.specs.Leads.{Leads}
 use Rattle.kway.proofs.Parts.{put_in, ends, put-here, put-before, put-later}
@@ -43,31 +44,14 @@ alone-under k t (l ∷ ls) (suc c) h q (more a u) =
 
 -- ---- the greatest key, with another list in one place
 
-larger-swap : (t a b : ℕ) → larger (larger t a) b ≡ larger (larger t b) a
-larger-swap t a b = let p = below t a b in let q = below t b a in omega arith
-  where
-    lub : (a b x : ℕ) → a ≤ x → b ≤ x → larger a b ≤ x
-    lub a b x h g = by-test (ltb a b) (λ y. rw y g) (λ y. rw y h)
-
-    below : (t a b : ℕ) → larger (larger t a) b ≤ larger (larger t b) a
-    below t a b =
-        let p = larger-left t b in
-        let q = larger-right t b in
-        let r = larger-left (larger t b) a in
-        let s = larger-right (larger t b) a in
-        lub (larger t a) b (larger (larger t b) a) (lub t a (larger (larger t b) a) (omega arith) (omega arith)) (omega arith)
-
-top-larger : (t r : ℕ) (ls : List (List Item)) → topmost_from (larger t r) ls ≡ larger (topmost_from t ls) r
+top-larger : (t r : ℕ) (ls : List (List Item)) → topmost_from (max t r) ls ≡ max (topmost_from t ls) r
 top-larger t r [] = refl
-top-larger t r (l ∷ ls) = ap (λ (x : ℕ). topmost_from x ls) (larger-swap t r (reach l)) ∙ top-larger (larger t (reach l)) r ls
+top-larger t r (l ∷ ls) = let s : max (max t r) (reach l) ≡ max (max t (reach l)) r = omega arith in rw s (top-larger (max t (reach l)) r ls)
 
-larger-none : (t : ℕ) → larger t 0 ≡ t
-larger-none t = by-test (ltb t 0) (λ y. let h = ltb-true t 0 y in absurd (omega arith)) (λ y. rw y)
-
-top_set : (t : ℕ) (ls : List (List Item)) (c : ℕ) (y : List Item) → c < length ls → topmost_from t (set ls c y) ≡ larger (topmost_from t (set ls c [])) (reach y)
+top_set : (t : ℕ) (ls : List (List Item)) (c : ℕ) (y : List Item) → c < length ls → topmost_from t (set ls c y) ≡ max (topmost_from t (set ls c [])) (reach y)
 top_set t [] c y h = absurd (omega arith)
-top_set t (l ∷ ls) zero y h = top-larger t (reach y) ls ∙ ap (λ (x : ℕ). larger (topmost_from x ls) (reach y)) (sym (larger-none t))
-top_set t (l ∷ ls) (suc c) y h = top_set (larger t (reach l)) ls c y (omega arith)
+top_set t (l ∷ ls) zero y h = let n : max t 0 ≡ t = omega arith in top-larger t (reach y) ls ∙ ap (λ (x : ℕ). max (topmost_from x ls) (reach y)) (sym n)
+top_set t (l ∷ ls) (suc c) y h = top_set (max t (reach l)) ls c y (omega arith)
 
 -- ---- the turns of the search for the list that leads
 
@@ -81,11 +65,11 @@ unfolding parts
 found_none view w H = record { top = refl; others = refl; inside = λ q. omega arith }
 
 module _ (ls : List (List Item)) (j : ℕ) (long : length ls ≡ j) (x : List Item) (top at others : ℕ) (f : Found ls j top at others) where
-  pub found-other : reach x < top → Found (ls ++ (x ∷ [])) (j + 1) top at (larger others (reach x))
+  pub found-other : reach x < top → Found (ls ++ (x ∷ [])) (j + 1) top at (max others (reach x))
   found-other h =
       let i = f.inside (omega arith) in
       record {
-        top = f.top ∙ sym (top-more 0 ls x ∙ rw (← f.top, le-ltb top (reach x) (omega arith)));
+        top = f.top ∙ sym (top-more 0 ls x ∙ rw (← f.top) (omega arith));
         others = rw (set-append_left ls (x ∷ []) at [] (omega arith), top-more 0 (set ls at []) x, ← f.others);
         inside = λ q. omega arith;
       }
@@ -93,13 +77,10 @@ module _ (ls : List (List Item)) (j : ℕ) (long : length ls ≡ j) (x : List It
   pub found-this : top ≤ reach x → Found (ls ++ (x ∷ [])) (j + 1) (reach x) j top
   found-this h =
       record {
-        top = sym (top-more 0 ls x ∙ rw (← f.top) (larger-top h));
-        others = rw (← long, set-append_seam ls x [] [], top-more 0 ls [], larger-none (topmost_from 0 ls)) f.top;
+        top = sym (top-more 0 ls x ∙ rw (← f.top) (omega arith));
+        others = rw (← long, set-append_seam ls x [] [], top-more 0 ls []) (omega (arith, f.top));
         inside = λ q. omega arith;
       }
-    where
-      larger-top : top ≤ reach x → larger top (reach x) ≡ reach x
-      larger-top h = by-test (ltb top (reach x)) (λ y. rw y) (λ y. rw y (let g = ltb-false top (reach x) y in omega arith))
 
 -- ---- one head put back in its place
 
@@ -189,7 +170,7 @@ module _ (view : List ℕ → List Item) (K : List ℕ → Type 0) (w n : ℕ) (
   pub led-fine : heads_fine k ls ≡ head_fine k (view (part w c H))
   led-fine = alone.fine ∙ ap (head_fine k) here
 
-  pub led-top : larger o (reach (view h)) ≡ topmost_from 0 (map view (parts w n (put_in w H h c)))
+  pub led-top : max o (reach (view h)) ≡ topmost_from 0 (map view (parts w n (put_in w H h c)))
   led-top = rw (put-views w H h c room whole view n inside, top_set 0 ls c (view h) (omega (arith, length-views view w n H)), ← leads)
 
   pub led-leads : Leads (map view (parts w n (put_in w H h c))) c o

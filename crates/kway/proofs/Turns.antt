@@ -1,9 +1,10 @@
 -- The turns of the loop over heads that are moved in place, whatever a head is: `view` is what it has still to come.
+use Prim.Native.Nat.{max}
 use Rattle.lists.proofs.Prelude.{Bool, true, ◌&&◌, and_assoc, and-true, List, [], ◌∷◌, ◌++◌, map, ◌≡◌, refl, sym, ◌∙◌, ℕ, ◌+◌, ◌*◌, ◌≤◌, arith, ℤ, pos, negsuc, ◌+ℤ◌, +ℤ_assoc, +ℤ_idl, +ℤ_idr, length, ne_eqb}
 use lib.Signed.{lt_z}
 use lib.Signed.{mag}
 use Rattle.lists.proofs.Sizes.{mag_sum}
-use Rattle.keyed.specs.Keys.{Item, reach, larger, topmost_from, rest, head_val, head_fine, head_vals, heads_fine}
+use Rattle.keyed.specs.Keys.{Item, reach, topmost_from, rest, head_val, head_fine, head_vals, heads_fine}
 use Rattle.postings.specs.Sums.{is_above}
 use Rattle.kway.specs.Parts.{part, parts}
 use Rattle.kway.proofs.Parts.{put_in, views-more, Moved, moved_none, now-more, moved_more}
@@ -28,9 +29,9 @@ fine_more : (k : ℕ) (l : List (List Item)) (x : List Item) → heads_fine k (l
 fine_more k [] x = and-true (head_fine k x)
 fine_more k (y ∷ l) x = rw (fine_more k l x) (sym (and_assoc (head_fine k y) (heads_fine k l) (head_fine k x)))
 
-pub top-more : (t : ℕ) (l : List (List Item)) (x : List Item) → topmost_from t (l ++ (x ∷ [])) ≡ larger (topmost_from t l) (reach x)
+pub top-more : (t : ℕ) (l : List (List Item)) (x : List Item) → topmost_from t (l ++ (x ∷ [])) ≡ max (topmost_from t l) (reach x)
 top-more t [] x = refl
-top-more t (y ∷ l) x = top-more (larger t (reach y)) l x
+top-more t (y ∷ l) x = top-more (max t (reach y)) l x
 
 -- no list has a head
 pub top-none : (view : List ℕ → List Item) (w : ℕ) (H : List ℕ) → 0 ≡ topmost_from 0 (map view (parts w 0 H))
@@ -54,7 +55,7 @@ module _ (view : List ℕ → List Item) (K : List ℕ → Type 0) (w k : ℕ) (
   pub turn_more : (i : ℕ) (H : List ℕ) (sum : ℤ) (fine : Bool) (next : ℕ) → Turn view K w k H₀ i H sum fine next → w * i + w ≤ length H₀
       → (h : List ℕ) (v : ℤ) (b : Bool) (r : ℕ) → length h ≡ w → K h
       → view h ≡ rest k (view (part w i H)) → v ≡ head_val k (view (part w i H)) → b ≡ head_fine k (view (part w i H)) → r ≡ reach (view h) → mag v ≤ 32767
-      → Turn view K w k H₀ (i + 1) (put_in w H h i) (sum +ℤ v) (fine && b) (larger next r)
+      → Turn view K w k H₀ (i + 1) (put_in w H h i) (sum +ℤ v) (fine && b) (max next r)
   turn_more i H sum fine next t fits h v b r long g ev ec eb er small =
       let m = t.heads in
       let was = m.later i (omega arith) in

@@ -1,10 +1,9 @@
 -- The highest due level, as code finds it, and the part of the list that is merged.
-use Rattle.lists.proofs.Prelude.{Bool, true, false, cond, List, [], ◌∷◌, ◌++◌, append-nil, ◌≡◌, refl, sym, ap, ◌∙◌, ℕ, ◌+◌, ◌-◌, ◌≤◌, arith, eqb, length, get_or, take, drop, length-drop, drop_of_length-le}
+use Rattle.lists.proofs.Prelude.{Bool, true, false, cond, List, [], ◌∷◌, ◌++◌, append-nil, ◌≡◌, ap, ◌∙◌, ℕ, ◌+◌, ◌-◌, ◌≤◌, arith, eqb, length, take, drop, length-drop, drop_of_length-le}
 use Rattle.state.specs.declared.Partition.{Partition}
-use Rattle.levels.specs.declared.Due.{Due}
+use Rattle.std.proofs.Common.{Some, slice_get}
 use Rattle.state.specs.Views.{finished, partitions_of, no_partition}
-use Rattle.state.specs.Levels.{due_at, next_level, due_levels, oldest_at, oldest, replaced}
-use Rattle.levels.specs.Due.{due_of}
+use Rattle.state.specs.Levels.{due_at, due_levels, oldest_at}
 use Rattle.state.proofs.Rows.{held}
 use Rattle.levels.proofs.Runs.{due-first, place-within}
 
@@ -18,34 +17,16 @@ pub record DueIs (ps : List Partition) (v : ℕ) : Type 0 where
   pub first : due_levels level_of ps ≡ v ∷ others
 
 -- a level found
-pub due-found : (l : List ℕ) (v : ℕ) → Due.Level v ≡ due_of l → (vs : List ℕ) × (l ≡ v ∷ vs)
-due-found [] v e = let z : ◌≡◌ {A = ℕ} 0 1 = cc in absurd (omega arith)
-due-found (u ∷ vs) v e = let f : u ≡ v = cc in (vs, rw f)
-
-pub due-is : (ps : List Partition) (v : ℕ) → Due.Level v ≡ due_of (due_levels level_of ps) → DueIs ps v
-due-is ps v e = let f = due-found (due_levels level_of ps) v e in record { others = f.0; first = f.1 }
-
--- none found, as the answer's kind tells
-pub due-none : (tag : Due → ℕ) → ((v : ℕ) → tag (Due.Level v) ≡ 0) → (l : List ℕ) → tag (due_of l) ≡ 1 → l ≡ []
-due-none tag one [] e = refl
-due-none tag one (v ∷ l) e = let z : ◌≡◌ {A = ℕ} 0 1 = sym (one v) ∙ e in absurd (omega arith)
+pub due-is : (ps : List Partition) (v : ℕ) → Some v ≡ slice_get (due_levels level_of ps) 0 → DueIs ps v
+due-is ps v e = let f = found (due_levels level_of ps) e in record { others = f.0; first = f.1 }
+  where
+    found : (l : List ℕ) → Some v ≡ slice_get l 0 → (vs : List ℕ) × (l ≡ v ∷ vs)
+    found [] e = absurd (cc)
+    found (u ∷ vs) e = let f : u ≡ v = cc in (vs, rw f)
 
 module _ (ps : List Partition) (v : ℕ) (d : DueIs ps v) where
-  pub due-low : v ≤ 5
-  due-low = (due-first level_of ps v d.others d.first).0
-
   pub due-within : oldest_at level_of v ps + due_at v ≤ length ps
   due-within = omega (arith, (due-first level_of ps v d.others d.first).1, place-within level_of v ps)
-
-  pub due-inputs : oldest level_of (due_levels level_of ps) ps ≡ take (due_at v) (drop (oldest_at level_of v ps) ps)
-  due-inputs = rw d.first
-
-  pub due-level : next_level (get_or (due_levels level_of ps) 0 0) ≡ next_level v
-  due-level = rw d.first
-
-  pub due-replaced : (result : List Partition) → replaced level_of (due_levels level_of ps) ps result
-      ≡ take (oldest_at level_of v ps) ps ++ (result ++ drop (due_at v) (drop (oldest_at level_of v ps) ps))
-  due-replaced result = rw d.first
 
 -- at least one is merged
 pub due-some : (v : ℕ) → 1 ≤ due_at v

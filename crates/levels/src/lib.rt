@@ -1,40 +1,22 @@
 // The finished partitions by level: how many a level has, where they stand, which level is due, and the list as merges change it.
 #![tactic(auto)]
 
-ghost use Rattle.std.specs.Prelude.{◌≡◌, ◌≤◌, leb};
+ghost use Rattle.std.specs.Prelude.{◌≡◌, ◌≤◌, leb, slice_get};
 ghost use Rattle.lists.specs.Lists.{every};
 ghost use Rattle.state.specs.Views.{finished};
 ghost use Rattle.state.specs.Levels.{due_at, level_limit, levels, of_level, due_levels, oldest_at};
-ghost use Rattle.levels.specs.Due.{due_of};
 
 use state::Partitions;
 
 pub mod merging; // which partitions are merged, and what takes their place
 pub mod records; // partitions added and taken out
 
-// The highest level that is due.
-#[derive(Clone, Copy)]
-pub enum Due {
-    Level(u16),
-    Nothing,
-}
-
 // How many partitions are of the level.
 pub fn of_level(p: Partitions, level: u16) -> u16
     requires { p.used ≤ 51 }
     ensures { result ≡ of_level (λ q. q.level) level (finished p) }
 {
-    let n = p.used as usize;
-    let mut i: usize = 0;
-    let mut count: u16 = 0;
-    while i < n {
-        let q = p.records[i];
-        if q.level == level {
-            count += 1;
-        }
-        i += 1;
-    }
-    count
+    p.finished().iter().filter(|q| q.level == level).count() as u16
 }
 
 // The place of the oldest partition of the level; all are passed where there is none.
@@ -42,15 +24,12 @@ pub fn place_of(p: Partitions, level: u16) -> u16
     requires { p.used ≤ 51 }
     ensures { result ≡ oldest_at (λ q. q.level) level (finished p) }
 {
-    let mut i: u16 = 0;
-    while i < p.used {
-        let q = p.records[i as usize];
-        if q.level == level {
+    for i in 0..p.used {
+        if p.records[i as usize].level == level {
             return i;
         }
-        i += 1;
     }
-    i
+    p.used
 }
 
 // At how many partitions a level is due.
@@ -60,19 +39,17 @@ pub fn due_at(level: u16) -> u16
     if level == 5 { 3 } else { 8 }
 }
 
-// The highest due level.
-pub fn due_level(p: Partitions) -> Due
+// The highest due level, if one is due.
+pub fn due_level(p: Partitions) -> Option<u16>
     requires { p.used ≤ 51 }
-    ensures { result ≡ due_of (due_levels (λ q. q.level) (finished p)) }
+    ensures { result ≡ slice_get (due_levels (λ q. q.level) (finished p)) 0 }
 {
-    let mut v: u16 = 6;
-    while v > 0 {
-        v -= 1;
+    for v in (0..6).rev() {
         if of_level(p, v) >= due_at(v) {
-            return Due::Level(v);
+            return Some(v);
         }
     }
-    Due::Nothing
+    None
 }
 
 // Whether no level has more partitions than it may.

@@ -1,27 +1,9 @@
 // The list of finished partitions: which of them are merged, and what takes their place.
-ghost use Rattle.std.specs.Prelude.{cond, [], ◌∷◌, ◌≡◌, ◌+◌, ◌≤◌, length, get_or, take, drop};
+ghost use Rattle.std.specs.Prelude.{option_to_list, [], ◌≡◌, ◌+◌, ◌≤◌, length, get_or, take, drop};
 ghost use Rattle.state.specs.Views.{finished, partitions_of};
 ghost use Rattle.state.specs.Levels.{next_level, due_levels, oldest, replaced};
 
-use super::Due;
-use state::{MOST_PARTITIONS, Partition, Partitions};
-
-// A list of no partitions.
-fn no_partitions() -> Partitions
-    ensures { result ≡ partitions_of [] }
-{
-    let none = Partition {
-        first: 0,
-        level: 0,
-        length: 0,
-        lowest: 0,
-        highest: 0,
-    };
-    Partitions {
-        used: 0,
-        records: [none; MOST_PARTITIONS],
-    }
-}
+use state::{Partition, Partitions};
 
 // So many of the list, from place `at` on.
 fn run_of(p: Partitions, at: u16, count: u16) -> Partitions
@@ -38,15 +20,10 @@ pub fn inputs_of(p: Partitions) -> Partitions
     requires { (p.used ≤ 51) × (length p.records ≡ 51 → p ≡ partitions_of (finished p)) }
     ensures { result ≡ partitions_of (oldest (λ q. q.level) (due_levels (λ q. q.level) (finished p)) (finished p)) }
 {
-    let due = super::due_level(p);
-    match due {
-        Due::Level(v) => {
-            let at = super::place_of(p, v);
-            let count = super::due_at(v);
-            run_of(p, at, count)
-        }
-        Due::Nothing => no_partitions(),
-    }
+    let Some(v) = super::due_level(p) else {
+        return Partitions::new();
+    };
+    run_of(p, super::place_of(p, v), super::due_at(v))
 }
 
 // The level of what they are merged into.
@@ -54,33 +31,25 @@ pub fn output_level(p: Partitions) -> u16
     requires { p.used ≤ 51 }
     ensures { result ≡ next_level (get_or (due_levels (λ q. q.level) (finished p)) 0 0) }
 {
-    let due = super::due_level(p);
-    match due {
-        Due::Level(v) => {
-            if v == 5 {
-                return 5;
-            }
-            v + 1
-        }
-        Due::Nothing => 1,
+    match super::due_level(p) {
+        Some(5) => 5,
+        Some(v) => v + 1,
+        None => 1,
     }
 }
 
 // The list with a partition, or none, in their place.
-pub fn replaced_by(p: Partitions, some: bool, q: Partition) -> Partitions
+pub fn replaced_by(p: Partitions, q: Option<Partition>) -> Partitions
     requires { (p.used ≤ 51) × (length p.records ≡ 51 → p ≡ partitions_of (finished p)) }
-    ensures { result ≡ partitions_of (replaced (λ q. q.level) (due_levels (λ q. q.level) (finished p)) (finished p) (cond some (q ∷ []) [])) }
+    ensures { result ≡ partitions_of (replaced (λ q. q.level) (due_levels (λ q. q.level) (finished p)) (finished p) (option_to_list q)) }
 {
-    let due = super::due_level(p);
-    match due {
-        Due::Level(v) => {
-            let at = super::place_of(p, v);
-            let count = super::due_at(v);
-            if some {
-                return super::records::replace(p, at, count, q);
-            }
-            super::records::cut(p, at, count)
-        }
-        Due::Nothing => p,
+    let Some(v) = super::due_level(p) else {
+        return p;
+    };
+    let at = super::place_of(p, v);
+    let count = super::due_at(v);
+    match q {
+        Some(q) => super::records::replace(p, at, count, q),
+        None => super::records::cut(p, at, count),
     }
 }

@@ -1,8 +1,8 @@
 // Finished partitions added at the end, taken out, and replaced by one.
-ghost use Rattle.std.specs.Prelude.{◌≡◌, [], ◌∷◌, ◌++◌, ◌+◌, ◌<◌, ◌≤◌, get_or, take, drop};
-ghost use Rattle.state.specs.Views.{finished, partitions_of, no_partition};
+ghost use Rattle.std.specs.Prelude.{◌≡◌, [], ◌∷◌, ◌++◌, ◌+◌, ◌<◌, ◌≤◌, take, drop};
+ghost use Rattle.state.specs.Views.{finished, partitions_of};
 
-use state::{MOST_PARTITIONS, Partition, Partitions};
+use state::{Partition, Partitions};
 
 // The partition added as the youngest.
 pub fn append(p: Partitions, q: Partition) -> Partitions
@@ -16,36 +16,18 @@ pub fn append(p: Partitions, q: Partition) -> Partitions
     t
 }
 
-// The record at a place, zeros past the end.
-fn record_at(p: Partitions, i: usize) -> Partition
-    ensures { result ≡ get_or p.records i no_partition }
-{
-    if i < MOST_PARTITIONS {
-        return p.records[i];
-    }
-    Partition {
-        first: 0,
-        level: 0,
-        length: 0,
-        lowest: 0,
-        highest: 0,
-    }
-}
-
 // The partitions without `count` of them from place `at` on: those after move down, and zeros follow.
 pub fn cut(p: Partitions, at: u16, count: u16) -> Partitions
     requires { (at + count ≤ p.used) × (p ≡ partitions_of (finished p)) }
     ensures { result ≡ partitions_of (take at (finished p) ++ drop count (drop at (finished p))) }
 {
-    let n = p.used as usize;
     let mut t = p;
-    let mut i = at as usize;
-    while i < n {
-        let q = record_at(p, i + count as usize);
-        t.records[i] = q;
-        i += 1;
-    }
-    t.used = p.used - count;
+    let end = p.used as usize;
+    let left = p.used - count;
+    t.records
+        .copy_within((at + count) as usize..end, at as usize);
+    t.records[left as usize..end].fill(Partition::NONE);
+    t.used = left;
     t
 }
 

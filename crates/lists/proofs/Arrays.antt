@@ -3,8 +3,7 @@ use mathlib.Core.List.{List, [], ◌∷◌, map}
 use mathlib.Core.Path.{◌≡◌, refl, sym, ◌∙◌}
 use Prim.Native.Nat.{ℕ, zero, suc, ◌<◌, ◌≤◌}
 use native.Mathlib.Omega.{arith}
-use lib.ListN.{length, get_or, take, set, length-map}
-use lib.Seq.{get_or-take, length-take-le}
+use lib.ListN.{length, get_or, set, length-map}
 use Rattle.lists.specs.All.{AllOf}
 
 -- the length of an array of structs, from the form in which owning a struct tells it
@@ -43,9 +42,3 @@ module _ {C : Type 0} (P : C → Type 0) where
   unfolding AllOf
   of_map f k [] g = tt
   of_map f k (c ∷ l) g = (k c g.0, of_map f k l g.1)
-
-  -- of place i of the n in use of an array
-  pub of-used : (d : C) (all : List C) (n i : ℕ) → n ≤ length all → i < n → AllOf P (take n all) → P (get_or all i d)
-  of-used d all n i fits h g =
-      let l : length (take n all) ≡ n = length-take-le n all fits in
-      rw (get_or-take n all i d h) at (of_at d (take n all) i (omega arith) g)

@@ -15,6 +15,6 @@ pub mod Sizes
 pub mod Sections
 pub mod Stores
 pub mod TopK
-pub mod Built
+pub mod FromFn
 pub mod Distinct
 pub mod Prelude

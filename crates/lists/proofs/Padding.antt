@@ -6,8 +6,9 @@ use Prim.Native.Nat.{ℕ, zero, suc, ◌+◌, ◌-◌, ◌<◌, ◌≤◌}
 use native.Mathlib.Nat.{sub-zero, zero-sub, suc-sub-suc}
 use native.Mathlib.Numerals.{add-one}
 use native.Mathlib.Omega.{arith}
-use lib.ListN.{length, get_or, take, drop, set, replicate, length-append, length-drop, length-replicate, length-set, take-append-drop}
-use lib.Seq.{drop-append-add, take-append-le, drop-append_seam, length-take-le, take-suc-set, drop-set-lt, take-take, drop-drop, get_or-drop, get_or-append-add, take-suc, drop-cons, set_at, set-append_left}
+use lib.ListN.{length, get_or, take, drop, set, replicate, length-append, length-drop, length-replicate, length-set, take-append-drop, replicate-append-replicate}
+use lib.Seq.{take-append-le, length-take-le, take-suc-set, drop-set-lt, drop-drop, set_at, set-append_left, paste, take_at, drop_at, drop-append-le}
+use borrow.Rule.Slice.PartMut.{put_mid}
 use Rattle.lists.specs.Lists.{every}
 use Rattle.lists.proofs.Bools.{and_left, and_right}
 
@@ -61,19 +62,9 @@ module _ {A : Type 0} where
   drop-replicate (suc k) zero d = rw (zero-sub (suc k))
   drop-replicate (suc k) (suc n) d = rw (suc-sub-suc n k) (drop-replicate k n d)
 
-  -- a loop that makes the old list the new one, place by place
-  pub blend-more : (new old : List A) (i : ℕ) (d v : A) → i < length new → i < length old → get_or new i d ≡ v → set (take i new ++ drop i old) i v ≡ take (i + 1) new ++ drop (i + 1) old
-  blend-more new old i d v a b e =
-      rw (add-one, drop-cons old i d b, take-suc new i d a, e, append_assoc) (set_at (take i new) (get_or old i d) (drop (suc i) old) v i (length-take-le i new (omega arith)))
-
 -- the list without `count` of it from place `at` on
 abbrev pub without : {A : Type 0} → ℕ → ℕ → List A → List A
 without at count l = take at l ++ drop count (drop at l)
-
--- an array of n places of which the first i are as after `count` of the list have gone from place `at` on, and the others as before
-abbrev pub closing : {A : Type 0} → A → ℕ → List A → ℕ → ℕ → ℕ → List A
-closing d n l at count i =
-    take i (without at count l ++ replicate (n - length (without at count l)) d) ++ drop i (l ++ replicate (n - length l) d)
 
 -- a run of the list replaced by one: set at its first place, and the others gone
 pub without-rest : {A : Type 0} (l : List A) (at count : ℕ) (x : A) → at + count ≤ length l → 1 ≤ count
@@ -83,48 +74,33 @@ without-rest l at count x within some =
     rw (add-one, take-suc-set l at x (omega arith), drop-set-lt (suc at) l at x (omega arith), drop-drop (count - 1) (suc at) l, drop-drop count at l, e, append_assoc)
 
 module _ {A : Type 0} (d : A) (n : ℕ) (l : List A) (at count : ℕ) (within : at + count ≤ length l) (fits : length l ≤ n) where
-  front : length (take at l) ≡ at
-  front = length-take-le at l (omega arith)
-
   -- how many are left
   pub length_without : length (without at count l) ≡ length l - count
   length_without = rw (length-append, length-take-le at l (omega arith), length-drop, length-drop) (omega arith)
 
-  -- before the loop
-  pub closing-none : closing d n l at count at ≡ l ++ replicate (n - length l) d
-  closing-none =
-      let f = front in
+  -- what follows the run moved down over it, in an array that pads the list
+  moved : (all : List A) (used : ℕ) → all ≡ l ++ replicate (n - length l) d → used ≡ length l
+      → paste all at (drop (at + count) all) (used - (at + count)) ≡ without at count l ++ drop (used - count) all
+  moved all used is at-end =
+      let a : take at all ≡ take at l = rw is (take-append-le at l _ (omega arith)) in
+      let b : take (used - (at + count)) (drop (at + count) all) ≡ drop count (drop at l) =
+      rw (is, at-end, drop-append-le (at + count) l (replicate (n - length l) d) (omega arith), drop-drop count at l) (take_at (drop (at + count) l) (replicate (n - length l) d) _ (omega (arith, length-drop (at + count) l))) in
+      let e : at + (used - (at + count)) ≡ used - count = omega arith in
+      rw (a, b, e, append_assoc)
+
+  -- and d put over what is left behind
+  pub cut_padded : (all by : List A) (used : ℕ) → all ≡ l ++ replicate (n - length l) d → used ≡ length l
+      → by ≡ paste all at (drop (at + count) all) (used - (at + count))
+      → put_mid (used - count) (used - (used - count)) by (replicate (length (take (used - (used - count)) (drop (used - count) by))) d)
+      ≡ without at count l ++ replicate (n - length (without at count l)) d
+  cut_padded all by used is at-end copied =
       let g = length_without in
-      let a : take at (without at count l ++ replicate (n - length (without at count l)) d) ≡ take at l =
-      take-append-le at (without at count l) _ (omega arith) ∙ rw (take-append-le at (take at l) (drop count (drop at l)) (omega arith)) (take-take at at l (omega arith)) in
-      let b : take at (l ++ replicate (n - length l) d) ≡ take at l = take-append-le at l _ (omega arith) in
-      rw (a, ← b) (take-append-drop at (l ++ replicate (n - length l) d))
-
-  moved : (k : ℕ) → get_or (without at count l ++ replicate (n - length (without at count l)) d) (at + k) d ≡ get_or (l ++ replicate (n - length l) d) (at + k + count) d
-  moved k =
-      let f = front in
-      let e : at + k + count ≡ at + (count + k) = omega arith in
-      let g : get_or (take at l ++ drop count (drop at l)) (length (take at l) + k) d ≡ get_or (drop count (drop at l)) k d = get_or-append-add (take at l) _ k d in
-      rw (get_or-padded d (n - length (without at count l)) (without at count l) (at + k), get_or-padded d (n - length l) l (at + k + count), e, ← get_or-drop at l (count + k) d, ← get_or-drop count (drop at l) k d) (rw f at g)
-
-  -- one turn
-  pub closing-more : (i : ℕ) → at ≤ i → i < n → set (closing d n l at count i) i (get_or (l ++ replicate (n - length l) d) (i + count) d) ≡ closing d n l at count (i + 1)
-  closing-more i low high =
-      let g = length_without in
-      let a = length-padded d n (without at count l) (omega arith) in
-      let b = length-padded d n l fits in
-      let e : i ≡ at + (i - at) = omega arith in
-      blend-more _ _ i d _ (omega arith) (omega arith) (rw e (moved (i - at)))
-
-  -- the end
-  pub closing-done : closing d n l at count (length l) ≡ without at count l ++ replicate (n - length (without at count l)) d
-  closing-done = rw (drop-append_seam l (replicate (n - length l) d), ← tail) (take-append-drop (length l) (without at count l ++ replicate (n - length (without at count l)) d))
-    where
-      tail : drop (length l) (without at count l ++ replicate (n - length (without at count l)) d) ≡ replicate (n - length l) d
-      tail =
-          let g = length_without in
-          let e : length l ≡ length (without at count l) + count = omega arith in
-          let f : n - length (without at count l) - count ≡ n - length l = omega arith in
-          let h : drop (length (without at count l) + count) (without at count l ++ replicate (n - length (without at count l)) d) ≡ replicate (n - length l) d =
-          drop-append-add (without at count l) _ count ∙ drop-replicate count (n - length (without at count l)) d ∙ rw f in
-          ap (λ (k : ℕ). drop k (without at count l ++ replicate (n - length (without at count l)) d)) e ∙ h
+      let long : length all ≡ n = rw is (length-padded d n l fits) in
+      let f : by ≡ without at count l ++ drop (used - count) all = copied ∙ moved all used is at-end in
+      let front : take (used - count) by ≡ without at count l = rw f (take_at (without at count l) (drop (used - count) all) (used - count) (omega arith)) in
+      let rest : drop (used - count) by ≡ drop (used - count) all = rw f (drop_at (without at count l) (drop (used - count) all) (used - count) (omega arith)) in
+      let past : drop (used - (used - count)) (drop (used - count) all) ≡ replicate (n - length l) d =
+      drop-drop (used - (used - count)) (used - count) all ∙ rw is (drop_at l (replicate (n - length l) d) _ (omega arith)) in
+      let m : length (take (used - (used - count)) (drop (used - count) all)) ≡ count = length-take-le _ (drop (used - count) all) (omega (arith, length-drop (used - count) all)) ∙ omega arith in
+      let z : count + (n - length l) ≡ n - length (without at count l) = omega arith in
+      rw (front, rest, past, m, replicate-append-replicate count (n - length l) d, z)

@@ -1,12 +1,11 @@
 -- An array of which the first places are used and the others hold d: one place more, one less, one changed.
-use mathlib.Core.Bool.{Bool, true, false, ◌||◌, cond}
+use mathlib.Core.Bool.{Bool, true, cond}
 use mathlib.Core.List.{List, [], ◌∷◌, ◌++◌, append_assoc, Memᴰ}
 use mathlib.Core.Path.{◌≡◌, refl, ap, ◌∙◌}
 use Prim.Native.Nat.{ℕ, zero, suc, ◌+◌, ◌-◌, ◌<◌, ◌≤◌}
-use native.Mathlib.Numerals.{add-one}
 use native.Mathlib.Omega.{arith}
-use lib.ListN.{length, get_or, take, drop, set, replicate, length-append, drop_of_length-le}
-use lib.Seq.{length-take-le, take-append-le, take-append_seam, drop-append_seam, drop-cons, get_or-take}
+use lib.ListN.{length, get_or, take, drop, set, replicate, length-append}
+use lib.Seq.{take-append-le, take-append_seam, drop-append_seam}
 use Rattle.lists.specs.Lists.{keep, any, every}
 use Rattle.lists.proofs.Bools.{by-test, and_left, and_right, and_both, or_right}
 use Rattle.lists.proofs.Tests.{keep_all}
@@ -38,18 +37,6 @@ module _ {A : Type 0} where
   mem-at [] d i h = absurd (omega arith)
   mem-at (x ∷ l) d zero h = Memᴰ.head refl
   mem-at (x ∷ l) d (suc i) h = Memᴰ.tail (mem-at l d i (omega arith))
-
-  -- one turn of a search through the first n places of an array
-  pub any-turn : (t : A → Bool) (l : List A) (d : A) (n i : ℕ) → n ≤ length l → i < n → any t (drop i (take n l)) ≡ (t (get_or l i d) || any t (drop (i + 1) (take n l)))
-  any-turn t l d n i f h =
-      let e : length (take n l) ≡ n = length-take-le n l f in
-      rw (add-one i, drop-cons (take n l) i d (omega arith), get_or-take n l i d h)
-
-  -- and its end
-  pub any-ended : (t : A → Bool) (l : List A) (n i : ℕ) → n ≤ length l → n ≤ i → any t (drop i (take n l)) ≡ false
-  any-ended t l n i f h =
-      let e : length (take n l) ≡ n = length-take-le n l f in
-      rw (drop_of_length-le (take n l) {i = i} (omega arith))
 
   -- one more that passes
   pub every-insert : (t : A → Bool) (k : ℕ) (a : A) (l : List A) → t a ≡ true → every t l ≡ true → every t (take k l ++ a ∷ drop k l) ≡ true

@@ -22,11 +22,11 @@ unfoldable pub use Rattle.lists.specs.Lists.{below, rising, down}
 unfoldable pub use Rattle.lists.specs.All.{AllOf}
 pub use Rattle.lists.proofs.Bools.{by-test, and_left, and_right, or-none, or_swap, and_both, and-swap, or_right, and-past, and-past-two, and-turned, choose, cond_same}
 pub use Rattle.lists.proofs.Tests.{every-mem, every-kept, every-from, every-keep, keep_append, keep_all, every_append, every_take, every_drop, keep-none, length-keep, every-replicate, every-at, any_append, keep_same, keep-agree, every-down, keep-down, any_none, every-member, every-both, keep-both, keep-up, keep_low, map-kept, empty-length, empty-none, empty-is, empty-not}
-pub use Rattle.lists.proofs.Arrays.{unmapped, of-used, of_at}
-pub use Rattle.lists.proofs.Turns.{near_next, used_turn, used-end, passed, failed, turn, end, choose-place, and-judged, rest, rest-begin, rest-turn, rest_end}
+pub use Rattle.lists.proofs.Arrays.{unmapped, of_at}
+pub use Rattle.lists.proofs.Turns.{near_next, passed, failed, turn, end}
 pub use Rattle.lists.proofs.Runs.{never, get_or-rising, keep-here, keep-past, get_or-sets-out, apart-append, apart_none, leb-less, leb-none, apart-hit, apart_more, union_more, eqb_swap, apart}
 pub use Rattle.lists.proofs.Ranges.{every-rising, different-rising, length-rising, map-where, length-all, length-joined, elem-rising, total-rising, up_to-at, total-map, map-up_to, map-middle, every_map, joined_at, keep-joined, keep-rising, map-take, map-drop, any-map, keep-map, total-more, elem-down}
 pub use Rattle.lists.proofs.Sets.{every-elem, every-up_to, different-keep, different-within, every-turned, length-keep-turned, different-turned, sets-back, pad-split, sets-before, sets-past, elem-place, none_from, part-set, elem-keep, different-insert, different-take, elem-every, elem-append, elem-left, elem-right, elem-neither, elem-none, Parted, different-parts, different-join, keep-less, keep-without, keep-others, FirstKept, first-kept, keep-turned}
-pub use Rattle.lists.proofs.Same.{same_refl, same_true, same-swap, any_at, every_set, take-sets-le, drop-sets-add, take-over, drop-over, same_length, same_step, every-step, same_false, eq-same, same-append}
+pub use Rattle.lists.proofs.Same.{same_refl, same_true, same-swap, any_at, every_set, take-sets-le, drop-sets-add, take-over, drop-over, same_length, every-step, same_false, eq-same, same-append}
 pub use Rattle.lists.proofs.Padding.{get_or-same}
 pub use Rattle.lists.proofs.Sections.{take-drop, take_rest}

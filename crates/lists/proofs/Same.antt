@@ -60,11 +60,6 @@ same-append [] b (y ∷ c) d e = absurd (omega arith)
 same-append (x ∷ a) b [] d e = absurd (omega arith)
 same-append (x ∷ a) b (y ∷ c) d e = ap (λ (t : Bool). eqb x y && t) (same-append a b c d (omega arith)) ∙ sym (and_assoc (eqb x y) (same a c) (same b d))
 
--- two lists from place i on
-pub same_step : (a b : List ℕ) (i : ℕ) → i < length a → i < length b
-    → same (drop i a) (drop i b) ≡ (eqb (get_or a i 0) (get_or b i 0) && same (drop (suc i) a) (drop (suc i) b))
-same_step a b i p q = rw (drop-cons a i 0 p, drop-cons b i 0 q)
-
 -- Tests of parts ----------------------------------------------------------------------------------------------------
 
 module _ {A : Type 0} (t : A → Bool) where

@@ -2,13 +2,11 @@
 use mathlib.Core.Bool.{Bool, true, false, ◌&&◌, and-false}
 use mathlib.Core.List.{List, [], ◌∷◌, ◌++◌}
 use mathlib.Core.Path.{◌≡◌, refl, ap, ◌∙◌}
-use Prim.Native.Nat.{ℕ, zero, suc, ◌+◌, ◌-◌, ◌<◌, ◌≤◌}
+use Prim.Native.Nat.{ℕ, zero, suc, ◌+◌, ◌-◌, ◌≤◌}
 use native.Mathlib.Nat.{zero-add, suc-add}
 use native.Mathlib.Omega.{arith}
 use lib.ListN.{length, get_or, take, drop, length-drop}
-use lib.Seq.{drop-cons, take-add, drop-drop, get_or-take, length-take-le, take-nil, take_all}
-use Rattle.lists.specs.Lists.{every}
-use Rattle.lists.proofs.Tests.{every-at}
+use lib.Seq.{drop-cons, take-add, drop-drop, take-nil, take_all}
 
 -- a test that follows from others beside it can go
 pub and-absorb : (a b c d : Bool) → (a ≡ true → c ≡ true → b ≡ true) → ((a && b) && (c && d)) ≡ (a && (c && d))
@@ -42,9 +40,3 @@ module _ {A : Type 0} where
   -- a part in two
   pub part-add : (l : List A) (i m n : ℕ) → take (m + n) (drop i l) ≡ take m (drop i l) ++ take n (drop (i + m) l)
   part-add l i m n = take-add m n (drop i l) ∙ ap (λ (r : List A). take m (drop i l) ++ take n r) (drop-drop m i l)
-
-  -- a test of the first n places of an array says it of each
-  pub used-every : (t : A → Bool) (all : List A) (n i : ℕ) (d : A) → n ≤ length all → i < n → every t (take n all) ≡ true → t (get_or all i d) ≡ true
-  used-every t all n i d fits h e =
-      let l : length (take n all) ≡ n = length-take-le n all fits in
-      rw (get_or-take n all i d h) at (every-at t (take n all) d e i (omega arith))

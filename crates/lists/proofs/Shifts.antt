@@ -1,10 +1,12 @@
--- An array whose elements move by one place, up or down, one a turn: what the loop has made of it.
-use mathlib.Core.List.{List, [], ◌∷◌, ◌++◌}
+-- An array whose elements move by one place, up or down: by a loop, one a turn, or by one copy.
+use mathlib.Core.List.{List, [], ◌∷◌, ◌++◌, append_assoc}
 use mathlib.Core.Path.{◌≡◌, refl, ap}
 use Prim.Native.Nat.{ℕ, zero, suc, ◌+◌, ◌-◌, ◌<◌, ◌≤◌}
 use native.Mathlib.Numerals.{add-one}
 use native.Mathlib.Omega.{arith}
-use lib.ListN.{length, get_or, take, drop, set, take-append-drop}
+use Rattle.std.specs.List.{copy_within}
+use Rattle.std.proofs.lemmas.Slice.{between_is}
+use lib.ListN.{length, take, drop, set, take-append-drop}
 
 -- places i to n - 1 have moved up by one, over place n; place i is still as it was
 unfoldable pub raised : {A : Type 0} → ℕ → ℕ → List A → List A
@@ -24,18 +26,12 @@ module _ {A : Type 0} where
   raised-none (suc n) [] = refl
   raised-none (suc n) (x ∷ l) = ap {B = List A} (λ r. x ∷ r) (raised-none n l)
 
-  raise : (d : A) (n j : ℕ) (l : List A) → suc j ≤ n → n < length l → set (raised n (suc j) l) (suc j) (get_or (raised n (suc j) l) j d) ≡ raised n j l
+  -- the copy makes it too
+  pub raised_copied : (n k : ℕ) (l : List A) → k ≤ n → copy_within l k n (k + 1) ≡ raised n k l
   unfolding raised
-  raise d zero j l h f = absurd (omega arith)
-  raise d (suc n) j [] h f = absurd (omega arith)
-  raise d (suc n) zero (x ∷ []) h f = absurd (omega arith)
-  raise d (suc n) zero (x ∷ y ∷ l) h f = refl
-  raise d (suc n) (suc j) (x ∷ l) h f = ap {B = List A} (λ r. x ∷ r) (raise d n j l (omega arith) (omega arith))
-
-  -- one turn copies the element below place i into it
-  pub raised-more : (d : A) (n i : ℕ) (l : List A) → 0 < i → i ≤ n → n < length l → set (raised n i l) i (get_or (raised n i l) (i - 1) d) ≡ raised n (i - 1) l
-  raised-more d n zero l p h f = absurd (omega arith)
-  raised-more d n (suc j) l p h f = let e : suc j - 1 ≡ j = omega arith in rw e (raise d n j l h f)
+  raised_copied n k l h =
+      let e : suc k + (n - k) ≡ suc n = omega arith in
+      rw (add-one, e, between_is l k n) (append_assoc (take (suc k) l) (drop k (take n l)) (drop (suc n) l))
 
   -- at last the free place is filled
   pub raised-done : (n k : ℕ) (l : List A) (a : A) → k ≤ n → n < length l → set (raised n k l) k a ≡ take k l ++ a ∷ (drop k (take n l) ++ drop (suc n) l)
@@ -48,29 +44,13 @@ module _ {A : Type 0} where
 
   -- ---- down
 
-  -- at first nothing has moved
-  pub lowered_none : (k : ℕ) (l : List A) → lowered k k l ≡ l
+  -- the copy makes it
+  pub lowered_copied : (k n : ℕ) (l : List A) → k < n → copy_within l (k + 1) n k ≡ lowered k (n - 1) l
   unfolding lowered
-  lowered_none zero [] = refl
-  lowered_none zero (x ∷ l) = refl
-  lowered_none (suc k) [] = refl
-  lowered_none (suc k) (x ∷ l) = ap {B = List A} (λ r. x ∷ r) (lowered_none k l)
-
-  lower : (d : A) (k i : ℕ) (l : List A) → k ≤ i → suc i < length l → set (lowered k i l) i (get_or (lowered k i l) (suc i) d) ≡ lowered k (suc i) l
-  unfolding lowered
-  lower d k i [] h f = absurd (omega arith)
-  lower d zero i (x ∷ l) h f = front i x l (omega arith)
-    where
-      front : (i : ℕ) (x : A) (l : List A) → i < length l → set (take i l ++ drop i (x ∷ l)) i (get_or (take i l ++ drop i (x ∷ l)) (suc i) d) ≡ take (suc i) l ++ drop (suc i) (x ∷ l)
-      front i x [] f = absurd (omega arith)
-      front zero x (y ∷ l) f = refl
-      front (suc i) x (y ∷ l) f = ap {B = List A} (λ r. y ∷ r) (front i y l (omega arith))
-  lower d (suc k) zero (x ∷ l) h f = absurd (omega arith)
-  lower d (suc k) (suc i) (x ∷ l) h f = ap {B = List A} (λ r. x ∷ r) (lower d k i l (omega arith) (omega arith))
-
-  -- one turn copies the element above place i into it
-  pub lowered-more : (d : A) (k i : ℕ) (l : List A) → k ≤ i → i + 1 < length l → set (lowered k i l) i (get_or (lowered k i l) (i + 1) d) ≡ lowered k (i + 1) l
-  lowered-more d k i l h f = rw (add-one i) (lower d k i l h (omega arith))
+  lowered_copied k n l h =
+      let e : k + (n - suc k) ≡ n - 1 = omega arith in
+      let f : suc (n - 1) ≡ n = omega arith in
+      rw (add-one, e, f, between_is l (suc k) n) (append_assoc (take k l) (drop (suc k) (take n l)) (drop (n - 1) l))
 
   -- at last the place left over is overwritten
   pub lowered-done : (k i : ℕ) (l : List A) (a : A) → k ≤ i → i < length l → set (lowered k i l) i a ≡ take k l ++ (drop (suc k) (take (suc i) l) ++ a ∷ drop (suc i) l)

@@ -1,22 +1,10 @@
--- Functions on lists that the kit's library lacks.
-use Rattle.std.specs.Prelude.{Bool, true, false, ◌||◌, ◌&&◌, not, cond, List, [], ◌∷◌, ◌++◌, ℕ, zero, suc, ◌+◌, eqb}
+-- Functions on lists: some of the library's under short names, and those that it lacks.
+
+-- The library's: the elements that pass a test, in order; does some element pass it; does every one.
+pub use Rattle.std.specs.List.{filter as keep, list_any as any, list_all as every}
+use Rattle.std.specs.Prelude.{Bool, true, false, ◌&&◌, not, List, [], ◌∷◌, ◌++◌, ℕ, zero, suc, ◌+◌, eqb}
 
 module _ {A : Type 0} where
-  -- the elements that pass the test, in order
-  abbrev pub keep : (A → Bool) → List A → List A
-  keep t [] = []
-  keep t (x ∷ xs) = cond (t x) (x ∷ keep t xs) (keep t xs)
-
-  -- does some element pass the test
-  abbrev pub any : (A → Bool) → List A → Bool
-  any t [] = false
-  any t (x ∷ xs) = t x || any t xs
-
-  -- does every element pass the test
-  abbrev pub every : (A → Bool) → List A → Bool
-  every t [] = true
-  every t (x ∷ xs) = t x && every t xs
-
   -- has the list no element
   abbrev pub empty : List A → Bool
   empty [] = true

@@ -1,4 +1,7 @@
 -- The mean count of an identifier: what it answers, for every input. It reads what a query of that identifier over all windows reads, and changes nothing.
+use Rattle.std.specs.Prelude.{Result}
+use Rattle.answers.specs.declared.Refusal.{Refusal}
+use Rattle.answers.specs.declared.Mean.{Mean}
 use Rattle.std.specs.Prelude.{◌&&◌, not, List, [], ◌∷◌, ◌≡◌, ℕ, eqb}
 use Rattle.lists.specs.Lists.{every, total_by}
 use Rattle.words.specs.Words.{words}
@@ -6,7 +9,6 @@ use Rattle.answers.specs.Answers.{Outcome, leave, answer_of}
 use Rattle.answers.specs.Numbers.{averaged_as}
 use Rattle.answers.specs.Order as order
 use Rattle.answers.specs.Order.{admit}
-use Rattle.answers.specs.declared.Averaged.{Averaged}
 use Rattle.state.specs.declared.State.{State}
 use Rattle.state.specs.Rules.{state_rule}
 use Rattle.state.specs.Probe.{Probe, probe_of, has_length}
@@ -46,7 +48,7 @@ mean_of p n =
     (total_in (words p.card) (read_by whole p.state) (numbers p.register (n ∷ [])))
 
 -- the promise of a mean: nothing is lent to be written
-abbrev pub Averages : (s : State) (card register : List ℕ) (id : Name) (r : Averaged) → Type 0
+abbrev pub Averages : (s : State) (card register : List ℕ) (id : Name) (r : Result Mean Refusal) → Type 0
 Averages s card register id r = averaged_as r ≡ answer_of (mean_of (probe_of s card register) id)
 
 -- what follows refusals 1 and 2, and 3 for register and partitions, where s is the state as it is read
@@ -61,5 +63,5 @@ rest_of W s register n =
     (leave (averaged (frequency_in W s (numbers register (n ∷ []))) (total_in W s (numbers register (n ∷ [])))) tt)
 
 -- that part of a mean
-abbrev pub AveragesRead : (s : State) (card register : List ℕ) (id : Name) (r : Averaged) → Type 0
+abbrev pub AveragesRead : (s : State) (card register : List ℕ) (id : Name) (r : Result Mean Refusal) → Type 0
 AveragesRead s card register id r = averaged_as r ≡ answer_of (rest_of (words card) s register id)

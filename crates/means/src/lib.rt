@@ -17,11 +17,9 @@ ghost use Rattle.stretches.specs.Reached.{whole};
 ghost use Rattle.queries.specs.Gathered.{Sound};
 ghost use Rattle.means.specs.Mean.{Averages, AveragesRead};
 
-use admission::Admission;
-use answers::{Averaged, Refusal};
+use answers::{Mean, Refusal};
 use postings::Stretch;
 use state::{BLOCK_BYTES, MOST_BUFFERED, State};
-use terms::judging::Told;
 
 // The stretch of all windows.
 fn all_windows() -> Stretch
@@ -34,7 +32,7 @@ fn all_windows() -> Stretch
 }
 
 // The mean of an identifier that the register has, where the state is as it is read: 3 for what is read of it, and then the division.
-fn mean_known(s: State, card: &[u8], id: &[u8], number: u16) -> Averaged
+fn mean_known(s: State, card: &[u8], id: &[u8], number: u16) -> Result<Mean, Refusal>
     requires { (state_rule s ≡ true) × (length (words_of card.now) ≡ 1024 * blocks s)
         × (partitions_formed (words_of card.now) (blocks s) (finished s.partitions) ≡ true) }
     ensures { averaged_as result ≡ answer_of (refuse_if (not (identifier_formed (words_of card.now) s number)) 3
@@ -53,19 +51,19 @@ fn mean_known(s: State, card: &[u8], id: &[u8], number: u16) -> Averaged
         number,
         all_windows(),
     );
-    match told {
-        Told::Malformed => Averaged::Refused(Refusal::Malformed),
-        Told::Windows(windows, total) => averages::divide(id, windows, total),
-    }
+    let Some(told) = told else {
+        return Err(Refusal::Malformed);
+    };
+    averages::divide(id, told.windows, told.total)
 }
 
 // A mean where the state is as it is read: 3 for all lists of its partitions, and then what is read of the identifier, if the register has it.
-fn mean_read(s: State, card: &[u8], register: &[u8], id: &[u8]) -> Averaged
+fn mean_read(s: State, card: &[u8], register: &[u8], id: &[u8]) -> Result<Mean, Refusal>
     requires { Sound s card.now register.now }
     ensures { AveragesRead s card.now register.now id.now result }
 {
     if !census::lists_ok(card, s) {
-        return Averaged::Refused(Refusal::Malformed);
+        return Err(Refusal::Malformed);
     }
     let used = identifiers::used_entries(register);
     let number = identifiers::find(register, id);
@@ -76,25 +74,22 @@ fn mean_read(s: State, card: &[u8], register: &[u8], id: &[u8]) -> Averaged
 }
 
 // A mean that is admitted: 3 for the finished partitions, and then what is read.
-fn mean_admitted(s: State, card: &[u8], register: &[u8], id: &[u8]) -> Averaged
+fn mean_admitted(s: State, card: &[u8], register: &[u8], id: &[u8]) -> Result<Mean, Refusal>
     requires { (state_rule s ≡ true) × (length card.now ≡ s.lengths.card) × (length register.now ≡ s.lengths.register) × (register_rule register.now ≡ true) }
     ensures { Averages s card.now register.now id.now result }
 {
     let ps = s.partitions;
     if !partitions::partitions_ok(card, s.lengths.card / BLOCK_BYTES, ps) {
-        return Averaged::Refused(Refusal::Malformed);
+        return Err(Refusal::Malformed);
     }
     let read = stretches::read_by(s, all_windows());
     mean_read(read, card, register, id)
 }
 
 // The mean count of an identifier over the closed windows in which it counts.
-pub fn mean(s: State, card: &[u8], register: &[u8], id: &[u8]) -> Averaged
+pub fn mean(s: State, card: &[u8], register: &[u8], id: &[u8]) -> Result<Mean, Refusal>
     ensures { Averages s card.now register.now id.now result }
 {
-    let a = admission::judge_probe(rules::state_ok(s), s.lengths, card, register);
-    match a {
-        Admission::Refused(why) => Averaged::Refused(why),
-        Admission::Granted => mean_admitted(s, card, register, id),
-    }
+    admission::judge_probe(rules::state_ok(s), s.lengths, card, register)?;
+    mean_admitted(s, card, register, id)
 }

@@ -17,7 +17,6 @@ use Rattle.blocks.proofs.FreeBlocks.{free-free}
 use Rattle.blocks.proofs.ByteRule.{store-fills, release-frees, fills-moves, fills-frees}
 use Rattle.blocks.proofs.Refills.{refills}
 use Rattle.partitions.specs.Layout.{identifiers_of, term_count, length_of, header, entry_of, word_of, encode}
-use Rattle.partitions.specs.Reading.{postings_of}
 use Rattle.partitions.specs.Formed.{partitions_formed, chains_of, lists_rule, in_range}
 use Rattle.plans.specs.Merging.{inputs, taking, result, output_length, output_blocks, progress, is_last, output_level, output_content}
 use Rattle.plans.specs.Step.{in_progress, output_chain, output_rule, step_formed, output_chain_on, written_on}

@@ -1,3 +1,2 @@
 pub mod Refused
 pub mod Filling
-pub mod Stopped

@@ -75,15 +75,14 @@ pub fn list_after(last: bool, ps: Partitions, t: Totals, o: Output) -> Partition
     if !last {
         return ps;
     }
-    let level = levels::merging::output_level(ps);
     let q = Partition {
         first: o.first,
-        level: level,
+        level: levels::merging::output_level(ps),
         length: output_length(t),
         lowest: t.lowest,
         highest: t.highest,
     };
-    levels::merging::replaced_by(ps, t.postings != 0, q)
+    levels::merging::replaced_by(ps, (t.postings != 0).then_some(q))
 }
 
 // The record of the merge after a step: none after the last.
@@ -92,11 +91,7 @@ pub fn job_after(last: bool, steps: u32, t: Totals, o: Output) -> MergeJob
     ensures { result ≡ cond last no_merge (record { first = o.first; length = length_from t; steps = suc steps }) }
 {
     if last {
-        return MergeJob {
-            first: 0,
-            length: 0,
-            steps: 0,
-        };
+        return MergeJob::NONE;
     }
     MergeJob {
         first: o.first,

@@ -1,10 +1,11 @@
 -- A state as its image, and answers as numbers.
+use Rattle.std.specs.Prelude.{Result, Ok, Err}
+use Rattle.answers.specs.declared.Refusal.{Refusal}
 use Rattle.std.specs.Prelude.{cond, List, [], ◌∷◌, ℕ, zero, suc, ◌+◌, ◌*◌, ◌-◌, ltb, length}
 use Rattle.words.specs.Words.{words, bytes}
 use Rattle.answers.specs.Answers.{never, halted, Answer, done, number, hits, mean, forecast, refused}
 use Rattle.answers.specs.Numbers.{refusal_number}
 use Rattle.answers.specs.declared.Found.{Found}
-use Rattle.answers.specs.declared.Found.TheVariants as found
 use Rattle.state.specs.declared.State.{State}
 use Rattle.images.specs.Images.{image_of, state_in}
 
@@ -45,9 +46,9 @@ number_for (forecast k b m h) = 0
 number_for (refused n) = n
 
 -- the same of an answer of the code
-abbrev pub number_found : Found → ℕ
-number_found (found.Hits n taken) = 256 * n + 65536 * taken
-number_found (found.Refused why) = refusal_number why
+abbrev pub number_found : Result Found Refusal → ℕ
+number_found (Ok f) = 256 * f.hits + 65536 * f.taken
+number_found (Err why) = refusal_number why
 
 -- what a forecast tells, as six numbers: flushes, blocks, register entries, and window, event and number of the refusal that its plan stops at, 0 each where it
 -- stops nowhere. Any other answer leaves the numbers as they were

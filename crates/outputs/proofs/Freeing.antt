@@ -1,5 +1,5 @@
 -- The blocks of partitions freed, one partition after another.
-use Rattle.lists.proofs.Prelude.{Bool, true, not, List, [], ◌∷◌, ◌++◌, map, ◌≡◌, refl, sym, ◌∙◌, ℕ, ◌+◌, ◌*◌, ◌<◌, ◌≤◌, arith, length, get_or, take, drop, replicate, sets, AllOf, every, elem, different, joined, and_left, and_right, and_both, every_append, used_turn, used-end, Parted, different-parts}
+use Rattle.lists.proofs.Prelude.{Bool, true, not, List, [], ◌∷◌, ◌++◌, map, ◌≡◌, refl, sym, ◌∙◌, ℕ, ◌+◌, ◌*◌, ◌<◌, ◌≤◌, arith, length, get_or, drop, replicate, sets, AllOf, every, elem, different, joined, and_left, and_right, and_both, every_append, turn, end, Parted, different-parts}
 use Rattle.words.specs.Words.{all_ones}
 use Rattle.state.specs.declared.Partition.{Partition}
 use Rattle.card.specs.Chains.{blocks_for}
@@ -44,36 +44,36 @@ all-chained W bs [] a g = tt
 all-chained W bs (q ∷ qs) a g =
     (rw (chain-agree (release W bs) W q.first (blocks_for q.length) a.0) (in-released W bs (chain_of W q) g.0), all-chained W bs qs a.1 g.1)
 
--- the blocks of the first i of n partitions are freed, and freeing the others' gives the whole
-pub record Freeing (W₀ : List ℕ) (all : List Partition) (n : ℕ) (W : List ℕ) (i : ℕ) : Type 0 where
-  pub chained : AllChained W (drop i (take n all))
-  pub apart : different (chains_of W (drop i (take n all))) ≡ true
-  pub rest : release W₀ (chains_of W₀ (take n all)) ≡ release W (chains_of W (drop i (take n all)))
+-- the blocks of the first i of the partitions are freed, and freeing the others' gives the whole
+pub record Freeing (W₀ : List ℕ) (all : List Partition) (W : List ℕ) (i : ℕ) : Type 0 where
+  pub chained : AllChained W (drop i all)
+  pub apart : different (chains_of W (drop i all)) ≡ true
+  pub rest : release W₀ (chains_of W₀ all) ≡ release W (chains_of W (drop i all))
 
-module _ (W₀ : List ℕ) (all : List Partition) (n : ℕ) (fits : n ≤ length all) (W : List ℕ) (i : ℕ) (d : Partition) (w : Freeing W₀ all n W i) where
+module _ (W₀ : List ℕ) (all : List Partition) (W : List ℕ) (i : ℕ) (d : Partition) (w : Freeing W₀ all W i) where
   -- all are freed
-  pub freeing-end : n ≤ i → W ≡ release W₀ (chains_of W₀ (take n all))
+  pub freeing-end : length all ≤ i → W ≡ release W₀ (chains_of W₀ all)
   unfolding chains_of release
-  freeing-end h = sym (used-end (λ (l : List Partition). release W (chains_of W l)) all n i fits h w.rest)
+  freeing-end h = sym (end (λ (l : List Partition). release W (chains_of W l)) all i h w.rest)
 
-  module _ (h : i < n) where
+  module _ (h : i < length all) where
     abbrev p : Partition
     p = get_or all i d
 
     abbrev qs : List Partition
-    qs = drop (i + 1) (take n all)
+    qs = drop (i + 1) all
 
-    turn : drop i (take n all) ≡ p ∷ qs
-    turn = used_turn (λ (l : List Partition). l) all n i d fits h refl
+    next : drop i all ≡ p ∷ qs
+    next = turn (λ (l : List Partition). l) all i d h refl
 
     parts : Parted (chain_of W p) (chains_of W qs)
     unfolding chains_of
-    parts = different-parts (chain_of W p) (chains_of W qs) (rw turn at w.apart)
+    parts = different-parts (chain_of W p) (chains_of W qs) (rw next at w.apart)
 
     -- the next one's blocks are different blocks of the card
     pub freeing-chained : Chained W p.first (blocks_for p.length)
     unfolding AllOf
-    freeing-chained = (rw turn at w.chained).0
+    freeing-chained = (rw next at w.chained).0
 
     pub freeing-different : different (chain_of W p) ≡ true
     freeing-different = parts.left
@@ -82,13 +82,13 @@ module _ (W₀ : List ℕ) (all : List Partition) (n : ℕ) (fits : n ≤ length
     keeps = release-keeps W (chain_of W p) qs (every-chains W (chain_of W p) qs parts.apart)
 
     -- and they are freed
-    pub freeing-on : (W₁ : List ℕ) → W₁ ≡ release W (chain_of W p) → Freeing W₀ all n W₁ (i + 1)
+    pub freeing-on : (W₁ : List ℕ) → W₁ ≡ release W (chain_of W p) → Freeing W₀ all W₁ (i + 1)
     unfolding AllOf chains_of
     freeing-on W₁ x =
         let k = chains-kept (release W (chain_of W p)) W qs keeps in
         rw x
         (record {
-          chained = all-chained W (chain_of W p) qs keeps (rw turn at w.chained).1;
+          chained = all-chained W (chain_of W p) qs keeps (rw next at w.chained).1;
           apart = rw k parts.right;
-          rest = w.rest ∙ rw turn (release-append W (chain_of W p) (chains_of W qs) ∙ rw k);
+          rest = w.rest ∙ rw next (release-append W (chain_of W p) (chains_of W qs) ∙ rw k);
         })

@@ -2,22 +2,10 @@
 use Rattle.lists.proofs.Prelude.{true, false, not, ◌&&◌, List, [], ◌∷◌, ◌++◌, ◌≡◌, refl, sym, ap, ◌∙◌, ℕ, suc, ◌+◌, ◌-◌, ◌*◌, ◌<◌, ◌≤◌, add-one, arith, eqb, ltb, length, get_or, set, take, drop, length-set, length-append, drop_of_length-le, drop-cons, get_or-take, get_or-set_same, drop-set-lt, length-take-le, eqb-true, eqb-false, ltb-true, ltb-false, keep, every, by-test, and_left, and_right, part-set, every_append, keep-others, keep-both}
 use Rattle.words.specs.Words.{all_ones}
 use Rattle.card.specs.Blocks.{no_block, block, link, is_free, after_taken, free_blocks}
-use Rattle.blocks.specs.declared.Free.{Free}
-use Rattle.blocks.specs.Free.{first_of}
 use Rattle.blocks.specs.Writes.{put_block, store}
 use Rattle.blocks.proofs.FreeBlocks.{free-at, free-free, free-different, free-link}
 use Rattle.outputs.proofs.Free.{put-free}
 use Rattle.outputs.proofs.Turning.{free-turned}
-
--- a block found is the first of a list
-pub found_first : (l : List ℕ) (b : ℕ) → Free.Block b ≡ first_of l → b ≡ get_or l 0 0
-found_first [] b e = let z : ◌≡◌ {A = ℕ} 0 1 = cc in absurd (omega arith)
-found_first (d ∷ l) b e = cc
-
--- one is found in a list that is not empty
-pub found_some : (tag : Free → ℕ) → ((b : ℕ) → tag (Free.Block b) ≡ 0) → (l : List ℕ) → tag (first_of l) ≡ 1 → 1 ≤ length l → ⊥
-found_some tag one [] e h = omega arith
-found_some tag one (b ∷ l) e h = let z : ◌≡◌ {A = ℕ} 0 1 = sym (one b) ∙ e in omega arith
 
 -- a free block's link is set
 module _ (W : List ℕ) (n b next : ℕ) (long : length W ≡ 1024 * n) (h : b < n) (l : next < all_ones) (free : is_free W b ≡ true) where

@@ -15,7 +15,7 @@ ghost use Rattle.partitions.specs.Formed.{chains_of, in_range};
 ghost use Rattle.outputs.specs.Contents.{written, reached, entered};
 ghost use Rattle.outputs.specs.Entries.{entries_onward};
 
-use blocks::{Free, put_block_word};
+use blocks::put_block_word;
 use card::{CONTENT, Cursor, LAST, LINK, block_word};
 use postings::{Posting, STEP_PAIRS, pack};
 use state::Partitions;
@@ -26,10 +26,8 @@ fn block_reached(card: &[u8], first: u16, n: u32, count: u32) -> u16
     ensures { result ≡ reached (chain (words_of card.now) first n) count }
 {
     let mut block = first;
-    let mut k = count;
-    while CONTENT < k {
+    for _ in 0..count.saturating_sub(1) / CONTENT {
         block = block_word(card, block, LINK) as u16;
-        k -= CONTENT;
     }
     block
 }
@@ -51,12 +49,10 @@ pub fn write_words(card: &mut [u8], first: u16, n: u32, offset: u32, content: &[
     ensures { words_of card.new ≡ written (words_of card.old) (chain (words_of card.old) first n) offset content.now }
 {
     let mut block = block_reached(card, first, n, offset);
-    let mut i = 0;
-    while i < content.len() {
+    for (i, word) in content.iter().enumerate() {
         let k = offset as usize + i;
         block = block_of(card, block, k);
-        put_block_word(card, block, (k % 1023) as u16, content[i]);
-        i += 1;
+        put_block_word(card, block, (k % 1023) as u16, *word);
     }
 }
 
@@ -96,8 +92,7 @@ pub fn write_entries(card: &mut [u8], first: u16, n: u32, counts: &[u16])
 {
     let mut at: u32 = 8;
     let mut sum: u32 = 0;
-    let mut i: usize = 0;
-    while i < 1024 {
+    for i in 0..1024 {
         let count = counts[i] as u32;
         if count != 0 {
             let entry = [i as u32, count, sum];
@@ -105,7 +100,6 @@ pub fn write_entries(card: &mut [u8], first: u16, n: u32, counts: &[u16])
             at += 3;
             sum += count;
         }
-        i += 1;
     }
 }
 
@@ -124,12 +118,9 @@ pub fn write_postings(
 {
     let m = used as usize;
     let mut content: [u32; STEP_PAIRS] = [0; STEP_PAIRS];
-    let mut i: usize = 0;
-    while i < m {
+    for i in 0..m {
         let p = postings[i];
-        let count = p.count;
-        content[i] = pack(count, p.window);
-        i += 1;
+        content[i] = pack(p.count, p.window);
     }
     write_words(card, first, n, offset, &content[0..m]);
 }
@@ -140,8 +131,9 @@ pub fn rest_free(card: &[u8], c: Cursor) -> bool
     ensures { result ≡ every (eqb all_ones) (ahead (words_of card.now) c) }
 {
     let mut at = c;
+    // A cursor has no index: it is followed until nothing is to come.
     while 0 < at.left {
-        if card::head(card, at) != 4294967295 {
+        if card::head(card, at) != u32::MAX {
             return false;
         }
         at = card::moved(card, at);
@@ -155,12 +147,8 @@ pub fn release_inputs(card: &mut [u8], ps: Partitions)
         × (different (chains_of (words_of card.old) (finished ps)) ≡ true) }
     ensures { words_of card.new ≡ release (words_of card.old) (chains_of (words_of card.old) (finished ps)) }
 {
-    let n = ps.used as usize;
-    let mut i: usize = 0;
-    while i < n {
-        let p = ps.records[i];
+    for p in ps.finished() {
         blocks::release_chain(card, p.first, partitions::blocks_for(p.length));
-        i += 1;
     }
 }
 
@@ -169,11 +157,7 @@ fn free_after(card: &[u8], blocks: u32, taken: u16) -> u16
     requires { (length (words_of card.now) ≡ 1024 * blocks) × (blocks ≤ 4096) × (taken < blocks) × (1 ≤ length (free_blocks (words_of card.now) blocks taken)) }
     ensures { result ≡ get_or (free_blocks (words_of card.now) blocks taken) 0 0 }
 {
-    let found = blocks::next_free(card, blocks, taken);
-    match found {
-        Free::Block(block) => block,
-        Free::Nothing => taken,
-    }
+    blocks::next_free(card, blocks, taken).unwrap_or(taken)
 }
 
 // The first and the last of blocks that were linked.
@@ -194,16 +178,11 @@ pub fn link_free(card: &mut [u8], blocks: u32, taken: u16, n: u32) -> Linked
 {
     let first = free_after(card, blocks, taken);
     let mut last = first;
-    let mut count: u32 = 1;
-    while count < n {
+    for _ in 1..n {
         let next = free_after(card, blocks, last);
         put_block_word(card, last, LINK, next as u32);
         last = next;
-        count += 1;
     }
     put_block_word(card, last, LINK, LAST);
-    Linked {
-        first: first,
-        last: last,
-    }
+    Linked { first, last }
 }

@@ -44,23 +44,15 @@ fn read_header(card: &[u8], first: u16) -> Header
     requires { InCard (words_of card.now) first }
     ensures { result ≡ header_in (words_of card.now) first }
 {
-    let terms = card::block_word(card, first, 0);
-    let count = card::block_word(card, first, 1);
-    let entries = card::block_word(card, first, 2);
-    let postings = card::block_word(card, first, 3);
-    let total = card::block_word(card, first, 4);
-    let level = card::block_word(card, first, 5);
-    let lowest = card::block_word(card, first, 6);
-    let highest = card::block_word(card, first, 7);
     Header {
-        terms: terms,
-        count: count,
-        entries: entries,
-        postings: postings,
-        total: total,
-        level: level,
-        lowest: lowest,
-        highest: highest,
+        terms: card::block_word(card, first, 0),
+        count: card::block_word(card, first, 1),
+        entries: card::block_word(card, first, 2),
+        postings: card::block_word(card, first, 3),
+        total: card::block_word(card, first, 4),
+        level: card::block_word(card, first, 5),
+        lowest: card::block_word(card, first, 6),
+        highest: card::block_word(card, first, 7),
     }
 }
 
@@ -81,8 +73,7 @@ pub fn header_ok(card: &[u8], p: Partition) -> bool
     requires { Chained (words_of card.now) p.first (blocks_for p.length) × (0 < blocks_for p.length) }
     ensures { result ≡ header_rule p (content (words_of card.now) (chain_of (words_of card.now) p)) }
 {
-    let h = read_header(card, p.first);
-    header_fits(h, p)
+    header_fits(read_header(card, p.first), p)
 }
 
 // An entry: an identifier's number, how many postings it has and the index of the first, and the cursor past it.
@@ -99,17 +90,13 @@ fn entry_at(card: &[u8], e: Cursor) -> Entry
     requires { (3 ≤ e.left) × Good (words_of card.now) e }
     ensures { result ≡ entry_ahead (words_of card.now) e }
 {
-    let number = card::head(card, e);
-    let e1 = card::moved(card, e);
-    let count = card::head(card, e1);
-    let e2 = card::moved(card, e1);
-    let first = card::head(card, e2);
-    let e3 = card::moved(card, e2);
+    let second = card::moved(card, e);
+    let third = card::moved(card, second);
     Entry {
-        number: number,
-        count: count,
-        first: first,
-        rest: e3,
+        number: card::head(card, e),
+        count: card::head(card, second),
+        first: card::head(card, third),
+        rest: card::moved(card, third),
     }
 }
 
@@ -126,9 +113,8 @@ fn first_entry(card: &[u8], p: Partition) -> Cursor
         × (header_rule p (content (words_of card.now) (chain_of (words_of card.now) p)) ≡ true) }
     ensures { EntriesAt (words_of card.now) p result }
 {
-    let first = p.first;
-    let terms = card::block_word(card, first, 0);
-    card::seek(card, first, blocks_for(p.length), 8, 3 * terms)
+    let terms = card::block_word(card, p.first, 0);
+    card::seek(card, p.first, blocks_for(p.length), 8, 3 * terms)
 }
 
 // Whether a partition's entries keep their rule: one pass with the number from which the next may be and the sum of the counts so far.
@@ -141,6 +127,7 @@ pub fn entries_ok(card: &[u8], p: Partition) -> bool
     let mut e = first_entry(card, p);
     let mut next: u32 = 0;
     let mut sum: u64 = 0;
+    // A cursor has no index: it is followed until nothing is to come.
     while 0 < e.left {
         let entry = entry_at(card, e);
         if !entry_ok(entry, next, sum) {
@@ -172,20 +159,15 @@ pub fn partitions_ok(card: &[u8], blocks: u32, ps: Partitions) -> bool
     requires { (length (words_of card.now) ≡ 1024 * blocks) × (blocks ≤ 4096) × (ps.used ≤ 51) × (every (record_rule blocks) (finished ps) ≡ true) }
     ensures { result ≡ partitions_formed (words_of card.now) blocks (finished ps) }
 {
-    let n = ps.used as usize;
     let mut marks = card::no_marks();
-    let mut i: usize = 0;
-    while i < n {
-        let p = ps.records[i];
-        if !partition_ok(card, blocks, p) {
+    for p in ps.finished() {
+        if !partition_ok(card, blocks, *p) {
             return false;
         }
-        let m = card::mark_chain(card, marks, p.first, blocks_for(p.length));
-        if !m.apart {
+        let Some(m) = card::mark_chain(card, marks, p.first, blocks_for(p.length)) else {
             return false;
-        }
-        marks = m.marks;
-        i += 1;
+        };
+        marks = m;
     }
     true
 }
@@ -199,6 +181,7 @@ pub fn find_list(card: &[u8], p: Partition, id: u16) -> Cursor
     let first = p.first;
     let terms = card::block_word(card, first, 0);
     let mut e = first_entry(card, p);
+    // A cursor has no index: it is followed until nothing is to come.
     while 0 < e.left {
         let entry = entry_at(card, e);
         if entry.number == id as u32 {
@@ -233,13 +216,10 @@ pub fn open_reader(card: &[u8], p: Partition) -> Reader
     let first = p.first;
     let terms = card::block_word(card, first, 0);
     let count = card::block_word(card, first, 1);
-    let e = first_entry(card, p);
-    let entry = entry_at(card, e);
-    let postings = card::seek(card, first, blocks_for(p.length), 8 + 3 * terms, count);
-    let entries = entry.rest;
+    let entry = entry_at(card, first_entry(card, p));
     Reader {
-        postings: postings,
-        entries: entries,
+        postings: card::seek(card, first, blocks_for(p.length), 8 + 3 * terms, count),
+        entries: entry.rest,
         id: entry.number as u16,
         here: entry.count,
     }
@@ -252,30 +232,26 @@ pub fn reader_moved(card: &[u8], r: Reader) -> Reader
         × (postings_ahead (words_of card.now) r ≡ first_ahead (words_of card.now) r ∷ postings_ahead (words_of card.now) result)
         × GoodReader (words_of card.now) result }
 {
-    let next = card::moved(card, r.postings);
-    let here = r.here;
-    let e = r.entries;
-    if 1 < here {
+    let postings = card::moved(card, r.postings);
+    if 1 < r.here {
         return Reader {
-            postings: next,
-            entries: e,
-            id: r.id,
-            here: here - 1,
+            postings,
+            here: r.here - 1,
+            ..r
         };
     }
-    if e.left == 0 {
+    if r.entries.left == 0 {
         return Reader {
-            postings: next,
-            entries: e,
+            postings,
             id: 0,
             here: 0,
+            ..r
         };
     }
-    let entry = entry_at(card, e);
-    let rest = entry.rest;
+    let entry = entry_at(card, r.entries);
     Reader {
-        postings: next,
-        entries: rest,
+        postings,
+        entries: entry.rest,
         id: entry.number as u16,
         here: entry.count,
     }

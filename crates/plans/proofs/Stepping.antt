@@ -1,5 +1,6 @@
 -- A step as its definition says: what is judged, the refusals in their order, and what is left.
 use Rattle.lists.proofs.Prelude.{Bool, true, false, cond, not, ◌&&◌, ◌||◌, List, [], ◌∷◌, ◌≡◌, refl, sym, ap, ◌∙◌, ℕ, zero, suc, ◌*◌, ◌%◌, ◌<◌, ◌≤◌, arith, eqb, leb, ltb, length, get_or, take, eq-eqb, ne_eqb, eqb-true, leb-true, leb-false, lt-ltb, le-ltb, not-true, not-false, AllOf, every, empty, by-test, and_left, and_right, and_both, never, and_assoc}
+use Rattle.std.specs.Prelude.{Some}
 use Rattle.words.specs.Words.{words, bytes}
 use Rattle.words.proofs.Views.{length-words}
 use Rattle.postings.specs.declared.Posting.{Posting}
@@ -19,13 +20,13 @@ use Rattle.levels.proofs.Runs.{due-first, oldest-length}
 use Rattle.card.specs.Blocks.{no_block, free_blocks}
 use Rattle.card.specs.Chains.{blocks_for, chain, chain_rule}
 use Rattle.partitions.specs.Layout.{length_of}
-use Rattle.partitions.specs.Reading.{postings_of, in_partitions}
+use Rattle.partitions.specs.Reading.{in_partitions}
 use Rattle.partitions.specs.Formed.{partition_rule, partitions_formed, lists_rule}
 use Rattle.partitions.specs.Terms.{Readable}
 use Rattle.inputs.specs.declared.Totals.{Totals}
 use Rattle.inputs.specs.declared.Batch.{Batch}
 use Rattle.inputs.specs.Judging.{inputs_formed, judged_of, Small, all_in_range}
-use Rattle.inputs.proofs.Judged.{judged-totals}
+use Rattle.inputs.proofs.Judged.{judged-some}
 use Rattle.drafts.specs.Drafted.{stands_apart}
 use Rattle.admission.specs.Admission.{first_of, card_tests}
 use Rattle.admission.proofs.Laws.{barred, granted}
@@ -70,7 +71,7 @@ module _ (s : State) (card : List ℕ) (rule : state_rule s ≡ true) (same : le
   card-words = omega (arith, (state-kept s rule).lengths.card, same)
 
   pub judged : partitions_formed (words card) (blocks s) (finished s.partitions) ≡ true → inputs_formed (words card) (inputs s) ≡ true
-      → (is : Partitions) (t : Totals) → is ≡ partitions_of (inputs s) → t ≡ judged_of (words card) (finished is) → Small t → Judged (words card) s is t
+      → (is : Partitions) (t : Totals) → is ≡ partitions_of (inputs s) → Some t ≡ judged_of (words card) (finished is) → Small t → Judged (words card) s is t
   unfolding inputs_formed taking
   judged p i is t x y z =
       let k = state-kept s rule in
@@ -84,7 +85,7 @@ module _ (s : State) (card : List ℕ) (rule : state_rule s ≡ true) (same : le
         formed = p;
         are = x;
         range = and_right (every (lists_rule W) (inputs s)) _ i;
-        totals = y ∙ ap (judged_of W) f ∙ judged-totals W (inputs s) i;
+        totals = (judged-some W (inputs s) t (y ∙ ap (judged_of W) f)).1;
         small = z;
       }
 

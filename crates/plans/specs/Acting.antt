@@ -1,9 +1,10 @@
 -- A step that is not refused: what is known before it writes, and the state that it leaves.
-use Rattle.std.specs.Prelude.{Bool, true, false, cond, not, ◌&&◌, ◌||◌, List, [], ◌∷◌, ◌++◌, map, ◌≡◌, ℕ, suc, ◌+◌, ◌*◌, ◌<◌, ◌≤◌, eqb, leb, length, get_or, take, drop}
+use Rattle.std.specs.Prelude.{Result, MatchResult, Bool, true, cond, not, ◌&&◌, ◌||◌, List, [], ◌∷◌, ◌++◌, map, ◌≡◌, ℕ, suc, ◌+◌, ◌*◌, ◌<◌, ◌≤◌, eqb, leb, length, get_or, take, drop}
 use Rattle.lists.specs.Lists.{different}
 use Rattle.words.specs.Words.{words, bytes, all_ones}
 use Rattle.postings.specs.declared.Posting.{Posting}
 use Rattle.postings.specs.Merge.{nonzero}
+use Rattle.answers.specs.declared.Refusal.{Refusal}
 use Rattle.answers.specs.Answers.{Outcome, refuse_if, done, refused}
 use Rattle.answers.specs.Numbers.{refusal_number}
 use Rattle.state.specs.declared.Partition.{Partition}
@@ -158,14 +159,20 @@ pub record Admitted (s : State) (card : List ℕ) (is : Partitions) (v : ℕ) : 
   pub are : is ≡ partitions_of (inputs s)
   pub level : v ≡ output_level s
 
--- a plan for a step from a card, and the card once the output's blocks are there. A plan that is not ready refuses, and the card stays. Where one is ready, the
--- step is done by what it says
-pub record Planned (s : State) (is : Partitions) (t : Totals) (card : List ℕ) (p : Plan) (linked : List ℕ) : Type 0 where
-  pub stop : p.ready ≡ false → (linked ≡ card) × Gives (store_of s card) (step_going_on s (words card)) (refused (refusal_number p.why)) (store_of s card)
-  pub pairs : p.ready ≡ true → taking (words linked) s ≡ taking (words card) s
-  pub judged : p.ready ≡ true → Judged (words linked) s is t
-  pub acts : p.ready ≡ true → Acts (words linked) s p.output p.batch
-  pub early : p.ready ≡ true → s.merge.steps < 4294967295
-  pub done : p.ready ≡ true → (end : Store) → end.state ≡ next_state s (is_last (taking (words card) s) (suc s.merge.steps)) t p.output
+-- a plan for a step from a card, and the card once the output's blocks are there. A plan that is ready: the step is done by what it says
+pub record Ready (s : State) (is : Partitions) (t : Totals) (card : List ℕ) (p : Plan) (linked : List ℕ) : Type 0 where
+  pub pairs : taking (words linked) s ≡ taking (words card) s
+  pub judged : Judged (words linked) s is t
+  pub acts : Acts (words linked) s p.output p.batch
+  pub early : s.merge.steps < 4294967295
+  pub done : (end : Store) → end.state ≡ next_state s (is_last (taking (words card) s) (suc s.merge.steps)) t p.output
       → end.card ≡ bytes (written_on (words linked) s (taking (words linked) s) (suc s.merge.steps) (chain (words linked) p.output.first p.output.blocks))
       → Gives (store_of s card) (step_going_on s (words card)) done end
+
+-- where there is none, the step is refused, and the card stays
+pub record Barred (s : State) (card : List ℕ) (why : Refusal) (linked : List ℕ) : Type 0 where
+  pub same : linked ≡ card
+  pub told : Gives (store_of s card) (step_going_on s (words card)) (refused (refusal_number why)) (store_of s card)
+
+abbrev pub Planned : State → Partitions → Totals → List ℕ → Result Plan Refusal → List ℕ → Type 0
+Planned s is t card r linked = MatchResult r (λ p. Ready s is t card p linked) (λ why. Barred s card why linked)

@@ -1,5 +1,5 @@
 -- A merge step: what it answers and leaves, for every input.
-use Rattle.std.specs.Prelude.{Bool, ◌||◌, ◌&&◌, not, cond, List, [], ◌∷◌, ◌++◌, ℕ, suc, ◌+◌, ◌*◌, eqb, ltb, length, get_or, take}
+use Rattle.std.specs.Prelude.{Bool, ◌||◌, ◌&&◌, not, cond, List, [], ◌∷◌, ◌++◌, ℕ, suc, ◌*◌, eqb, ltb, length, get_or, take}
 use Rattle.lists.specs.Lists.{every, empty, different, same}
 use Rattle.words.specs.Words.{words, bytes, all_ones}
 use Rattle.postings.specs.declared.Posting.{Posting}

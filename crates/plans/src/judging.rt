@@ -1,5 +1,5 @@
 // Refusal 3 of a step for the output in progress, and what comes next where it is in order.
-ghost use Rattle.std.specs.Prelude.{true, ◌≡◌, ◌*◌, ◌≤◌, length};
+ghost use Rattle.std.specs.Prelude.{true, false, MatchOption, ◌≡◌, ◌*◌, ◌≤◌, length};
 ghost use Rattle.words.specs.Words.{words as words_of};
 ghost use Rattle.state.specs.Views.{finished};
 ghost use Rattle.drafts.specs.Drafted.{AllChained};
@@ -14,26 +14,15 @@ use inputs::{Batch, Totals};
 use postings::{Posting, STEP_PAIRS};
 use state::{MergeJob, Partitions, State};
 
-// Nothing written, and sixteen pairs that come next and have no sum to write, or all that are left.
-pub fn no_draft(ok: bool) -> Draft
-    ensures { (result.ok ≡ ok) × (result.written ≡ 0) × (result.batch.used ≡ 0) × (result.batch.taken ≡ 16) }
-{
-    let none = Posting {
-        id: 0,
-        window: 0,
-        count: 0,
-    };
-    let b = Batch {
-        pairs: [none; STEP_PAIRS],
+// Of an output of no blocks: nothing written, and sixteen pairs that come next and have no sum to write, or all that are left.
+const NOTHING: Draft = Draft {
+    written: 0,
+    batch: Batch {
+        pairs: [Posting::NONE; STEP_PAIRS],
         used: 0,
         taken: 16,
-    };
-    Draft {
-        ok: ok,
-        written: 0,
-        batch: b,
-    }
-}
+    },
+};
 
 // Whether the blocks of the output in progress are a chain, apart from those of finished partitions.
 pub fn stands(card: &[u8], blocks: u32, job: MergeJob, ps: Partitions) -> bool
@@ -50,30 +39,32 @@ pub fn stands(card: &[u8], blocks: u32, job: MergeJob, ps: Partitions) -> bool
     drafts::stands_apart(card, job.first, n, ps)
 }
 
-// Whether the output in progress is what the inputs give so far, with pairs left to take. One of no blocks has nothing to read.
-pub fn output_ok(s: State, card: &[u8], is: Partitions, t: Totals) -> Draft
+// What comes next where the output in progress is what the inputs give so far, with pairs left to take. One of no blocks has nothing to read.
+pub fn output_ok(s: State, card: &[u8], is: Partitions, t: Totals) -> Option<Draft>
     requires { Judged (words_of card.now) s is t × (inputs_formed (words_of card.now) (inputs s) ≡ true) × (1 ≤ s.merge.steps) × (standing (words_of card.now) s ≡ true) }
-    ensures { (result.ok ≡ output_rule (words_of card.now) s (taking (words_of card.now) s))
-        × (result.ok ≡ true → Acts (words_of card.now) s (record { first = s.merge.first; blocks = blocks_for (length_from t); written = result.written; taken = s.taken }) result.batch) }
+    ensures { MatchOption result (output_rule (words_of card.now) s (taking (words_of card.now) s) ≡ false)
+        (λ d. (output_rule (words_of card.now) s (taking (words_of card.now) s) ≡ true)
+        × Acts (words_of card.now) s (record { first = s.merge.first; blocks = blocks_for (length_from t); written = d.written; taken = s.taken }) d.batch) }
 {
     let job = s.merge;
     if t.pairs as u64 <= 16 * job.steps as u64 {
-        return no_draft(false);
+        return None;
     }
     let length = super::output_length(t);
     if job.length != length {
-        return no_draft(false);
+        return None;
     }
     let n = partitions::blocks_for(length);
     if n == 0 {
-        return no_draft(job.first == 65534);
+        return (job.first == 65534).then_some(NOTHING);
     }
-    drafts::read_draft(
+    let r = drafts::read_draft(
         card,
         is,
         job.first,
         n,
         8 + 3 * t.terms as u32,
         16 * job.steps,
-    )
+    );
+    r.held.then_some(r.draft)
 }

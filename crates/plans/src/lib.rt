@@ -27,11 +27,9 @@ pub struct Output {
     pub taken: u16,
 }
 
-// What a step is to do: the output that it writes to, and the pairs that it takes; or why it is refused.
+// What a step is to do: the output that it writes to, and the pairs that it takes.
 #[derive(Clone, Copy)]
 pub struct Plan {
-    pub ready: bool,
-    pub why: Refusal,
     pub output: Output,
     pub batch: Batch,
 }
@@ -45,26 +43,6 @@ pub fn output_length(t: Totals) -> u32
         return 0;
     }
     32 + 12 * t.terms as u32 + 4 * t.postings
-}
-
-// A plan that refuses.
-fn no_plan(why: Refusal) -> Plan
-    ensures { (result.ready ≡ false) × (result.why ≡ why) }
-{
-    let d = judging::no_draft(false);
-    let b = d.batch;
-    let o = Output {
-        first: 65534,
-        blocks: 0,
-        written: 0,
-        taken: 0,
-    };
-    Plan {
-        ready: false,
-        why: why,
-        output: o,
-        batch: b,
-    }
 }
 
 // The free blocks that an output takes, linked; none for an empty one.
@@ -82,7 +60,7 @@ fn take_blocks(card: &mut [u8], blocks: u32, taken: u16, n: u32) -> Output
             first: 65534,
             blocks: 0,
             written: 0,
-            taken: taken,
+            taken,
         };
     }
     let l = outputs::link_free(card, blocks, taken, n);
@@ -95,7 +73,7 @@ fn take_blocks(card: &mut [u8], blocks: u32, taken: u16, n: u32) -> Output
 }
 
 // A step with no merge in progress begins one.
-fn begin(s: State, card: &mut [u8], is: Partitions, t: Totals) -> Plan
+fn begin(s: State, card: &mut [u8], is: Partitions, t: Totals) -> Result<Plan, Refusal>
     requires { (length card.old % 4 ≡ 0) × Judged (words_of card.old) s is t × (inputs_formed (words_of card.old) (inputs_of s) ≡ true)
         × (s.taken < blocks_of s) × (s.merge.steps ≡ 0) }
     ensures { Planned s is t card.old result card.new }
@@ -103,47 +81,40 @@ fn begin(s: State, card: &mut [u8], is: Partitions, t: Totals) -> Plan
     let blocks = s.lengths.card / BLOCK_BYTES;
     let n = partitions::blocks_for(output_length(t));
     if !blocks::enough_free(card, blocks, s.taken, n) {
-        return no_plan(Refusal::TooFewFree);
+        return Err(Refusal::TooFewFree);
     }
     if is.used == 0 {
-        return no_plan(Refusal::NothingDue);
+        return Err(Refusal::NothingDue);
     }
     let b = drafts::first_batch(card, is);
     let o = take_blocks(card, blocks, s.taken, n);
-    Plan {
-        ready: true,
-        why: Refusal::NothingDue,
+    Ok(Plan {
         output: o,
         batch: b,
-    }
+    })
 }
 
 // A step of the merge in progress.
-fn go_on(s: State, card: &[u8], is: Partitions, t: Totals) -> Plan
+fn go_on(s: State, card: &[u8], is: Partitions, t: Totals) -> Result<Plan, Refusal>
     requires { Judged (words_of card.now) s is t × (inputs_formed (words_of card.now) (inputs_of s) ≡ true) × (1 ≤ s.merge.steps) × (standing (words_of card.now) s ≡ true) }
     ensures { Planned s is t card.now result card.now }
 {
-    let d = judging::output_ok(s, card, is, t);
-    if !d.ok {
-        return no_plan(Refusal::Malformed);
-    }
-    let o = Output {
-        first: s.merge.first,
-        blocks: partitions::blocks_for(output_length(t)),
-        written: d.written,
-        taken: s.taken,
+    let Some(d) = judging::output_ok(s, card, is, t) else {
+        return Err(Refusal::Malformed);
     };
-    let b = d.batch;
-    Plan {
-        ready: true,
-        why: Refusal::Malformed,
-        output: o,
-        batch: b,
-    }
+    Ok(Plan {
+        output: Output {
+            first: s.merge.first,
+            blocks: partitions::blocks_for(output_length(t)),
+            written: d.written,
+            taken: s.taken,
+        },
+        batch: d.batch,
+    })
 }
 
 // What a step whose inputs are well formed is to do.
-pub fn prepare(s: State, card: &mut [u8], is: Partitions, t: Totals) -> Plan
+pub fn prepare(s: State, card: &mut [u8], is: Partitions, t: Totals) -> Result<Plan, Refusal>
     requires { (length card.old % 4 ≡ 0) × Judged (words_of card.old) s is t × (inputs_formed (words_of card.old) (inputs_of s) ≡ true) × (s.taken < blocks_of s)
         × (standing (words_of card.old) s ≡ true) }
     ensures { Planned s is t card.old result card.new }

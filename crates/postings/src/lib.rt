@@ -12,21 +12,30 @@ pub const LAST_ID: u32 = 1023;
 pub const STEP_PAIRS: usize = 16;
 
 // Which identifier, in which window, and how many: below 0 where counts are taken back.
-#[derive(Clone, Copy)]
+#[derive(Clone, Copy, Debug, PartialEq, Eq)]
 pub struct Posting {
     pub id: u16,
     pub window: u16,
     pub count: i16,
 }
 
+impl Posting {
+    // What an unused place holds.
+    pub const NONE: Posting = Posting {
+        id: 0,
+        window: 0,
+        count: 0,
+    };
+}
+
 // A stretch of windows: its first and its last.
-#[derive(Clone, Copy)]
+#[derive(Clone, Copy, Debug, PartialEq, Eq)]
 pub struct Stretch {
     pub first: u16,
     pub last: u16,
 }
 
-// Whether `p` stands before `q`.
+// Whether `p` stands before `q`. Written out, since identifiers rise and windows fall.
 pub fn precedes(p: Posting, q: Posting) -> bool
     ensures { result ≡ precedes p q }
 {
@@ -39,7 +48,7 @@ fn low_half(count: i16) -> u16
     ensures { result ≡ half count }
 {
     if count < 0 {
-        ((0 - count) as u16) | 0x8000
+        count.unsigned_abs() | 0x8000
     } else {
         count as u16
     }
@@ -58,7 +67,7 @@ fn count_of(low: u16) -> i16
     ensures { result ≡ count_of low }
 {
     let size = (low & 0x7fff) as i16;
-    if low & 0x8000 == 0 { size } else { 0 - size }
+    if low & 0x8000 == 0 { size } else { -size }
 }
 
 // The posting of a word under an identifier.
@@ -67,9 +76,9 @@ pub fn unpack(id: u16, word: u32) -> Posting
 {
     let count = count_of((word & 0xffff) as u16);
     Posting {
-        id: id,
+        id,
         window: (word >> 16) as u16,
-        count: count,
+        count,
     }
 }
 

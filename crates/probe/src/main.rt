@@ -5,7 +5,6 @@
 ghost use Rattle.std.specs.Prelude.{[], ◌≤◌, length, take};
 ghost use Rattle.sessions.specs.Lines.{hand_of, Serves};
 
-use answers::Reply;
 use state::State;
 use std::io::{Read, Stdin};
 
@@ -35,6 +34,7 @@ fn serve(
     let mut n = kept;
     let mut good = true;
     let mut i: usize = 0;
+    // no counted index: each turn goes on past what was taken in
     while i < piece.len() {
         let t = sessions::lines::take_some(state, card, register, line, n, &piece[i..], out);
         state = t.state;
@@ -47,20 +47,15 @@ fn serve(
         }
     }
     Session {
-        state: state,
+        state,
         kept: n,
-        good: good,
+        good,
     }
 }
 
-// Says on standard error that the output failed.
-fn tell_unwritten() {
-    io::write_all(2, b"probe: cannot write the output\n");
-}
-
-// Says on standard error that the input failed.
-fn tell_unread() {
-    io::write_all(2, b"probe: cannot read the input\n");
+// Says on standard error what failed.
+fn tell(message: &[u8]) {
+    io::write_all(2, message);
 }
 
 // The last line needs no line feed.
@@ -78,11 +73,11 @@ fn serve_end(
     let used = d.used;
     let good = io::write_all(1, &out[..used]);
     if !good {
-        tell_unwritten();
+        tell(b"probe: cannot write the output\n");
     }
 }
 
-// Reads to the end of the input. The turns are counted down from a number that no run uses up, since a proved loop has to end.
+// Reads to the end of the input. The turns are counted up to a number that no run comes to, since a proved loop has to end.
 fn run(from: Stdin, s: State, card: &mut [u8], register: &mut [u8]) {
     let mut source = from;
     let mut line: [u8; 513] = [0; 513];
@@ -93,12 +88,11 @@ fn run(from: Stdin, s: State, card: &mut [u8], register: &mut [u8]) {
         kept: 0,
         good: true,
     };
-    let mut turns = u64::MAX;
-    while turns > 0 {
+    for _ in 0..u64::MAX {
         let n = match source.read(&mut input) {
             Ok(n) => n,
             Err(_) => {
-                tell_unread();
+                tell(b"probe: cannot read the input\n");
                 return;
             }
         };
@@ -116,10 +110,9 @@ fn run(from: Stdin, s: State, card: &mut [u8], register: &mut [u8]) {
             &mut out,
         );
         if !t.good {
-            tell_unwritten();
+            tell(b"probe: cannot write the output\n");
             return;
         }
-        turns -= 1;
     }
 }
 
@@ -127,11 +120,10 @@ fn main(rt: HostRuntime) {
     let mut card = io::large_buffer();
     let mut register: [u8; 4160] = [0; 4160];
     let r = engine::start(&mut card, &mut register);
-    let reply = r.reply;
-    match reply {
-        Reply::Done => run(rt.stdin(), r.state, &mut card, &mut register),
-        Reply::Refused(_) => {
-            io::write_all(2, b"probe: the card or the register is refused\n");
+    match r.answer {
+        Ok(()) => run(rt.stdin(), r.state, &mut card, &mut register),
+        Err(_) => {
+            tell(b"probe: the card or the register is refused\n");
         }
     }
 }

@@ -1,5 +1,5 @@
 -- What is gathered of a query's identifiers, identifier by identifier.
-use Rattle.lists.proofs.Prelude.{true, false, ◌&&◌, List, [], ◌∷◌, ◌++◌, map, map-append, ◌≡◌, refl, sym, ap, ◌∙◌, subst, ℕ, ◌+◌, ◌*◌, ◌<◌, ◌≤◌, add-one, arith, ltb, length, get_or, take, drop, length-take, length-append, drop_of_length-le, drop-cons, take-suc, take_all, take-append-le, lt-ltb, le-ltb, keep, every, AllOf, never, keep_append, total-more}
+use Rattle.lists.proofs.Prelude.{true, false, ◌&&◌, List, [], ◌∷◌, ◌++◌, map, map-append, ◌≡◌, refl, sym, ap, ◌∙◌, subst, ℕ, ◌+◌, ◌*◌, ◌<◌, ◌≤◌, add-one, arith, ltb, length, get_or, take, drop, length-take, length-append, drop_of_length-le, drop-cons, take-suc, take_all, take-append-le, lt-ltb, le-ltb, keep, every, AllOf, keep_append, total-more}
 use Rattle.postings.specs.declared.Stretch.{Stretch}
 use Rattle.postings.specs.Sums.{under}
 use Rattle.state.specs.declared.State.{State}
@@ -8,11 +8,10 @@ use Rattle.partitions.specs.Reading.{stored}
 use Rattle.partitions.specs.Formed.{identifier_formed}
 use Rattle.kway.specs.Parts.{parts}
 use Rattle.kway.proofs.Parts.{put_in, all_more, put-here}
-use Rattle.scores.specs.declared.counting.Counted.{Counted}
-use Rattle.scores.specs.Terms.{Term, KeptGroup, term_of, terms_of, Serves, CountedFor}
+use Rattle.scores.specs.Terms.{Term, KeptGroup, term_of, terms_of, Serves, CountedWell}
 use Rattle.terms.proofs.Fronts.{parts-front}
 use Rattle.queries.specs.declared.judging.Known.{Known}
-use Rattle.queries.specs.Gathered.{stored_under, Serving, none, more, Keeps, KeptOf, Gathered}
+use Rattle.queries.specs.Gathered.{stored_under, Serving, none, more, Keeps, KeptWell, GatheredWell}
 
 -- ---- one term more
 
@@ -37,15 +36,15 @@ module _ (W R : List ℕ) (s : State) (st : Stretch) (live : ℕ) where
   keeps-none k H u t = record { used = u; kept = rw u tt; served = rw u none; taken = t }
 
   -- one more where there is room
-  pub keeps-room : (k r : Known) (H P : List ℕ) (i : ℕ) (o : Counted) → k.used < 5 → size * k.used + size ≤ length H → CountedFor W R s st live i (s.partitions.used + 1) P o
-      → o.fine ≡ true → r.used ≡ k.used + 1 → r.taken ≡ k.taken + o.taken → (is : List ℕ) → Keeps W R s st live is k H → Keeps W R s st live (is ++ (i ∷ [])) r (put_in size H P k.used)
-  keeps-room k r H P i o h fits q f nu nt is v =
+  pub keeps-room : (k r : Known) (H P : List ℕ) (i o : ℕ) → k.used < 5 → size * k.used + size ≤ length H → CountedWell W R s st live i (s.partitions.used + 1) P o
+      → r.used ≡ k.used + 1 → r.taken ≡ k.taken + o → (is : List ℕ) → Keeps W R s st live is k H → Keeps W R s st live (is ++ (i ∷ [])) r (put_in size H P k.used)
+  keeps-room k r H P i o h fits q nu nt is v =
       let len = v.used in
       let a : length is < 5 = omega (arith, length-take 5 is) in
       let b : take 5 is ≡ is = take_all 5 is (omega arith) in
       let d : take 5 (is ++ (i ∷ [])) ≡ is ++ (i ∷ []) = take_all 5 (is ++ (i ∷ [])) (omega (arith, length-append is (i ∷ []))) in
       let u : k.used ≡ length is = rw b at len in
-      let g = q.kept f in
+      let g = q.kept in
       let p : parts size r.used (put_in size H P k.used) ≡ parts size k.used H ++ (P ∷ []) = ap (λ (n : ℕ). parts size n (put_in size H P k.used)) nu ∙ parts-put size k.used H P fits g.long in
       let ts : terms_of W R (s.partitions.used + 1) r.used (put_in size H P k.used) ≡ terms_of W R (s.partitions.used + 1) k.used H ++ (term_of W R (s.partitions.used + 1) P ∷ []) =
       ap (map (term_of W R (s.partitions.used + 1))) p ∙ map-append (term_of W R (s.partitions.used + 1)) (parts size k.used H) (P ∷ []) in
@@ -55,8 +54,8 @@ module _ (W R : List ℕ) (s : State) (st : Stretch) (live : ℕ) where
         used = rw d (omega (arith, length-append is (i ∷ [])));
         kept = subst (AllOf (KeptGroup W R (s.partitions.used + 1))) (sym p) (all_more (KeptGroup W R (s.partitions.used + 1)) (parts size k.used H) P v.kept g);
         served = subst (λ (l : List ℕ). Serving W s st live l (terms_of W R (s.partitions.used + 1) r.used (put_in size H P k.used))) (sym d)
-            (subst (Serving W s st live (is ++ (i ∷ []))) (sym ts) (served-more is (terms_of W R (s.partitions.used + 1) k.used H) i (term_of W R (s.partitions.used + 1) P) served (q.term f)));
-        taken = rw d (omega (arith, q.taken f, total-more (λ j. length (under j (stored W s))) is i));
+            (subst (Serving W s st live (is ++ (i ∷ []))) (sym ts) (served-more is (terms_of W R (s.partitions.used + 1) k.used H) i (term_of W R (s.partitions.used + 1) P) served q.term));
+        taken = rw d (omega (arith, q.taken, total-more (λ j. length (under j (stored W s))) is i));
       }
 
   -- and where there is none
@@ -98,7 +97,6 @@ module _ (ms : List Name) where
 -- i identifiers are gathered in k and H
 pub record Gathering (W R : List ℕ) (s : State) (st : Stretch) (live : ℕ) (ms ns : List Name) (i : ℕ) (k : Known) (H : List ℕ) : Type 0 where
   pub within : i ≤ length ns
-  pub fine : k.fine ≡ true
   pub left : every (identifier_formed W s) (numbers_of ms ns) ≡ every (identifier_formed W s) (numbers_of ms (drop i ns))
   pub keeps : Keeps W R s st live (numbers_of ms (take i ns)) k H
   pub used : k.used ≤ 5
@@ -106,18 +104,18 @@ pub record Gathering (W R : List ℕ) (s : State) (st : Stretch) (live : ℕ) (m
 
 module _ (W R : List ℕ) (s : State) (st : Stretch) (live : ℕ) (ms ns : List Name) where
   -- at first none
-  pub gathering-none : (k : Known) (H : List ℕ) → k.fine ≡ true → k.used ≡ 0 → k.taken ≡ 0 → Gathering W R s st live ms ns 0 k H
+  pub gathering-none : (k : Known) (H : List ℕ) → k.used ≡ 0 → k.taken ≡ 0 → Gathering W R s st live ms ns 0 k H
   unfolding numbers_of
-  gathering-none k H f u t = record { within = omega arith; fine = f; left = refl; keeps = keeps-none W R s st live k H u t; used = omega arith; few = omega arith }
+  gathering-none k H u t = record { within = omega arith; left = refl; keeps = keeps-none W R s st live k H u t; used = omega arith; few = omega arith }
 
   -- at the end all
-  pub gathered-all : (i : ℕ) (k : Known) (H : List ℕ) → length ns ≤ i → Gathering W R s st live ms ns i k H → Gathered W R s st live (numbers_of ms ns) k H
+  pub gathered-all : (i : ℕ) (k : Known) (H : List ℕ) → length ns ≤ i → Gathering W R s st live ms ns i k H → GatheredWell W R s st live (numbers_of ms ns) H k
   unfolding numbers_of
   gathered-all i k H h v =
       let d : drop i ns ≡ [] = drop_of_length-le ns h in
       let t : take i ns ≡ ns = take_all i ns h in
       let e : every (identifier_formed W s) (numbers_of ms ns) ≡ true = v.left ∙ ap (λ (l : List Name). every (identifier_formed W s) (numbers_of ms l)) d in
-      record { fine = v.fine ∙ sym e; keeps = λ y. subst (λ (l : List Name). Keeps W R s st live (numbers_of ms l) k H) t v.keeps }
+      record { fine = e; keeps = subst (λ (l : List Name). Keeps W R s st live (numbers_of ms l) k H) t v.keeps }
 
   module _ (i : ℕ) (k : Known) (H : List ℕ) (h : i < length ns) (v : Gathering W R s st live ms ns i k H) where
     abbrev n : Name
@@ -135,33 +133,28 @@ module _ (W R : List ℕ) (s : State) (st : Stretch) (live : ℕ) (ms ns : List 
         let e : numbers_of ms (take (i + 1) ns) ≡ numbers_of ms (take i ns) = front ∙ ap (λ (l : List ℕ). numbers_of ms (take i ns) ++ l) (number-out ms n [] g) ∙ numbers-nil ms (numbers_of ms (take i ns)) in
         record {
           within = omega arith;
-          fine = v.fine;
           left = v.left ∙ ap (λ (l : List Name). every (identifier_formed W s) (numbers_of ms l)) rest ∙ ap (every (identifier_formed W s)) (number-out ms n (drop (i + 1) ns) g);
           keeps = subst (λ (l : List ℕ). Keeps W R s st live l k H) (sym e) v.keeps;
           used = v.used;
           few = v.few;
         }
 
-    module _ (g : number_of ms n < length ms) (r : Known) (H' : List ℕ) (q : KeptOf W R s st live k H (number_of ms n) r H') where
+    module _ (g : number_of ms n < length ms) where
       formed-on : every (identifier_formed W s) (numbers_of ms ns) ≡ (identifier_formed W s (number_of ms n) && every (identifier_formed W s) (numbers_of ms (drop (i + 1) ns)))
       formed-on = v.left ∙ ap (λ (l : List Name). every (identifier_formed W s) (numbers_of ms l)) rest ∙ ap (every (identifier_formed W s)) (number_in ms n (drop (i + 1) ns) g)
 
       -- one whose lists are malformed
-      pub gathered-fault : r.fine ≡ false → Gathered W R s st live (numbers_of ms ns) r H'
-      gathered-fault f =
-          let z : identifier_formed W s (number_of ms n) ≡ false = sym q.fine ∙ f in
-          record { fine = f ∙ sym (formed-on ∙ rw z); keeps = λ y. never (sym f ∙ y) }
+      pub gathered-fault : identifier_formed W s (number_of ms n) ≡ false → every (identifier_formed W s) (numbers_of ms ns) ≡ false
+      gathered-fault z = formed-on ∙ rw z
 
       -- one whose lists are well formed
-      pub gathering-more : r.fine ≡ true → Gathering W R s st live ms ns (i + 1) r H'
-      gathering-more f =
+      pub gathering-more : (r : Known) (H' : List ℕ) → KeptWell W R s st live k H (number_of ms n) H' r → Gathering W R s st live ms ns (i + 1) r H'
+      gathering-more r H' q =
           let e : numbers_of ms (take (i + 1) ns) ≡ numbers_of ms (take i ns) ++ (number_of ms n ∷ []) = front ∙ ap (λ (l : List ℕ). numbers_of ms (take i ns) ++ l) (number-alone ms n g) in
-          let y : identifier_formed W s (number_of ms n) ≡ true = sym q.fine ∙ f in
           record {
             within = omega arith;
-            fine = f;
-            left = formed-on ∙ rw y;
-            keeps = subst (λ (l : List ℕ). Keeps W R s st live l r H') (sym e) (q.keeps f (numbers_of ms (take i ns)) v.keeps);
+            left = formed-on ∙ rw q.fine;
+            keeps = subst (λ (l : List ℕ). Keeps W R s st live l r H') (sym e) (q.keeps (numbers_of ms (take i ns)) v.keeps);
             used = q.used;
             few = q.few;
           }

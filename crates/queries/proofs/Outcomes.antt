@@ -1,4 +1,5 @@
 -- What a query comes to, test by test, and that what the search promises is what the query is.
+use Rattle.std.specs.Prelude.{Result, Ok, Err}
 use Rattle.lists.proofs.Prelude.{Bool, true, false, ◌&&◌, not, List, [], ◌∷◌, foldr, map, ◌≡◌, refl, sym, ap, ap₂, ◌∙◌, subst, ℕ, ◌+◌, ◌*◌, ◌≤◌, mul-le-mul_left, arith, eqb, ltb, length, take, replicate, length-take, length-replicate, take_all, ltb-false, eqb-false, eq-eqb, not-false, any, every, empty, or-none, and_both}
 use Rattle.words.specs.Words.{words}
 use Rattle.postings.specs.declared.Stretch.{Stretch}
@@ -7,7 +8,6 @@ use Rattle.answers.specs.Numbers.{refusal_number, found_as}
 use Rattle.answers.specs.declared.Refusal.{Refusal}
 use Rattle.answers.specs.declared.Refusal.TheVariants.{Malformed, BadIdentifier, BadQuery, BadStretch}
 use Rattle.answers.specs.declared.Found.{Found}
-use Rattle.answers.specs.declared.Found.TheVariants as found
 use Rattle.answers.specs.declared.Hit.{Hit}
 use Rattle.state.specs.declared.State.{State}
 use Rattle.state.specs.Views.{blocks, finished}
@@ -21,8 +21,7 @@ use Rattle.partitions.specs.Reading.{stored}
 use Rattle.partitions.specs.Formed.{partitions_formed, identifier_formed}
 use Rattle.stretches.specs.Reached.{read_by}
 use Rattle.sums.specs.Tally.{lists_ruled}
-use Rattle.census.specs.declared.Census.{Census}
-use Rattle.census.specs.Existing.{CountedIn}
+use Rattle.census.specs.Existing.{CountedWell}
 use Rattle.scores.specs.Terms.{Term, terms_of}
 use Rattle.admission.specs.Admission.{first_of, same_lengths, probe_tests}
 use Rattle.admission.proofs.Laws.{refused-apart, barred}
@@ -34,7 +33,7 @@ use Rattle.queries.specs.Query.{count_in, taken_up, numbers, query_formed, exist
 use Rattle.ranking.specs.Asked.{bad_query, bad_stretch}
 use Rattle.ranking.specs.Top.{no_hit, listed_hits, top_of}
 use Rattle.queries.specs.Walks.{found_in, Walkable}
-use Rattle.queries.specs.Gathered.{Sound, Readied, stored_under, Serving, Gathered}
+use Rattle.queries.specs.Gathered.{Sound, Readied, stored_under, Serving, GatheredWell}
 use Rattle.queries.specs.Finds.{probe_of, hits_in, answered, rest_of, Finds}
 use Rattle.ranking.proofs.Tops.{listed-of}
 use Rattle.queries.proofs.Matching.{served-falls, served-ranges, found-hits}
@@ -119,26 +118,26 @@ module _ (W : List ℕ) (s : State) (t : Stretch) (n : ℕ) (register : List ℕ
 -- ---- what is promised
 
 -- a refusal
-pub finds-refused : (o : Outcome (List Hit)) (k : ℕ) (why : Refusal) → o ≡ refuse (refusal_number why) → Finds (answer_of o) k (found.Refused why) (top_of [])
+pub finds-refused : (o : Outcome (List Hit)) (k : ℕ) (why : Refusal) → o ≡ refuse (refusal_number why) → Finds (answer_of o) k (Err why) (top_of [])
 finds-refused o k why e = record {
   answer = sym (ap answer_of e);
   kept = rw e;
-  used = λ n m q. let z : ◌≡◌ {A = ℕ} 0 1 = cc in absurd (omega arith);
+  used = λ n q. let z : ◌≡◌ {A = ℕ} 0 1 = cc in absurd (omega arith);
   fits = omega arith;
   most = omega arith;
 }
 
 -- as the code gives it
-pub refused_as : (x : Answer) (k : ℕ) (why : Refusal) (r : Answered) → r ≡ record { answer = found.Refused why; top = top_of [] } → Finds x k (found.Refused why) (top_of []) → Finds x k r.answer r.top
+pub refused_as : (x : Answer) (k : ℕ) (why : Refusal) (r : Answered) → r ≡ record { answer = Err why; top = top_of [] } → Finds x k (Err why) (top_of []) → Finds x k r.answer r.top
 refused_as x k why r e v = subst (λ (y : Answered). Finds x k y.answer y.top) (sym e) v
 
 -- hits
 pub finds-hits : (o : Outcome (List Hit)) (k : ℕ) (l : List Hit) (m : ℕ) (left : List Hit) (t : Top) → o ≡ leave (hits l m) left → t ≡ top_of l → length l ≤ k → length l ≤ 32
-    → (taken : ℕ) → taken ≡ m → Finds (answer_of o) k (found.Hits t.used taken) t
+    → (taken : ℕ) → taken ≡ m → Finds (answer_of o) k (Ok (record { hits = t.used; taken = taken })) t
 finds-hits o k l m left t e q f g taken w = record {
   answer = ap₂ hits (ap listed_hits q ∙ listed-of l) w ∙ sym (ap answer_of e);
   kept = q ∙ rw e;
-  used = λ a b h. cc;
+  used = λ a h. cc;
   fits = rw q f;
   most = rw q g;
 }
@@ -164,21 +163,20 @@ proper k ns e =
 
 -- ---- the rest of a query on sound buffers
 
-module _ (s : State) (card register : List ℕ) (sound : Sound s card register) (st : Stretch) (live : ℕ) (ns : List Name) (k : ℕ)
-    (R H : List ℕ) (known : Known) (gathered : Gathered (words card) R s st live (numbers register ns) known H) where
+module _ (s : State) (card register : List ℕ) (sound : Sound s card register) (st : Stretch) (live : ℕ) (ns : List Name) (k : ℕ) where
   abbrev outcome : Outcome (List Hit)
   outcome = rest_of (words card) s st live register ns (replicate k no_hit)
 
   -- 3: what is read of an identifier is malformed
-  pub finds-malformed : known.fine ≡ false → Finds (answer_of outcome) k (found.Refused Malformed) (top_of [])
-  finds-malformed f = finds-refused outcome k Malformed (rest-malformed (words card) s st live register ns (replicate k no_hit) (sym gathered.fine ∙ f))
+  pub finds-malformed : every (identifier_formed (words card) s) (numbers register ns) ≡ false → Finds (answer_of outcome) k (Err Malformed) (top_of [])
+  finds-malformed f = finds-refused outcome k Malformed (rest-malformed (words card) s st live register ns (replicate k no_hit) f)
 
-  module _ (f : known.fine ≡ true) where
+  module _ (R H : List ℕ) (known : Known) (gathered : GatheredWell (words card) R s st live (numbers register ns) H known) where
     well : every (identifier_formed (words card) s) (numbers register ns) ≡ true
-    well = sym gathered.fine ∙ f
+    well = gathered.fine
 
     -- 4
-    pub finds-identifier : any bad_length ns ≡ true → Finds (answer_of outcome) k (found.Refused BadIdentifier) (top_of [])
+    pub finds-identifier : any bad_length ns ≡ true → Finds (answer_of outcome) k (Err BadIdentifier) (top_of [])
     finds-identifier d = finds-refused outcome k BadIdentifier (rest-identifier (words card) s st live register ns (replicate k no_hit) well d)
 
     module _ (d : any bad_length ns ≡ false) where
@@ -186,12 +184,12 @@ module _ (s : State) (card register : List ℕ) (sound : Sound s card register) 
       asked b e = ap (λ (n : ℕ). bad_query n ns) (length-replicate k no_hit) ∙ e
 
       -- 14
-      pub finds-bad : bad_query k ns ≡ true → Finds (answer_of outcome) k (found.Refused BadQuery) (top_of [])
+      pub finds-bad : bad_query k ns ≡ true → Finds (answer_of outcome) k (Err BadQuery) (top_of [])
       finds-bad e = finds-refused outcome k BadQuery (rest-bad (words card) s st live register ns (replicate k no_hit) well d (asked true e))
 
       module _ (e : bad_query k ns ≡ false) where
         -- 17
-        pub finds-stretch : bad_stretch st ≡ true → Finds (answer_of outcome) k (found.Refused BadStretch) (top_of [])
+        pub finds-stretch : bad_stretch st ≡ true → Finds (answer_of outcome) k (Err BadStretch) (top_of [])
         finds-stretch g = finds-refused outcome k BadStretch (rest-stretch (words card) s st live register ns (replicate k no_hit) well d (asked false e) g)
 
         few-numbers : length (numbers register ns) ≤ 5
@@ -208,12 +206,12 @@ module _ (s : State) (card register : List ℕ) (sound : Sound s card register) 
         terms = terms_of (words card) R lists known.used H
 
         all-served : Serving (words card) s st live (numbers register ns) terms
-        all-served = subst (λ (l : List ℕ). Serving (words card) s st live l terms) all-five (gathered.keeps f).served
+        all-served = subst (λ (l : List ℕ). Serving (words card) s st live l terms) all-five gathered.keeps.served
 
         -- the terms can be merged
         pub terms-walkable : (spare : ℕ) → Readied s card R (length H) spare → Walkable (words card) R lists known.used H
         terms-walkable spare ready =
-            let five : known.used ≤ 5 = omega (arith, (gathered.keeps f).used, ap length all-five, few-numbers) in
+            let five : known.used ≤ 5 = omega (arith, gathered.keeps.used, ap length all-five, few-numbers) in
             let kept = (state-kept s sound.rule).partitions.used in
             let less = mul-le-mul_left {m = known.used} {n = 5} (4 * lists + 4) five in
             record {
@@ -221,14 +219,14 @@ module _ (s : State) (card register : List ℕ) (sound : Sound s card register) 
               short = ready.most;
               lists = omega arith;
               terms = five;
-              kept = (gathered.keeps f).kept;
+              kept = gathered.keeps.kept;
               falls = served-falls (words card) s st live (numbers register ns) terms all-served;
               ranges = λ w. served-ranges (words card) s st live w (numbers register ns) terms all-served;
             }
 
         all-taken : known.taken ≡ taken_up (words card) s (numbers register ns)
         all-taken =
-            (gathered.keeps f).taken ∙ ap (stored_under (words card) s) all-five
+            gathered.keeps.taken ∙ ap (stored_under (words card) s) all-five
             ∙ sym (taken-each (words card) s (numbers register ns) (numbers-different (names register) ns (proper k ns e).once))
 
         hits_few : (n : ℕ) → n ≡ k → length (hits_of (words card) s st live n (numbers register ns)) ≤ k
@@ -237,7 +235,7 @@ module _ (s : State) (card register : List ℕ) (sound : Sound s card register) 
 
         -- the best hits of the walk are the answer's
         pub finds-walked : bad_stretch st ≡ false → (t : Top) → t ≡ top_of (take k (foldr place [] (found_in (shows_in st s.windows.current) terms)))
-            → Finds (answer_of outcome) k (found.Hits t.used known.taken) t
+            → Finds (answer_of outcome) k (Ok (record { hits = t.used; taken = known.taken })) t
         finds-walked g t q =
             let n : length (replicate k no_hit) ≡ k = length-replicate k no_hit in
             let h = found-hits (words card) s st live k (numbers register ns) terms all-served in
@@ -254,15 +252,15 @@ module _ (s : State) (card register : List ℕ) (t : Stretch) (ns : List Name) (
       refuse_if (not (lists_ruled (words card) s)) 3 (rest_of (words card) s t (existing_in (words card) s t) register ns (replicate k no_hit))
 
   -- 3: a list of what is read
-  pub finds-lists : lists_ruled (words card) s ≡ false → Finds (answer_of reading) k (found.Refused Malformed) (top_of [])
+  pub finds-lists : lists_ruled (words card) s ≡ false → Finds (answer_of reading) k (Err Malformed) (top_of [])
   unfolding refuse_if
   finds-lists e = finds-refused reading k Malformed (rw e)
 
   -- past them the rest decides, with N as it is counted
-  pub finds-rest : (c : Census) → CountedIn (lists_ruled (words card) s) (stored (words card) s) (shown_in t s.windows) c → c.fine ≡ true
-      → (r : Answered) → Finds (answer_of (rest_of (words card) s t c.windows register ns (replicate k no_hit))) k r.answer r.top → Finds (answer_of reading) k r.answer r.top
+  pub finds-rest : (n : ℕ) → CountedWell (lists_ruled (words card) s) (stored (words card) s) (shown_in t s.windows) n
+      → (r : Answered) → Finds (answer_of (rest_of (words card) s t n register ns (replicate k no_hit))) k r.answer r.top → Finds (answer_of reading) k r.answer r.top
   unfolding refuse_if existing_in
-  finds-rest c v f r g = rw (sym v.fine ∙ f, ← v.windows f) g
+  finds-rest n v r g = rw (v.fine, ← v.windows) g
 
 -- ---- what comes before the rest
 
@@ -272,7 +270,7 @@ module _ (s : State) (card register : List ℕ) (t : Stretch) (ns : List Name) (
 
   -- 1 to 3, by what is judged first
   pub finds-barred : (why : Refusal) → refusal_number why ≡ first_of (1 ∷ 2 ∷ 3 ∷ []) (probe_tests (state_rule s) s.lengths card register)
-      → Finds (answered p t ns k) k (found.Refused why) (top_of [])
+      → Finds (answered p t ns k) k (Err why) (top_of [])
   finds-barred why e = finds-refused (query_of p t ns (replicate k no_hit)) k why (query-barred p t ns (replicate k no_hit) why e)
 
   module _ (a : state_rule s ≡ true) (b : length card ≡ s.lengths.card) (c : length register ≡ s.lengths.register) (d : register_rule register ≡ true) where
@@ -280,7 +278,7 @@ module _ (s : State) (card register : List ℕ) (t : Stretch) (ns : List Name) (
     lengths-same = and_both (has_length card s.lengths.card) _ (eq-eqb _ _ b) (eq-eqb _ _ c)
 
     -- 3: the finished partitions
-    pub finds-partitions : partitions_formed (words card) (blocks s) (finished s.partitions) ≡ false → Finds (answered p t ns k) k (found.Refused Malformed) (top_of [])
+    pub finds-partitions : partitions_formed (words card) (blocks s) (finished s.partitions) ≡ false → Finds (answered p t ns k) k (Err Malformed) (top_of [])
     finds-partitions e = finds-refused (query_of p t ns (replicate k no_hit)) k Malformed (query-partitions p t ns (replicate k no_hit) a lengths-same d e)
 
     -- past them what is read decides
@@ -320,7 +318,7 @@ same-query p t ns places others e =
     ∙ ap (λ (n : ℕ). answer_of (querying p t ns others (hits_of (words p.card) (read_by t p.state) t (existing_on p t) n (numbers p.register ns)))) e
 
 -- what the search finds for as many places fills the lent list as the query does, with the query's answer
-pub found-filled : (p : Probe) (t : Stretch) (ns : List Name) (places : List Hit) (a : Found) (u : Top) → Finds (answered p t ns (length places)) (length places) a u
+pub found-filled : (p : Probe) (t : Stretch) (ns : List Name) (places : List Hit) (a : Result Found Refusal) (u : Top) → Finds (answered p t ns (length places)) (length places) a u
     → (found_as a u.hits ≡ answer_of (query_of p t ns places)) × (fill (listed_hits u) places ≡ state_of places (query_of p t ns places))
 found-filled p t ns places a u v =
     (v.answer ∙ same, ap (λ (l : List Hit). fill l places) (ap listed_hits v.kept ∙ listed-of _ ∙ ap hits_in same) ∙ fills p t ns places)

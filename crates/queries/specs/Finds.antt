@@ -1,4 +1,6 @@
 -- What a query of so many places promises, before any list is filled: its answer, and the hits beside it.
+use Rattle.std.specs.Prelude.{Ok, Result}
+use Rattle.answers.specs.declared.Refusal.{Refusal}
 use Rattle.std.specs.Prelude.{not, List, [], ◌∷◌, ◌≡◌, ℕ, ◌≤◌, length, replicate}
 use Rattle.lists.specs.Lists.{any, every}
 use Rattle.words.specs.Words.{words}
@@ -7,7 +9,6 @@ use Rattle.answers.specs.Answers.{Answer, done, number, hits, mean, forecast, re
 use Rattle.answers.specs.Order.{admit}
 use Rattle.answers.specs.Numbers.{found_as}
 use Rattle.answers.specs.declared.Found.{Found}
-use Rattle.answers.specs.declared.Found.TheVariants as found
 use Rattle.answers.specs.declared.Hit.{Hit}
 use Rattle.state.specs.declared.State.{State}
 use Rattle.state.specs.Probe.{Probe}
@@ -35,10 +36,10 @@ abbrev pub answered : Probe → Stretch → List Name → ℕ → Answer
 answered p t ns k = answer_of (query_of p t ns (replicate k no_hit))
 
 -- a stands for the answer x to a query with k places, and t holds its hits, as many as the answer says and zeros after them
-pub record Finds (x : Answer) (k : ℕ) (a : Found) (t : Top) : Type 0 where
+pub record Finds (x : Answer) (k : ℕ) (a : Result Found Refusal) (t : Top) : Type 0 where
   pub answer : found_as a t.hits ≡ x
   pub kept : t ≡ top_of (hits_in x)
-  pub used : (n taken : ℕ) → a ≡ found.Hits n taken → n ≡ t.used
+  pub used : (f : Found) → a ≡ Ok f → f.hits ≡ t.used
   pub fits : t.used ≤ k
   pub most : t.used ≤ 32
 

@@ -1,5 +1,5 @@
 -- What is gathered of a query's identifiers before anything is answered.
-use Rattle.std.specs.Prelude.{true, List, [], ◌∷◌, ◌++◌, ◌≡◌, ℕ, ◌+◌, ◌*◌, ◌≤◌, length, take}
+use Rattle.std.specs.Prelude.{Option, MatchOption, true, false, List, [], ◌∷◌, ◌++◌, ◌≡◌, ℕ, ◌+◌, ◌*◌, ◌≤◌, length, take}
 use Rattle.lists.specs.Lists.{every, total_by}
 use Rattle.lists.specs.All.{AllOf}
 use Rattle.words.specs.Words.{words}
@@ -50,14 +50,22 @@ pub record Keeps (W R : List ℕ) (s : State) (st : Stretch) (live : ℕ) (is : 
   pub served : Serving W s st live (take 5 is) (terms_of W R (s.partitions.used + 1) k.used H)
   pub taken : k.taken ≡ stored_under W s (take 5 is)
 
--- r tells whether what is read of the identifier i is well formed; if so, what was kept is kept with i as one identifier more
-pub record KeptOf (W R : List ℕ) (s : State) (st : Stretch) (live : ℕ) (k : Known) (H : List ℕ) (i : ℕ) (r : Known) (H' : List ℕ) : Type 0 where
-  pub fine : r.fine ≡ identifier_formed W s i
-  pub keeps : r.fine ≡ true → (is : List ℕ) → Keeps W R s st live is k H → Keeps W R s st live (is ++ (i ∷ [])) r H'
+-- what is read of the identifier i is well formed, and what was kept is kept with i as one identifier more
+pub record KeptWell (W R : List ℕ) (s : State) (st : Stretch) (live : ℕ) (k : Known) (H : List ℕ) (i : ℕ) (H' : List ℕ) (r : Known) : Type 0 where
+  pub fine : identifier_formed W s i ≡ true
+  pub keeps : (is : List ℕ) → Keeps W R s st live is k H → Keeps W R s st live (is ++ (i ∷ [])) r H'
   pub used : r.used ≤ 5
   pub few : r.taken ≤ 3407872 * r.used
 
--- r tells of the identifiers whether what is read of them is well formed, and if so H has the terms of the first five
-pub record Gathered (W R : List ℕ) (s : State) (st : Stretch) (live : ℕ) (is : List ℕ) (r : Known) (H : List ℕ) : Type 0 where
-  pub fine : r.fine ≡ every (identifier_formed W s) is
-  pub keeps : r.fine ≡ true → Keeps W R s st live is r H
+-- r tells whether it is
+abbrev pub KeptOf : List ℕ → List ℕ → State → Stretch → ℕ → Known → List ℕ → ℕ → Option Known → List ℕ → Type 0
+KeptOf W R s st live k H i r H' = MatchOption r (identifier_formed W s i ≡ false) (KeptWell W R s st live k H i H')
+
+-- what is read of the identifiers is well formed, and H has the terms of the first five
+pub record GatheredWell (W R : List ℕ) (s : State) (st : Stretch) (live : ℕ) (is : List ℕ) (H : List ℕ) (r : Known) : Type 0 where
+  pub fine : every (identifier_formed W s) is ≡ true
+  pub keeps : Keeps W R s st live is r H
+
+-- r tells whether it is
+abbrev pub Gathered : List ℕ → List ℕ → State → Stretch → ℕ → List ℕ → Option Known → List ℕ → Type 0
+Gathered W R s st live is r H = MatchOption r (every (identifier_formed W s) is ≡ false) (GatheredWell W R s st live is H)

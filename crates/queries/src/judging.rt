@@ -7,15 +7,14 @@ ghost use Rattle.queries.specs.Gathered.{Sound, Readied, KeptOf, Gathered};
 use postings::Stretch;
 use state::State;
 
-// Whether what is read of the identifiers is well formed, how many of the first five have a term, and how many postings these have.
+// How many of the first five identifiers have a term, and how many postings these have.
 #[derive(Clone, Copy)]
 pub struct Known {
-    pub fine: bool,
     pub used: u16,
     pub taken: u32,
 }
 
-// One identifier more. A query of more than five is refused, so that no further one is kept: it is judged in the spare heads alone.
+// One identifier more, if what is read of it is well formed. A query of more than five is refused, so that no further one is kept: it is judged in the spare heads alone.
 fn keep_one(
     s: State,
     card: &[u8],
@@ -26,31 +25,26 @@ fn keep_one(
     id: u16,
     t: Stretch,
     live: u16,
-) -> Known
+) -> Option<Known>
     requires { Readied s card.now run.now (length heads.old) (length spare.old) × (k.used ≤ 5) × (k.taken ≤ 3407872 * k.used) }
     ensures { KeptOf (words_of card.now) run.now s t live k heads.old id result heads.new }
 {
     if k.used >= 5 {
         let fine = scores::counting::judge_term(card, run, spare, s, id, t);
-        return Known {
-            fine: fine,
-            used: k.used,
-            taken: k.taken,
-        };
+        return fine.then_some(k);
     }
     let m = s.partitions.used as usize + 1;
     let size = 4 * m + 4;
     let at = size * k.used as usize;
     let end = at + size;
-    let o = scores::counting::keep_term(card, run, &mut heads[at..end], spare, s, id, t, live);
-    Known {
-        fine: o.fine,
+    let taken = scores::counting::keep_term(card, run, &mut heads[at..end], spare, s, id, t, live)?;
+    Some(Known {
         used: k.used + 1,
-        taken: k.taken + o.taken,
-    }
+        taken: k.taken + taken,
+    })
 }
 
-// Looks up every identifier, judges what is read of it, and keeps the terms of the first five.
+// Looks up every identifier, judges what is read of it, and keeps the terms of the first five: `None` where what is read is malformed.
 pub fn gather(
     s: State,
     card: &[u8],
@@ -61,28 +55,17 @@ pub fn gather(
     spare: &mut [u32],
     t: Stretch,
     live: u16,
-) -> Known
+) -> Option<Known>
     requires { Sound s card.now register.now × Readied s card.now run.now (length heads.old) (length spare.old) }
     ensures { Gathered (words_of card.now) run.now s t live (numbers register.now (map (λ x. x.now) ids.now)) result heads.new }
 {
     let used = identifiers::used_entries(register);
-    let mut known = Known {
-        fine: true,
-        used: 0,
-        taken: 0,
-    };
-    let mut i: usize = 0;
-    while i < ids.len() {
-        let id = ids[i];
+    let mut known = Known { used: 0, taken: 0 };
+    for id in ids {
         let number = identifiers::find(register, id);
         if number < used {
-            known = keep_one(s, card, run, heads, spare, known, number as u16, t, live);
-            let fine = known.fine;
-            if !fine {
-                return known;
-            }
+            known = keep_one(s, card, run, heads, spare, known, number as u16, t, live)?;
         }
-        i += 1;
     }
-    known
+    Some(known)
 }

@@ -8,7 +8,6 @@ ghost use Rattle.ranking.specs.Top.{top_of};
 ghost use Rattle.queries.specs.Gathered.{Sound, Readied};
 ghost use Rattle.queries.specs.Finds.{AsksValue, AsksRest, AsksRead};
 
-use admission::Admission;
 use answers::{Found, Refusal};
 use postings::Stretch;
 use ranking::Top;
@@ -20,18 +19,17 @@ pub mod walking; // the second pass, over the terms of a query's identifiers
 // What a query answers, and its hits.
 #[derive(Clone, Copy)]
 pub struct Answered {
-    pub answer: Found,
+    pub answer: Result<Found, Refusal>,
     pub top: Top,
 }
 
 // A refusal: no hits.
 fn refuse(why: Refusal) -> Answered
-    ensures { result ≡ record { answer = Found.Refused why; top = top_of [] } }
+    ensures { result ≡ record { answer = Err why; top = top_of [] } }
 {
-    let top = ranking::no_hits();
     Answered {
-        answer: Found::Refused(why),
-        top: top,
+        answer: Err(why),
+        top: ranking::no_hits(),
     }
 }
 
@@ -52,11 +50,9 @@ fn search_with(
     requires { Sound s card.now register.now × Readied s card.now run.now (length heads.old) (length spare.old) }
     ensures { AsksRest s card.now register.now t live (map (λ x. x.now) ids.now) places result }
 {
-    let k = judging::gather(s, card, register, ids, run, heads, spare, t, live);
-    let fine = k.fine;
-    if !fine {
+    let Some(k) = judging::gather(s, card, register, ids, run, heads, spare, t, live) else {
         return refuse(Refusal::Malformed);
-    }
+    };
     if identifiers::many::any_bad(ids) {
         return refuse(Refusal::BadIdentifier);
     }
@@ -80,8 +76,11 @@ fn search_with(
         t.last as u32,
     );
     Answered {
-        answer: Found::Hits(top.used, k.taken),
-        top: top,
+        answer: Ok(Found {
+            hits: top.used,
+            taken: k.taken,
+        }),
+        top,
     }
 }
 
@@ -130,12 +129,10 @@ fn search_read(
     requires { Sound s card.now register.now }
     ensures { AsksRead s card.now register.now t (map (λ x. x.now) ids.now) places result }
 {
-    let c = census::count(card, s, t);
-    let fine = c.fine;
-    if !fine {
+    let Some(live) = census::count(card, s, t) else {
         return refuse(Refusal::Malformed);
-    }
-    let live = c.windows as u16;
+    };
+    let live = live as u16;
     if places == 32 {
         return search_sound(s, card, register, ids, t, live, 32);
     }
@@ -173,9 +170,8 @@ pub fn search(
 ) -> Answered
     ensures { AsksValue s card.now register.now t (map (λ x. x.now) ids.now) places result }
 {
-    let a = admission::judge_probe(rules::state_ok(s), s.lengths, card, register);
-    match a {
-        Admission::Refused(why) => refuse(why),
-        Admission::Granted => search_admitted(s, card, register, ids, t, places),
+    if let Err(why) = admission::judge_probe(rules::state_ok(s), s.lengths, card, register) {
+        return refuse(why);
     }
+    search_admitted(s, card, register, ids, t, places)
 }

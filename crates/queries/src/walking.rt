@@ -29,6 +29,7 @@ pub fn walk(
 {
     let mut best = ranking::no_hits();
     let mut top = scores::scoring::top_terms(card, run, heads, g, m);
+    // by falling window, whichever term has it: no index is counted
     while 0 < top {
         let w = top - 1;
         let t = scores::scoring::take_terms(card, run, heads, g, m, w);

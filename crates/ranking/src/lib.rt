@@ -31,7 +31,7 @@ pub fn no_hits() -> Top
     }
 }
 
-// Whether `g` stands before `h`.
+// Whether `g` stands before `h`. Written out, since scores and windows both fall.
 pub fn outranks(g: Hit, h: Hit) -> bool
     ensures { result ≡ outranks g h }
 {
@@ -43,16 +43,13 @@ fn rank_of(t: Top, g: Hit) -> usize
     requires { t.used ≤ 32 }
     ensures { result ≡ rank g (listed_hits t) }
 {
-    let n = t.used as usize;
-    let mut i: usize = 0;
-    while i < n {
-        let h = t.hits[i];
-        if outranks(g, h) {
+    let used = t.used as usize;
+    for i in 0..used {
+        if outranks(g, t.hits[i]) {
             return i;
         }
-        i += 1;
     }
-    i
+    used
 }
 
 // The place that an insertion overwrites: the first free one, and the last one of a full list.
@@ -72,12 +69,7 @@ fn insert_hit(t: Top, g: Hit, k: usize, last: usize) -> Top
     ensures { result ≡ top_of (take (last + 1) (take k (listed_hits t) ++ g ∷ drop k (listed_hits t))) }
 {
     let mut u = t;
-    let mut i = last;
-    while k < i {
-        let h = u.hits[i - 1];
-        u.hits[i] = h;
-        i -= 1;
-    }
+    u.hits.copy_within(k..last, k + 1);
     u.hits[k] = g;
     u.used = last as u16 + 1;
     u

@@ -12,14 +12,11 @@ fn adds_up(counts: &[u32], count: usize) -> bool
     ensures { result ≡ eqb (listed_in_all counts.now) count }
 {
     let mut left = count;
-    let mut i: usize = 0;
-    while i < counts.len() {
-        let n = counts[i] as usize;
-        if left < n {
+    for n in counts {
+        if left < *n as usize {
             return false;
         }
-        left -= n;
-        i += 1;
+        left -= *n as usize;
     }
     left == 0
 }
@@ -41,13 +38,10 @@ fn zero_after(entry: &[u8]) -> bool
 fn all_zero_after(plan: &[u8]) -> bool
     ensures { result ≡ every zero_after (entries plan.now) }
 {
-    let count = plan.len() / identifiers::ENTRY;
-    let mut i: usize = 0;
-    while i < count {
+    for i in 0..plan.len() / identifiers::ENTRY {
         if !zero_after(identifiers::entry_at(plan, i)) {
             return false;
         }
-        i += 1;
     }
     true
 }

@@ -1,7 +1,7 @@
 // The whole register judged: every entry by its rule, and all identifiers different, by chains of equal hashes or by sorting.
 #![tactic(auto)]
 
-ghost use Rattle.std.specs.Prelude.{true, false, [], ◌≡◌, ℕ, ◌+◌, ◌*◌, ◌<◌, ◌≤◌, length, get_or, take};
+ghost use Rattle.std.specs.Prelude.{true, false, [], ◌≡◌, ◌<◌, ◌≤◌, length, get_or, take};
 ghost use Rattle.identifiers.specs.Names.{among, distinct};
 ghost use Rattle.identifiers.specs.Register.{entries, used, names, register_rule};
 ghost use Rattle.identifiers.specs.Formed.{formed as formed_rule};
@@ -14,10 +14,8 @@ fn hash_of(name: &[u8]) -> usize
     ensures { result ≡ hash_of name.now }
 {
     let mut hash = name.len() % 1024;
-    let mut i: usize = 0;
-    while i < name.len() {
-        hash = (31 * hash + name[i] as usize) % 1024;
-        i += 1;
+    for b in name {
+        hash = (31 * hash + *b as usize) % 1024;
     }
     hash
 }
@@ -32,6 +30,7 @@ fn repeated(register: &[u8], links: &[u16; 1024], first: usize, i: usize, limit:
     let name = identifiers::name_at(register, i);
     let mut left = first;
     let mut steps: usize = 0;
+    // the links lead on, and `steps` says only when to stop
     while 0 < left {
         if steps == limit {
             return true;
@@ -62,16 +61,14 @@ fn chained_apart(
     let used = identifiers::count_used(register);
     *heads = [0u16; 1024];
     *links = [0u16; 1024];
-    let mut i: usize = 0;
-    while i < used {
+    for i in 0..used {
         let hash = hash_of(identifiers::name_at(register, i));
         let first = heads[hash];
         if repeated(register, &*links, first as usize, i, limit) {
             return false;
         }
         links[i] = first;
-        i += 1;
-        heads[hash] = i as u16;
+        heads[hash] = (i + 1) as u16;
     }
     true
 }
@@ -81,14 +78,12 @@ fn less(a: &[u8], b: &[u8]) -> bool
     requires { (length a.now ≡ 65) × (length b.now ≡ 65) }
     ensures { result ≡ lower (key a.now) (key b.now) }
 {
-    let mut c: usize = 0;
-    while c < 16 {
+    for c in 0..16 {
         let x = words::word_at(a, c);
         let y = words::word_at(b, c);
         if x != y {
             return x < y;
         }
-        c += 1;
     }
     a[64] < b[64]
 }
@@ -131,22 +126,13 @@ fn merge(
     ensures { Below n to.new }
 {
     let mut j = mid;
-    let mut k = low;
-    while k < high {
+    for k in low..high {
         let at = choose(register, from, n, k + mid - j, mid, j, high);
         to[k] = from[at];
         if at == j {
             j += 1;
         }
-        k += 1;
     }
-}
-
-// The lower of two.
-fn least(a: usize, b: usize) -> usize
-    ensures { (result ≤ b) × ((x : ℕ) → x ≤ a → x ≤ b → x ≤ result) }
-{
-    if a < b { a } else { b }
 }
 
 // Runs of so many places are merged two by two.
@@ -155,9 +141,10 @@ fn pass(register: &[u8], from: &[u16; 1024], to: &mut [u16; 1024], n: usize, wid
     ensures { Below n to.new }
 {
     let mut low: usize = 0;
+    // no counted index: each turn goes on from where two runs end
     while low < n {
-        let mid = least(low + width, n);
-        let high = least(mid + width, n);
+        let mid = n.min(low + width);
+        let high = n.min(mid + width);
         merge(register, from, to, n, low, mid, high);
         low = high;
     }
@@ -168,10 +155,8 @@ fn fill(order: &mut [u16; 1024], n: usize)
     requires { (n ≤ 1024) × Below n order.old }
     ensures { Below n order.new }
 {
-    let mut i: usize = 0;
-    while i < n {
+    for i in 0..n {
         order[i] = i as u16;
-        i += 1;
     }
 }
 
@@ -180,11 +165,8 @@ fn rank(order: &[u16; 1024], ranks: &mut [u16; 1024], n: usize)
     requires { (n ≤ 1024) × Below n order.now × Below n ranks.old }
     ensures { Below n ranks.new }
 {
-    let mut k: usize = 0;
-    while k < n {
-        let p = order[k] as usize;
-        ranks[p] = k as u16;
-        k += 1;
+    for k in 0..n {
+        ranks[order[k] as usize] = k as u16;
     }
 }
 
@@ -193,13 +175,11 @@ fn inverse(order: &[u16; 1024], ranks: &[u16; 1024], n: usize) -> bool
     requires { (n ≤ 1024) × Below n ranks.now × Below n order.now }
     ensures { result ≡ true → Inverse order.now ranks.now n }
 {
-    let mut p: usize = 0;
-    while p < n {
+    for p in 0..n {
         let k = ranks[p] as usize;
         if order[k] as usize != p {
             return false;
         }
-        p += 1;
     }
     true
 }
@@ -209,14 +189,12 @@ fn ascending(register: &[u8], order: &[u16; 1024], n: usize) -> bool
     requires { (n ≤ length (entries register.now)) × (n ≤ 1024) × Below n order.now }
     ensures { result ≡ true → Ascending register.now order.now n }
 {
-    let mut k: usize = 1;
-    while k < n {
+    for k in 1..n {
         let a = identifiers::entry_at(register, order[k - 1] as usize);
         let b = identifiers::entry_at(register, order[k] as usize);
         if !less(a, b) {
             return false;
         }
-        k += 1;
     }
     true
 }
@@ -235,6 +213,7 @@ fn sorted_apart(register: &[u8], order: &mut [u16; 1024], ranks: &mut [u16; 1024
     *ranks = [0u16; 1024];
     fill(order, n);
     let mut width: usize = 1;
+    // no counted index: each turn makes runs four times as long
     while width < n {
         pass(register, &*order, ranks, n, width);
         pass(register, &*ranks, order, n, 2 * width);

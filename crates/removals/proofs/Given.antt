@@ -1,4 +1,5 @@
 -- What a removal gives after refusals 1 to 3, by its tests and by its flush's target.
+use Rattle.std.specs.Prelude.{Option, Some, None, Result, Ok, Err}
 use Rattle.lists.proofs.Prelude.{Bool, true, false, ◌&&◌, ◌||◌, not, List, ◌≡◌, subst, ℕ, ◌≤◌, ◌+◌, arith, eqb, ltb, length, eqb-false, or-none}
 use Rattle.words.specs.Words.{words, bytes}
 use Rattle.postings.specs.declared.Posting.{Posting}
@@ -8,7 +9,6 @@ use Rattle.answers.specs.Numbers.{refusal_number}
 use Rattle.state.specs.declared.State.{State}
 use Rattle.state.specs.Views.{buffered}
 use Rattle.state.specs.Probe.{Store}
-use Rattle.flushes.specs.declared.Target.{Target}
 use Rattle.flushes.specs.Flush.{flushing_if, flushed_to, flushed_card}
 use Rattle.windows.specs.Calls.{is_open}
 use Rattle.flushes.specs.Targets.{Aimed}
@@ -52,18 +52,18 @@ module _ (s : State) (card : List ℕ) (w : ℕ) (counts : List Posting) where
       unfolding removing
       goes_on o e g = passed _ 5 _ a (passed _ 7 _ b (gives-by _ _ e g))
 
-      pub flush-barred : (why : Refusal) → Aimed (removal_flushes s counts) s card (Target.Refused why) → Gives (store_of s card) (removing s card w counts) (refused (refusal_number why)) (store_of s card)
+      pub flush-barred : (why : Refusal) → Aimed (removal_flushes s counts) s card (Err why) → Gives (store_of s card) (removing s card w counts) (refused (refusal_number why)) (store_of s card)
       flush-barred why f = goes_on _ (follows-refused left _ s card why f) (refuses _)
 
-      pub removed-plain : Aimed (removal_flushes s counts) s card Target.Nothing → Gives (store_of s card) (removing s card w counts) done (store_of (removed s counts) card)
+      pub removed-plain : Aimed (removal_flushes s counts) s card (Ok None) → Gives (store_of s card) (removing s card w counts) done (store_of (removed s counts) card)
       removed-plain f = goes_on _ (follows-plain left _ s card f) (leaves _ _)
 
-      pub removed-flushed : (k : ℕ) → Aimed (removal_flushes s counts) s card (Target.Block k)
+      pub removed-flushed : (k : ℕ) → Aimed (removal_flushes s counts) s card (Ok (Some k))
           → Gives (store_of s card) (removing s card w counts) done (store_of (removed (flushed_to s k) counts) (bytes (flushed_card s (words card) k)))
       removed-flushed k f = goes_on _ (follows-written left _ s card k f) (leaves _ _)
 
 -- a target judged with the test as the code makes it
-pub judged : (s : State) (counts : List Posting) (card : List ℕ) (wanted : Bool) (t : Target)
+pub judged : (s : State) (counts : List Posting) (card : List ℕ) (wanted : Bool) (t : Result (Option ℕ) Refusal)
     → wanted ≡ ltb 128 (length (buffered s.buffer) + length counts) → Aimed wanted s card t → Aimed (removal_flushes s counts) s card t
 unfolding removal_flushes
 judged s counts card wanted t e a = subst (λ (x : Bool). Aimed x s card t) e a

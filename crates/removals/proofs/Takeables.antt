@@ -1,4 +1,5 @@
 -- A judged window's counts can be taken back from the buffer, with a flush first or without.
+use Rattle.std.specs.Prelude.{None, Ok}
 use Rattle.lists.proofs.Prelude.{true, List, [], List-as-Memᴰ, ◌≡◌, refl, ap, ◌∙◌, ℕ, zero, suc, ◌+◌, ◌≤◌, arith, leb, ℤ, pos, negsuc, nat_abs, neg_ℤ, ◌+ℤ◌, +ℤ_idr, +ℤ_invl, +ℤ_assoc, neg_ℤ-+ℤ, length, leb-true, le-leb, eqb-true, ltb-false, every, empty, by-test, and_left, and_right, and_both, every-member, empty-length}
 use Rattle.words.specs.Words.{words}
 use Rattle.postings.specs.declared.Posting.{Posting}
@@ -9,10 +10,9 @@ use Rattle.postings.proofs.Sums.{sum-append}
 use Rattle.state.specs.declared.State.{State}
 use Rattle.state.specs.Views.{blocks, buffered, finished}
 use Rattle.state.proofs.Kept.{rules-of}
-use Rattle.partitions.specs.Reading.{postings_of, in_partitions, stored}
+use Rattle.partitions.specs.Reading.{in_partitions, stored}
 use Rattle.partitions.specs.Formed.{partitions_formed, lists_rule, sums_in_range}
 use Rattle.buffer.proofs.Canonical.{canonical-of, rule-canonical, rule-counts}
-use Rattle.flushes.specs.declared.Target.{Target}
 use Rattle.flushes.specs.Flush.{flushed_to}
 use Rattle.flushes.specs.Targets.{Aimed}
 use Rattle.flushes.proofs.Targets.{not-wanted-only}
@@ -94,7 +94,7 @@ module _ (s : State) (card : List ℕ) (w : ℕ) (c : Counts) (j : Removable s c
       (λ p m. rw (+ℤ_idr (neg_ℤ p.count), nat_abs-neg p.count, le-leb _ _ (small p m))))
 
   -- without a flush
-  pub takeable-plain : Aimed (removal_flushes s (counts_in c)) s card Target.Nothing → Takeable s.buffer c
+  pub takeable-plain : Aimed (removal_flushes s (counts_in c)) s card (Ok None) → Takeable s.buffer c
   unfolding removal_flushes
   takeable-plain e =
       let r = rules-of s j.rule in

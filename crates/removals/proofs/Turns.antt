@@ -1,5 +1,5 @@
 -- Refusals 1 to 3 of a removal, and what goes on after them.
-use Rattle.lists.proofs.Prelude.{true, false, ◌&&◌, not, List, [], ◌∷◌, ◌≡◌, refl, sym, ap, ◌∙◌, ℕ, ◌*◌, arith, length, eq-eqb}
+use Rattle.lists.proofs.Prelude.{true, false, ◌&&◌, not, List, [], ◌∷◌, ◌≡◌, refl, ap, ◌∙◌, ℕ, ◌*◌, arith, length, eq-eqb}
 use Rattle.words.specs.Words.{words}
 use Rattle.words.proofs.Views.{length-words}
 use Rattle.answers.specs.declared.Refusal.{Refusal}
@@ -17,9 +17,9 @@ use Rattle.admission.proofs.Laws.{barred}
 use Rattle.windows.specs.Promises.{Gives, store_of}
 use Rattle.windows.proofs.Outcomes.{stopped, passed}
 use Rattle.flushes.proofs.Flushes.{gives-by, refuses}
-use Rattle.sums.specs.declared.Judged.{Judged}
+use Rattle.sums.specs.declared.Counts.{Counts}
 use Rattle.sums.specs.Views.{counts_in}
-use Rattle.sums.specs.Tally.{lists_formed, ReadOf}
+use Rattle.sums.specs.Tally.{lists_formed, ReadWell}
 use Rattle.removals.specs.Removal.{counts_of, removal_formed, removing, remove_of}
 use Rattle.removals.specs.Taking.{Removable}
 
@@ -51,20 +51,20 @@ module _ (s : State) (card : List ℕ) (w : ℕ) where
     pub bad-partitions : partitions_formed (words card) (blocks s) (finished s.partitions) ≡ false → Gives (store_of s card) (remove_of (store_of s card) w) (refused 3) (store_of s card)
     bad-partitions e = ill-formed (formed-parts (words card) s w ∙ rw e)
 
-    module _ (parts : partitions_formed (words card) (blocks s) (finished s.partitions) ≡ true) (r : Judged) (read : ReadOf (words card) s w r) where
+    module _ (parts : partitions_formed (words card) (blocks s) (finished s.partitions) ≡ true) where
       -- lists, sums or the number of counts are
-      pub bad-lists : r.fine ≡ false → Gives (store_of s card) (remove_of (store_of s card) w) (refused 3) (store_of s card)
-      bad-lists e = ill-formed (formed-parts (words card) s w ∙ rw parts (sym read.fine ∙ e))
+      pub bad-lists : lists_formed (words card) s w ≡ false → Gives (store_of s card) (remove_of (store_of s card) w) (refused 3) (store_of s card)
+      bad-lists e = ill-formed (formed-parts (words card) s w ∙ rw parts e)
 
-      module _ (fine : r.fine ≡ true) where
+      module _ (c : Counts) (read : ReadWell (words card) s w c) where
         formed : removal_formed (words card) s w ≡ true
-        formed = formed-parts (words card) s w ∙ rw parts (sym read.fine ∙ fine)
+        formed = formed-parts (words card) s w ∙ rw parts read.formed
 
         -- else the window's counts are read
-        pub removable : Removable s card w r.counts
-        removable = record { rule = rule; size = size; formed = formed; few = read.neat.few; counts = read.counts fine }
+        pub removable : Removable s card w c
+        removable = record { rule = rule; size = size; formed = formed; few = read.neat.few; counts = read.counts }
 
         -- and what is left to do decides
-        pub goes_on : {x : Answer} {after : Store} → Gives (store_of s card) (removing s card w (counts_in r.counts)) x after → Gives (store_of s card) (remove_of (store_of s card) w) x after
+        pub goes_on : {x : Answer} {after : Store} → Gives (store_of s card) (removing s card w (counts_in c)) x after → Gives (store_of s card) (remove_of (store_of s card) w) x after
         unfolding remove_of
-        goes_on g = passed _ 1 _ (ap not rule) (passed _ 2 _ (ap not (eq-eqb _ _ size)) (passed _ 3 _ (ap not formed) (rw (read.counts fine) at g)))
+        goes_on g = passed _ 1 _ (ap not rule) (passed _ 2 _ (ap not (eq-eqb _ _ size)) (passed _ 3 _ (ap not formed) (rw read.counts at g)))

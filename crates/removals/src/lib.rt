@@ -4,7 +4,6 @@
 ghost use Rattle.std.specs.Prelude.{true, ◌&&◌, ◌||◌, not, ◌≡◌, ◌+◌, ◌≤◌, eqb, ltb, length};
 ghost use mathlib.Core.List.{[], foldr};
 ghost use Rattle.postings.specs.Merge.{put, nonzero, negated};
-ghost use Rattle.postings.specs.Sums.{is_above};
 ghost use Rattle.answers.specs.Numbers.{replied};
 ghost use Rattle.state.specs.Views.{buffered, buffer_of};
 ghost use Rattle.state.specs.Rules.{state_rule};
@@ -17,13 +16,11 @@ ghost use Rattle.removals.specs.Removal.{is_live, removed, removing};
 ghost use Rattle.removals.specs.Promises.{Removes};
 ghost use Rattle.removals.specs.Taking.{Takeable, Removable};
 
-use admission::Admission;
 use answers::Refusal;
-use flushes::Target;
 use postings::Posting;
-use state::{BLOCK_BYTES, Buffer, MOST_BUFFERED, State, Windows};
+use state::{BLOCK_BYTES, Buffer, State, Windows};
 use sums::Counts;
-use windows::Replied;
+use windows::After;
 
 // Takes each of a window's counts back: it is added to the buffer negated, and a sum that comes to 0 is dropped.
 pub fn take_back(b: Buffer, c: Counts) -> Buffer
@@ -31,14 +28,11 @@ pub fn take_back(b: Buffer, c: Counts) -> Buffer
     ensures { result ≡ buffer_of (nonzero (foldr put (buffered b) (negated (counts_in c)))) }
 {
     let mut left = b;
-    let mut i = c.used as usize;
-    while 0 < i {
-        i -= 1;
+    for i in (0..c.used as usize).rev() {
         let p = c.postings[i];
         let q = Posting {
-            id: p.id,
-            window: p.window,
             count: buffer::negate(p.count),
+            ..p
         };
         left = buffer::add(left, q);
     }
@@ -52,44 +46,14 @@ fn without(s: State, c: Counts) -> State
 {
     let left = take_back(s.buffer, c);
     let w = Windows {
-        last: s.windows.last,
         live: s.windows.live - 1,
-        current: s.windows.current,
-        events: s.windows.events,
+        ..s.windows
     };
-    let mut t = s;
-    t.windows = w;
-    t.buffer = left;
-    t
-}
-
-// A buffer without postings.
-fn empty_buffer() -> Buffer
-    ensures { result ≡ buffer_of [] }
-{
-    let none = Posting {
-        id: 0,
-        window: 0,
-        count: 0,
-    };
-    Buffer {
-        used: 0,
-        postings: [none; MOST_BUFFERED],
+    State {
+        windows: w,
+        buffer: left,
+        ..s
     }
-}
-
-// The flush that comes first: only buffer and partitions are handed on, so that few copies of the state stand on the stack.
-fn flushed(s: State, card: &mut [u8], block: u16) -> State
-    requires { (state_rule s ≡ true) × (length card.old ≡ s.lengths.card) × Chosen s (words_of card.old) block }
-    ensures { (result ≡ flushed_to s block) × (card.new ≡ bytes (flushed_card s (words_of card.old) block)) }
-{
-    let list = flushes::writing::flush(card, block, s.buffer, s.partitions);
-    let empty = empty_buffer();
-    let mut t = s;
-    t.buffer = empty;
-    t.partitions = list;
-    t.taken = block;
-    t
 }
 
 // Is it the open window's number?
@@ -99,28 +63,12 @@ pub fn names_open(w: Windows, window: u32) -> bool
     !(w.current == 0) & (window == w.current as u32)
 }
 
-// Is a count above 0?
-fn counts_up(p: Posting) -> bool
-    ensures { result ≡ is_above p.count }
-{
-    p.count > 0
-}
-
 // Is a count of the window above 0?
 fn is_live(c: Counts) -> bool
     requires { c.used ≤ 64 }
     ensures { result ≡ is_live (counts_in c) }
 {
-    let n = c.used as usize;
-    let mut i: usize = 0;
-    while i < n {
-        let p = c.postings[i];
-        if counts_up(p) {
-            return true;
-        }
-        i += 1;
-    }
-    false
+    c.postings[..c.used as usize].iter().any(|p| p.count > 0)
 }
 
 // Is there no such window to remove: none that is live, none given yet, or none in N?
@@ -140,10 +88,10 @@ pub fn must_flush(b: Buffer, c: Counts) -> bool
 }
 
 // Removes a window whose counts are read, with a flush first where the buffer has no room for them.
-fn remove_counts(s: State, card: &mut [u8], window: u32, c: Counts) -> Replied
+fn remove_counts(s: State, card: &mut [u8], window: u32, c: Counts) -> After<()>
     requires { Removable s card.old window c }
     ensures { Gives (store_of s card.old) (removing s card.old window (counts_in c))
-        (replied result.reply) (store_of result.state card.new) }
+        (replied result.answer) (store_of result.state card.new) }
 {
     if names_open(s.windows, window) {
         return windows::refuse(s, Refusal::OutOfTurn);
@@ -151,34 +99,26 @@ fn remove_counts(s: State, card: &mut [u8], window: u32, c: Counts) -> Replied
     if not_live(s.windows, window, c) {
         return windows::refuse(s, Refusal::NotLive);
     }
-    let target = flushes::target_of(s, card, must_flush(s.buffer, c));
-    match target {
-        Target::Refused(why) => windows::refuse(s, why),
-        Target::Block(b) => {
-            let t = flushed(s, card, b);
-            windows::done(without(t, c))
-        }
-        Target::Nothing => windows::done(without(s, c)),
+    match flushes::target_of(s, card, must_flush(s.buffer, c)) {
+        Err(why) => windows::refuse(s, why),
+        Ok(Some(b)) => windows::done(without(flushes::flush_to(s, card, b), c)),
+        Ok(None) => windows::done(without(s, c)),
     }
 }
 
 // Removes a closed window: each of its counts is buffered negated, and N is one less. Refusals 1 and 2 come by admission, 3 for what is read of the card.
-pub fn remove(s: State, card: &mut [u8], window: u32) -> Replied
+pub fn remove(s: State, card: &mut [u8], window: u32) -> After<()>
     ensures { Removes s card.old window result card.new }
 {
-    let a = admission::judge_card(rules::state_ok(s), s.lengths, card);
-    if let Admission::Refused(why) = a {
+    if let Err(why) = admission::judge_card(rules::state_ok(s), s.lengths, card) {
         return windows::refuse(s, why);
     }
     let ps = s.partitions;
     if !partitions::partitions_ok(card, s.lengths.card / BLOCK_BYTES, ps) {
         return windows::refuse(s, Refusal::Malformed);
     }
-    let read = sums::read(card, s, window);
-    let fine = read.fine;
-    if !fine {
+    let Some(c) = sums::read(card, s, window) else {
         return windows::refuse(s, Refusal::Malformed);
-    }
-    let c = read.counts;
+    };
     remove_counts(s, card, window, c)
 }

@@ -5,23 +5,28 @@ ghost use Rattle.state.specs.Views.{listed};
 ghost use Rattle.state.specs.Rules.{listed_rule};
 
 use state::ids::found_from;
-use state::{Listed, MOST_LISTED, Windows};
+use state::{Listed, Windows};
 
-// Whether each place keeps its rule: an identifier that the register can have where it is used, and 0 else; and whether none is listed twice.
+// Whether no identifier is listed twice.
+fn all_differ(l: Listed) -> bool
+    requires { l.used ≤ 64 }
+    ensures { result ≡ different (listed l) }
+{
+    for (i, id) in l.listed().iter().enumerate() {
+        if found_from(l, i + 1, *id) {
+            return false;
+        }
+    }
+    true
+}
+
+// Whether each identifier is one that the register can have, none is listed twice, and zeros follow them.
 fn places_ok(l: Listed) -> bool
     requires { l.used ≤ 64 }
     ensures { result ≡ (every (λ i. leb i 1023) (listed l) && (different (listed l) && every (λ i. eqb i 0) (drop l.used l.ids))) }
 {
-    let n = l.used as usize;
-    let mut ok = true;
-    let mut i = 0;
-    while i < MOST_LISTED {
-        let x = l.ids[i];
-        let place = ((i < n) & (x <= 1023)) | ((i >= n) & (x == 0));
-        ok = ok & (!found_from(l, i + 1, x) & place);
-        i += 1;
-    }
-    ok
+    let unused = &l.ids[l.used as usize..];
+    l.listed().iter().all(|id| *id <= 1023) & (all_differ(l) & unused.iter().all(|id| *id == 0))
 }
 
 // Whether the list of identifiers keeps its rule.

@@ -4,7 +4,6 @@
 ghost use Rattle.std.specs.Prelude.{◌≡◌, ◌≤◌};
 ghost use Rattle.state.specs.Rules.{lengths_rule, windows_rule, merge_rule, state_rule};
 
-use levels::Due;
 use state::{BLOCK_BYTES, Lengths, MergeJob, Partitions, State, Windows};
 
 pub mod buffer_rules; // buffered postings
@@ -15,10 +14,7 @@ pub mod partition_rules; // finished partitions
 fn lengths_ok(l: Lengths) -> bool
     ensures { result ≡ lengths_rule l }
 {
-    let blocks = l.card / BLOCK_BYTES;
-    let rows = l.register / 65;
-    let card = (l.card % BLOCK_BYTES == 0) & ((blocks >= 4) & (blocks <= 4096));
-    card & ((l.register % 65 == 0) & ((rows >= 1) & (rows <= 1024)))
+    state::lengths_ok(l.card as usize, l.register as usize)
 }
 
 // Whether the windows' numbers agree.
@@ -39,10 +35,7 @@ fn merge_ok(p: Partitions, m: MergeJob) -> bool
     if m.steps == 0 {
         return (m.first == 0) & (m.length == 0);
     }
-    match levels::due_level(p) {
-        Due::Level(v) => true,
-        Due::Nothing => false,
-    }
+    levels::due_level(p).is_some()
 }
 
 // Whether the state keeps every rule.

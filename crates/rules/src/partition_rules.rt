@@ -1,39 +1,31 @@
 // The rule of the finished partitions.
-ghost use Rattle.std.specs.Prelude.{◌&&◌, cond, ◌≡◌, ◌≤◌, drop};
+ghost use Rattle.std.specs.Prelude.{◌&&◌, ◌≡◌, ◌≤◌, drop};
 ghost use Rattle.lists.specs.Lists.{every};
 ghost use Rattle.state.specs.Views.{finished};
 ghost use Rattle.state.specs.Rules.{record_rule, unused_record, never_rise, partitions_rule};
 
 use levels::levels_within;
-use state::{MOST_PARTITIONS, Partition, Partitions};
+use state::{Partition, Partitions};
 
-// Whether a place of the list keeps its rule: a partition's level, length and windows are within their limits where it is used, and zeros else.
-fn place_ok(blocks: u32, used: bool, p: Partition) -> bool
+// Whether a partition's level, length and windows are within their limits.
+fn record_ok(blocks: u32, p: Partition) -> bool
     requires { blocks ≤ 1048576 }
-    ensures { result ≡ cond used (record_rule blocks p) (unused_record p) }
+    ensures { result ≡ record_rule blocks p }
 {
     let span = (p.lowest >= 1) & (p.lowest <= p.highest);
-    let unspanned = (p.lowest == 0) & (p.highest == 0);
-    (used & ((p.level <= 5) & ((p.length <= 4092 * blocks) & span)))
-        | (!used & ((p.first == 0) & ((p.level == 0) & ((p.length == 0) & unspanned))))
+    (p.level <= 5) & ((p.length <= 4092 * blocks) & span)
 }
 
-// Whether each place keeps its rule, and no finished partition has a higher level than the one before it.
+// Whether each partition keeps its rule, none has a higher level than the one before it, and zeros follow them.
 fn places_ok(blocks: u32, p: Partitions) -> bool
-    requires { blocks ≤ 1048576 }
+    requires { (blocks ≤ 1048576) × (p.used ≤ 51) }
     ensures { result ≡ (never_rise (finished p) && (every (record_rule blocks) (finished p) && every unused_record (drop p.used p.records))) }
 {
-    let n = p.used as usize;
-    let mut last = p.records[0];
-    let mut ok = place_ok(blocks, n > 0, last);
-    let mut i = 1;
-    while i < MOST_PARTITIONS {
-        let q = p.records[i];
-        ok = ok & (place_ok(blocks, i < n, q) & ((i >= n) | (q.level <= last.level)));
-        last = q;
-        i += 1;
-    }
-    ok
+    let used = p.finished();
+    let unused = &p.records[p.used as usize..];
+    used.is_sorted_by(|p, q| q.level <= p.level)
+        & (used.iter().all(|q| record_ok(blocks, *q))
+            & unused.iter().all(|q| *q == Partition::NONE))
 }
 
 // Whether the finished partitions keep their rule on a card of so many blocks.

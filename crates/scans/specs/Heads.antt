@@ -1,6 +1,7 @@
 -- Heads of readers over whole partitions in an array of numbers, ten to a head: one more than the key at the head (0 where the reader is spent), the head's
 -- word, the cursor on the postings, the cursor on the entries, the identifier, and how many postings are under it.
 use Rattle.std.specs.Prelude.{List, map, ◌≡◌, ℕ, ◌<◌, ◌≤◌, length, get_or}
+use Rattle.std.proofs.Common.{arith}
 use Rattle.keyed.specs.Keys.{Item, reach}
 use Rattle.card.specs.Cursors.{head_of}
 use Rattle.partitions.specs.declared.Reader.{Reader}
@@ -8,6 +9,7 @@ use Rattle.postings.specs.declared.Posting.{Posting}
 use Rattle.partitions.specs.Readers.{GoodReader, postings_ahead}
 use Rattle.scans.specs.Items.{items}
 use Rattle.kway.specs.Parts.{parts}
+use Rattle.kway.specs.Sources.{SourceLaws}
 
 abbrev pub reader_at : List ℕ → Reader
 reader_at h = record {
@@ -43,3 +45,7 @@ pub record Kept (W h : List ℕ) : Type 0 where
 -- what the first n have still to come
 abbrev pub views : List ℕ → ℕ → List ℕ → List (List Item)
 views W n H = map (view W) (parts 10 n H)
+
+-- such heads keep the laws of a source
+pub sourced : {S : Type 0} (W : S → List ℕ) → SourceLaws 10 (λ s. Kept (W s)) (λ s. view (W s))
+sourced W = record { some = omega arith; few = omega arith; long = λ s h k. k.ten; top = λ s h k. k.top }

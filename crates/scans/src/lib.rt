@@ -3,9 +3,8 @@
 #![tactic(auto)]
 
 ghost use Rattle.std.specs.Prelude.{◌≡◌, map, length, ◌*◌, ◌≤◌, ◌<◌};
-ghost use Rattle.std.specs.Int.Signed.{mag};
 ghost use Rattle.lists.specs.All.{AllOf};
-ghost use Rattle.keyed.specs.Keys.{reach, rest, topmost_from, head_val, head_fine, head_vals, heads_fine};
+ghost use Rattle.keyed.specs.Keys.{reach, rest, topmost_from, head_val, head_fine};
 ghost use Rattle.words.specs.Words.{words as words_of};
 ghost use Rattle.state.specs.Views.{finished};
 ghost use Rattle.partitions.specs.Reading.{postings_of};
@@ -13,16 +12,20 @@ ghost use Rattle.partitions.specs.Terms.{Readable};
 ghost use Rattle.partitions.specs.Readers.{GoodReader, postings_ahead};
 ghost use Rattle.scans.specs.Keys.{key_id, key_window};
 ghost use Rattle.kway.specs.Parts.{parts};
-ghost use Rattle.scans.specs.Heads.{ahead, view, Kept, views};
+ghost use Rattle.scans.specs.Heads.{ahead, view, Kept, views, sourced};
 ghost use Rattle.scans.specs.Items.{items};
 
 use card::Cursor;
-use kway::{Part, Taken};
+use kway::{Part, Source};
 use partitions::Reader;
 use postings::LAST_ID;
 use state::Partitions;
 
-pub mod leading; // the merge where one partition leads
+// Where the heads of whole partitions are read from.
+#[derive(Clone, Copy)]
+pub struct Whole<'a> {
+    pub card: &'a [u8],
+}
 
 // The identifier of a key.
 pub fn key_id(key: u32) -> u16
@@ -68,80 +71,64 @@ pub fn put(card: &[u8], head: &mut [u32], r: Reader) -> u32
     top
 }
 
-// Takes the head of a reader, if it has the key.
-fn take_one(card: &[u8], head: &mut [u32], key: u32) -> Part
-    requires { Kept (words_of card.now) head.old × (key < 4294967295) }
-    ensures { Kept (words_of card.now) head.new
-        × (view (words_of card.now) head.new ≡ rest key (view (words_of card.now) head.old))
-        × (result.count ≡ head_val key (view (words_of card.now) head.old))
-        × (result.fine ≡ head_fine key (view (words_of card.now) head.old))
-        × (result.reach ≡ reach (view (words_of card.now) head.new)) }
-{
-    let top = head[0];
-    if top != key + 1 {
-        return Part {
-            count: 0,
-            fine: true,
-            reach: top,
-        };
-    }
-    let word = head[1];
-    let p = Cursor {
-        block: head[2] as u16,
-        word: head[3] as u16,
-        left: head[4],
-    };
-    let e = Cursor {
-        block: head[5] as u16,
-        word: head[6] as u16,
-        left: head[7],
-    };
-    let r = Reader {
-        postings: p,
-        entries: e,
-        id: head[8] as u16,
-        here: head[9],
-    };
-    let next = partitions::reader_moved(card, r);
-    let reach = put(card, head, next);
-    let q = postings::unpack(0, word);
-    let fine = postings::is_posting(word);
-    Part {
-        count: q.count,
-        fine: fine,
-        reach: reach,
-    }
-}
+impl Source for Whole<'_> {
+    ghost WIDTH = { 10 };
 
-// Takes the heads that have the key.
-pub fn take(card: &[u8], heads: &mut [u32], n: usize, key: u32) -> Taken
-    requires { (10 * n ≤ length heads.old) × (n ≤ 512) × (key < 4294967295) × AllOf (Kept (words_of card.now)) (parts 10 n heads.old) }
-    ensures heads { (length heads.new ≡ length heads.old)
-        × AllOf (Kept (words_of card.now)) (parts 10 n heads.new)
-        × (views (words_of card.now) n heads.new ≡ map (rest key) (views (words_of card.now) n heads.old)) }
-    ensures taken { (result.sum ≡ head_vals key (views (words_of card.now) n heads.old))
-        × (result.fine ≡ heads_fine key (views (words_of card.now) n heads.old))
-        × (result.next ≡ topmost_from 0 (views (words_of card.now) n heads.new))
-        × (mag result.sum ≤ 32768 * n) }
-{
-    let mut sum: i32 = 0;
-    let mut fine = true;
-    let mut next: u32 = 0;
-    let mut i: usize = 0;
-    while i < n {
-        let at = 10 * i;
-        let end = at + 10;
-        let t = take_one(card, &mut heads[at..end], key);
-        sum = kway::added(sum, t.count);
-        fine = kway::both(fine, t.fine);
-        next = kway::larger(next, t.reach);
-        i += 1;
+    ghost kept = { λ s. Kept (words_of s.card.now) };
+
+    ghost view = { λ s. view (words_of s.card.now) };
+
+    fn width() -> usize
+        ensures { result ≡ 10 }
+    {
+        10
     }
-    Taken {
-        sum: sum,
-        fine: fine,
-        next: next,
+
+    fn took(&self, head: &mut [u32], key: u32) -> Part
+        requires { Kept (words_of self.now.card.now) head.old × (key < 4294967295) }
+        ensures { Kept (words_of self.now.card.now) head.new
+            × (view (words_of self.now.card.now) head.new ≡ rest key (view (words_of self.now.card.now) head.old))
+            × (result.count ≡ head_val key (view (words_of self.now.card.now) head.old))
+            × (result.fine ≡ head_fine key (view (words_of self.now.card.now) head.old))
+            × (result.reach ≡ reach (view (words_of self.now.card.now) head.new)) }
+    {
+        let top = head[0];
+        if top != key + 1 {
+            return Part {
+                count: 0,
+                fine: true,
+                reach: top,
+            };
+        }
+        let word = head[1];
+        let p = Cursor {
+            block: head[2] as u16,
+            word: head[3] as u16,
+            left: head[4],
+        };
+        let e = Cursor {
+            block: head[5] as u16,
+            word: head[6] as u16,
+            left: head[7],
+        };
+        let r = Reader {
+            postings: p,
+            entries: e,
+            id: head[8] as u16,
+            here: head[9],
+        };
+        let next = partitions::reader_moved(self.card, r);
+        let reach = put(self.card, head, next);
+        let q = postings::unpack(0, word);
+        let fine = postings::is_posting(word);
+        Part {
+            count: q.count,
+            fine: fine,
+            reach: reach,
+        }
     }
+
+    ghost laws = { sourced (λ s. words_of s.card.now) };
 }
 
 // Puts the head of each partition at its first posting, and tells one more than the greatest key at any.
@@ -152,17 +139,11 @@ pub fn open_heads(card: &[u8], ps: Partitions, heads: &mut [u32]) -> u32
         × (map (ahead (words_of card.now)) (parts 10 ps.used heads.new) ≡ map (postings_of (words_of card.now)) (finished ps))
         × (result ≡ topmost_from 0 (views (words_of card.now) ps.used heads.new)) }
 {
-    let n = ps.used as usize;
     let mut top: u32 = 0;
-    let mut i: usize = 0;
-    while i < n {
-        let p = ps.records[i];
-        let r = partitions::open_reader(card, p);
-        let at = 10 * i;
-        let end = at + 10;
-        let reach = put(card, &mut heads[at..end], r);
-        top = kway::larger(top, reach);
-        i += 1;
+    for (i, p) in ps.finished().iter().enumerate() {
+        let r = partitions::open_reader(card, *p);
+        let reach = put(card, &mut heads[10 * i..10 * i + 10], r);
+        top = top.max(reach);
     }
     top
 }

@@ -1,5 +1,5 @@
 -- How many postings heads have to come, and the numbers in front of a group's heads.
-use Rattle.lists.proofs.Prelude.{true, List, [], ◌∷◌, map, ◌≡◌, refl, sym, ap, ◌∙◌, ℕ, zero, suc, ◌+◌, ◌-◌, ◌*◌, ◌<◌, ◌≤◌, add-one, arith, ltb, length, get_or, take, drop, set, length-map, length-take, length-drop, drop_of_length-le, length-append, get_or-take, get_or-drop, take_all, take-suc, take-suc-set, ltb-true, ltb-false, total_by, AllOf, by-test, and_left, and_right, total-more, append-nil}
+use Rattle.lists.proofs.Prelude.{true, List, [], ◌∷◌, map, ◌≡◌, refl, sym, ap, ◌∙◌, ℕ, zero, suc, ◌+◌, ◌-◌, ◌*◌, ◌<◌, ◌≤◌, arith, ltb, length, get_or, drop, set, length-map, length-take, length-drop, drop_of_length-le, length-append, get_or-take, get_or-drop, ltb-true, ltb-false, total_by, AllOf, by-test, and_left, and_right, total-more, append-nil}
 use borrow.Rule.Slice.PartMut.{put_mid}
 use Rattle.keyed.specs.Keys.{Item, falls, all_fall}
 use Rattle.card.proofs.Cursors.{length-ahead}
@@ -7,14 +7,6 @@ use Rattle.kway.specs.Parts.{part, parts}
 use Rattle.kway.proofs.Parts.{views-more, all-at}
 use Rattle.heads.specs.Heads.{item_of, cursor_at, comes, Lies, coming, view, Kept, views}
 use Rattle.heads.proofs.Heads.{comes-none}
-
--- ---- a copy
-
-pub copy_more : (to from : List ℕ) (i : ℕ) → i < length to → i < length from → take i to ≡ take i from → take (i + 1) (set to i (get_or from i 0)) ≡ take (i + 1) from
-copy_more to from i h g e = rw (add-one i, take-suc-set to i (get_or from i 0) h, take-suc from i 0 g, e)
-
-pub copy_done : (to from : List ℕ) (i : ℕ) → length from ≤ i → length to ≡ length from → take i to ≡ take i from → to ≡ from
-copy_done to from i h l e = sym (take_all i to (omega arith)) ∙ e ∙ take_all i from h
 
 -- ---- how many are to come
 

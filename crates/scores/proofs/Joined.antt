@@ -1,9 +1,9 @@
 -- The turns of the loop over a query's terms.
+use Prim.Native.Nat.{max}
 use Rattle.lists.proofs.Prelude.{Bool, true, false, ◌||◌, or-false, or_assoc, List, [], ◌∷◌, ◌++◌, map, ◌≡◌, refl, sym, ap, ap₂, ◌∙◌, ℕ, ◌+◌, ◌-◌, ◌*◌, ◌≤◌, arith, length, get_or, drop, set, length-drop, length-set, get_or-take, get_or-drop, any, every, AllOf, and_left, and_right}
 use borrow.Rule.Slice.PartMut.{put_mid}
-use Rattle.keyed.specs.Keys.{rest, larger, topmost_from, head_vals}
+use Rattle.keyed.specs.Keys.{rest, topmost_from, head_vals}
 use Rattle.keyed.specs.Groups.{Group, top_all, move_all}
-use Rattle.keyed.proofs.Walk.{larger-left, larger-right}
 use Rattle.weights.proofs.Laws.{tf-none}
 use Rattle.postings.specs.Sums.{is_above}
 use Rattle.partitions.specs.Formed.{in_range}
@@ -69,15 +69,15 @@ module _ (k : ℕ) where
   any-more [] t = or-false (is_above (head_vals k t.lists))
   any-more (u ∷ ts) t = rw (any-more ts t) (sym (or_assoc (is_above (head_vals k u.lists)) (any is_above (map (head_vals k) (groups_in ts))) (is_above (head_vals k t.lists))))
 
-top-more : (t : ℕ) (ts : List Term) (u : Term) → top_all t (groups_in (ts ++ (u ∷ []))) ≡ larger (top_all t (groups_in ts)) (topmost_from 0 u.lists)
+top-more : (t : ℕ) (ts : List Term) (u : Term) → top_all t (groups_in (ts ++ (u ∷ []))) ≡ max (top_all t (groups_in ts)) (topmost_from 0 u.lists)
 top-more t [] u = refl
-top-more t (x ∷ ts) u = top-more (larger t (topmost_from 0 x.lists)) ts u
+top-more t (x ∷ ts) u = top-more (max t (topmost_from 0 x.lists)) ts u
 
 -- ---- each term of those that have the greatest window
 
 top-all-from : (t : ℕ) (gs : List Group) → t ≤ top_all t gs
 top-all-from t [] = omega arith
-top-all-from t (g ∷ gs) = let a = top-all-from (larger t (topmost_from 0 g)) gs in let b = larger-left t (topmost_from 0 g) in omega arith
+top-all-from t (g ∷ gs) = let a = top-all-from (max t (topmost_from 0 g)) gs in omega arith
 
 -- no window of a group is above k, and the sum of k is in range
 abbrev pub Due : List ℕ → List ℕ → ℕ → ℕ → List ℕ → Type 0
@@ -89,9 +89,8 @@ unfolding AllOf
 due_all W R m k t [] h e = tt
 due_all W R m k t (P ∷ ps) h e =
     let g = views W R m (drop 4 P) in
-    let a = larger-right t (topmost_from 0 g) in
-    let b = top-all-from (larger t (topmost_from 0 g)) (groups_in (map (term_of W R m) ps)) in
-    ((omega arith, and_left _ _ e), due_all W R m k (larger t (topmost_from 0 g)) ps h (and_right (in_range (head_vals k g)) _ e))
+    let b = top-all-from (max t (topmost_from 0 g)) (groups_in (map (term_of W R m) ps)) in
+    ((omega arith, and_left _ _ e), due_all W R m k (max t (topmost_from 0 g)) ps h (and_right (in_range (head_vals k g)) _ e))
 
 -- ---- what stands after j turns of taking the window k
 
@@ -110,7 +109,7 @@ module _ (W R : List ℕ) (m k : ℕ) (H₀ : List ℕ) where
   pub joined-more : (j : ℕ) (H : List ℕ) (score : ℕ) (counts : Bool) (next : ℕ) → Joined W R m k H₀ j H score counts next → (4 * m + 4) * j + (4 * m + 4) ≤ length H₀
       → (P : List ℕ) (a : ℕ) (b : Bool) (r : ℕ) → KeptGroup W R m P → term_of W R m P ≡ moved k (term_of W R m (part (4 * m + 4) j H))
       → a ≡ weigh k (term_of W R m (part (4 * m + 4) j H)) → a ≤ 61200 → b ≡ is_above (head_vals k (views W R m (drop 4 (part (4 * m + 4) j H)))) → r ≡ topmost_from 0 (views W R m (drop 4 P))
-      → Joined W R m k H₀ (j + 1) (put_in (4 * m + 4) H P j) (score + a) (counts || b) (larger next r)
+      → Joined W R m k H₀ (j + 1) (put_in (4 * m + 4) H P j) (score + a) (counts || b) (max next r)
   joined-more j H score counts next t fits P a b r g ev ea small eb er =
       let v = t.heads in
       let was = v.later j (omega arith) in
@@ -127,7 +126,7 @@ module _ (W R : List ℕ) (m k : ℕ) (H₀ : List ℕ) where
 
 -- one turn of the search for the greatest window
 pub terms-turn : (W R : List ℕ) (m : ℕ) (H : List ℕ) (j top r : ℕ) → r ≡ topmost_from 0 (views W R m (drop 4 (part (4 * m + 4) j H))) → top ≡ top_all 0 (groups_in (terms_of W R m j H))
-    → larger top r ≡ top_all 0 (groups_in (terms_of W R m (j + 1) H))
+    → max top r ≡ top_all 0 (groups_in (terms_of W R m (j + 1) H))
 terms-turn W R m H j top r a e = rw (views-more (term_of W R m) (4 * m + 4) j H, top-more 0 (terms_of W R m j H) (term_of W R m (part (4 * m + 4) j H)), ← e, a)
 
 -- the reach of group j

@@ -20,7 +20,7 @@ use Rattle.kway.specs.Parts.{part, parts}
 use Rattle.kway.specs.Leads.{Leads}
 use Rattle.kway.proofs.Parts.{views-more}
 use Rattle.terms.specs.declared.judging.Told.{Told}
-use Rattle.terms.specs.declared.judging.Told.TheVariants.{Malformed, Windows}
+use Rattle.std.specs.Prelude.{Option, Some, None, IfSome, is_some}
 use Rattle.heads.specs.Heads.{view, Kept, views}
 use Rattle.terms.specs.Both.{Ready, both}
 use Rattle.terms.specs.Judged.{in_ranges, ranges, formed, told_of}
@@ -52,17 +52,18 @@ over-at (suc m) j S h e =
 -- ---- what is told
 
 module _ (W : List ℕ) (s : State) (u : Stretch) (i : ℕ) where
-  pub told-malformed : told_term W s u i ≡ Malformed → identifier_formed W s i ≡ false
+  pub told-malformed : told_term W s u i ≡ None → identifier_formed W s i ≡ false
   unfolding told_term
-  told-malformed e = by-test (identifier_formed W s i) (λ y. let q : Windows _ _ ≡ Malformed = rw y at e in let z : ◌≡◌ {A = ℕ} 0 1 = cc in absurd (omega arith)) (λ n. n)
+  told-malformed e = by-test (identifier_formed W s i) (λ y. let q = rw y at e in cc) (λ n. n)
 
-  pub told-formed : (n t : ℕ) → told_term W s u i ≡ Windows n t
-      → (identifier_formed W s i ≡ true) × (n ≡ frequency (shown_in u s.windows) (stored W s) i) × (t ≡ amount (shown_in u s.windows) (stored W s) i)
+  pub told-formed : (t : Told) → told_term W s u i ≡ Some t
+      → (identifier_formed W s i ≡ true) × (t.windows ≡ frequency (shown_in u s.windows) (stored W s) i) × (t.total ≡ amount (shown_in u s.windows) (stored W s) i)
   unfolding told_term
-  told-formed n t e =
-      by-test (identifier_formed W s i)
-      (λ y. let q : Windows (frequency (shown_in u s.windows) (stored W s) i) (amount (shown_in u s.windows) (stored W s) i) ≡ Windows n t = rw y at e in (y, cc, cc))
-      (λ f. let q : Malformed ≡ Windows n t = rw f at e in let z : ◌≡◌ {A = ℕ} 0 1 = cc in absurd (omega arith))
+  told-formed t e = by-test (identifier_formed W s i) (λ y. let q = rw y at e in (y, cc, cc)) (λ f. let q = rw f at e in cc)
+
+  pub told-some : is_some (told_term W s u i) ≡ identifier_formed W s i
+  unfolding told_term
+  told-some = by-test (identifier_formed W s i) (λ y. rw y) (λ n. rw n)
 
 -- every count is at most 32,767
 amount-most : (l : List Posting) (i : ℕ) → ((w : ℕ) → in_range (sum l i w) ≡ true) → (windows : List ℕ) → amount windows l i ≤ 32767 * frequency windows l i
@@ -115,23 +116,23 @@ module _ (W R : List ℕ) (s : State) (i : ℕ) (H : List ℕ) (opens : Opens W 
         (λ y. ap in_range (sym (totals w) ∙ sums-high 65536 w (ltb-false w 65536 y) all fall))
 
   -- what the judging tells is what is told of the identifier
-  pub judged-same : (r : Told) → r ≡ told_of closed gs → (r ≡ told_term W s u i) × Fitting r
+  pub judged-same : (r : Option Told) → r ≡ told_of closed gs → (r ≡ told_term W s u i) × IfSome r Fitting
   unfolding told_of told_term
   judged-same r e =
       by-test (formed gs)
       (λ y. let same = risen-same W R s i H opens small few order rules y u in
-      let told : r ≡ Windows (frequency (shown_in u s.windows) (stored W s) i) (amount (shown_in u s.windows) (stored W s) i) = e ∙ rw (y, same) in
+      let told : r ≡ Some (record { windows = frequency (shown_in u s.windows) (stored W s) i; total = amount (shown_in u s.windows) (stored W s) i }) = e ∙ rw (y, same) in
       (told ∙ rw (formed-same W R s i H opens small few order rules, y), rw told (rw same at (risen-few closed gs (none_at_zero W R s i H opens small few order rules y)), amount-most (stored W s) i (in-range y) (shown_in u s.windows))))
-      (λ n. let told : r ≡ Malformed = e ∙ rw n in (told ∙ rw (formed-same W R s i H opens small few order rules, n), rw told tt))
+      (λ n. let told : r ≡ None = e ∙ rw n in (told ∙ rw (formed-same W R s i H opens small few order rules, n), rw told tt))
 
   -- not well formed
-  pub judged-bad : told_of closed gs ≡ Malformed → identifier_formed W s i ≡ false
-  judged-bad e = told-malformed W s u i (sym (judged-same Malformed (sym e)).0)
+  pub judged-bad : told_of closed gs ≡ None → identifier_formed W s i ≡ false
+  judged-bad e = told-malformed W s u i (sym (judged-same None (sym e)).0)
 
   -- well formed
-  module _ (n t : ℕ) (told : told_of closed gs ≡ Windows n t) where
-    counted : (identifier_formed W s i ≡ true) × (n ≡ frequency (shown_in u s.windows) (stored W s) i) × (t ≡ amount (shown_in u s.windows) (stored W s) i)
-    counted = told-formed W s u i n t (sym (judged-same (Windows n t) (sym told)).0)
+  module _ (t : Told) (told : told_of closed gs ≡ Some t) where
+    counted : (identifier_formed W s i ≡ true) × (t.windows ≡ frequency (shown_in u s.windows) (stored W s) i) × (t.total ≡ amount (shown_in u s.windows) (stored W s) i)
+    counted = told-formed W s u i t (sym (judged-same (Some t) (sym told)).0)
 
     pub judged-good : identifier_formed W s i ≡ true
     judged-good = counted.0
@@ -140,8 +141,8 @@ module _ (W R : List ℕ) (s : State) (i : ℕ) (H : List ℕ) (opens : Opens W 
     ok = sym (formed-same W R s i H opens small few order rules) ∙ judged-good
 
     -- F fits
-    pub windows-few : n ≤ 65535
-    windows-few = (judged-same (Windows n t) (sym told)).1.0
+    pub windows-few : t.windows ≤ 65535
+    windows-few = (judged-same (Some t) (sym told)).1.0
 
     pub all-fall : all_fall 65536 all ≡ true
     all-fall = fall ok
@@ -151,7 +152,7 @@ module _ (W R : List ℕ) (s : State) (i : ℕ) (H : List ℕ) (opens : Opens W 
     all-size = ap (total_by length) all-parts ∙ total-more length cards run ∙ sym (size_same W R s i H opens small few order rules)
 
     -- the term stands for the identifier
-    pub all-serves : (live : ℕ) (x : Term) → x ≡ record { lists = all; weight = idf_weight live n } → Serves W s u live i x
+    pub all-serves : (live : ℕ) (x : Term) → x ≡ record { lists = all; weight = idf_weight live t.windows } → Serves W s u live i x
     all-serves live x e =
         subst (Serves W s u live i) (sym e)
         (record {

@@ -1,6 +1,6 @@
 -- The terms of a query: an identifier's lists as one group, with the weight of its N and F. A group of m heads is 4 m + 4 numbers: its reach, its weight,
 -- the place of the list that leads and the reach of the others, and the heads.
-use Rattle.std.specs.Prelude.{true, cond, List, map, ◌≡◌, ℕ, ◌+◌, ◌*◌, ◌≤◌, pos, length, get_or, drop}
+use Rattle.std.specs.Prelude.{Option, Some, None, MatchOption, true, false, cond, List, map, ◌≡◌, ℕ, ◌+◌, ◌*◌, ◌≤◌, pos, length, get_or, drop}
 use Rattle.lists.specs.All.{AllOf}
 use Rattle.keyed.specs.Keys.{topmost_from, sums, all_fall}
 use Rattle.keyed.specs.Groups.{Group}
@@ -15,8 +15,6 @@ use Rattle.kway.specs.Parts.{parts}
 use Rattle.kway.specs.Leads.{Leads}
 use Rattle.heads.specs.Heads.{Kept, views}
 use Rattle.terms.specs.declared.judging.Told.{Told}
-use Rattle.terms.specs.declared.judging.Told.TheVariants.{Malformed, Windows}
-use Rattle.scores.specs.declared.counting.Counted.{Counted}
 
 -- an identifier's lists, and what a count of it weighs
 pub record Term : Type 0 where
@@ -49,21 +47,24 @@ pub record Serves (W : List ℕ) (s : State) (t : Stretch) (n i : ℕ) (x : Term
   pub weight : x.weight ≡ idf_weight n (frequency (shown_in t s.windows) (stored W s) i)
 
 -- what is told of the identifier i: F, and the sum of its counts in the windows of the stretch t that show, where what is read of it is well formed
-unfoldable pub told_term : List ℕ → State → Stretch → ℕ → Told
+unfoldable pub told_term : List ℕ → State → Stretch → ℕ → Option Told
 told_term W s t i =
     cond (identifier_formed W s i)
-    (Windows (frequency (shown_in t s.windows) (stored W s) i) (amount (shown_in t s.windows) (stored W s) i))
-    Malformed
+    (Some (record { windows = frequency (shown_in t s.windows) (stored W s) i; total = amount (shown_in t s.windows) (stored W s) i }))
+    None
 
 -- a window counts at most 32,767, and there are at most 65,535
 abbrev pub Fitting : Told → Type 0
-Fitting Malformed = Unit {0}
-Fitting (Windows n t) = (n ≤ 65535) × (t ≤ 32767 * n)
+Fitting t = (t.windows ≤ 65535) × (t.total ≤ 32767 * t.windows)
 
--- r tells of the identifier i whether what is read of it is well formed; if so the group P is its term, and r tells how many postings of it are stored
-pub record CountedFor (W R : List ℕ) (s : State) (t : Stretch) (n i m : ℕ) (P : List ℕ) (r : Counted) : Type 0 where
-  pub fine : r.fine ≡ identifier_formed W s i
-  pub kept : r.fine ≡ true → KeptGroup W R m P
-  pub term : r.fine ≡ true → Serves W s t n i (term_of W R m P)
-  pub taken : r.fine ≡ true → r.taken ≡ length (under i (stored W s))
-  pub few : r.taken ≤ 3407872
+-- what is read of the identifier i is well formed, the group P is its term, and r postings of it are stored
+pub record CountedWell (W R : List ℕ) (s : State) (t : Stretch) (n i m : ℕ) (P : List ℕ) (r : ℕ) : Type 0 where
+  pub formed : identifier_formed W s i ≡ true
+  pub kept : KeptGroup W R m P
+  pub term : Serves W s t n i (term_of W R m P)
+  pub taken : r ≡ length (under i (stored W s))
+  pub few : r ≤ 3407872
+
+-- r tells of the identifier i whether what is read of it is well formed
+abbrev pub CountedFor : List ℕ → List ℕ → State → Stretch → ℕ → ℕ → ℕ → List ℕ → Option ℕ → Type 0
+CountedFor W R s t n i m P r = MatchOption r (identifier_formed W s i ≡ false) (CountedWell W R s t n i m P)

@@ -1,5 +1,5 @@
 // One identifier of a query: what is read of it is judged, and its term is kept for the second pass.
-ghost use Rattle.std.specs.Prelude.{◌≡◌, true, ◌+◌, ◌*◌, ◌≤◌, length, drop};
+ghost use Rattle.std.specs.Prelude.{◌≡◌, true, IfSome, ◌+◌, ◌*◌, ◌≤◌, length, drop};
 ghost use Rattle.lists.specs.All.{AllOf};
 ghost use Rattle.lists.specs.Lists.{total_by};
 ghost use Rattle.keyed.specs.Keys.{all_fall};
@@ -13,28 +13,10 @@ ghost use Rattle.heads.specs.Heads.{Kept, views};
 ghost use Rattle.terms.specs.Opening.{Packed};
 ghost use Rattle.scores.specs.Terms.{term_of, KeptGroup, told_term, Fitting, CountedFor};
 
+use heads::Lists;
 use postings::Stretch;
 use state::State;
 use terms::judging::Told;
-
-// Whether what is read of an identifier is well formed, and how many postings of it are stored.
-#[derive(Clone, Copy)]
-pub struct Counted {
-    pub fine: bool,
-    pub taken: u32,
-}
-
-// Copies numbers.
-fn copy(to: &mut [u32], from: &[u32])
-    requires { length to.old ≡ length from.now }
-    ensures { to.new ≡ from.now }
-{
-    let mut i: usize = 0;
-    while i < from.len() {
-        to[i] = from[i];
-        i += 1;
-    }
-}
 
 // How many postings m lists that fall have to come.
 fn total_left(card: &[u8], run: &[u32], heads: &[u32], m: usize) -> u32
@@ -43,11 +25,8 @@ fn total_left(card: &[u8], run: &[u32], heads: &[u32], m: usize) -> u32
     ensures { (result ≡ total_by length (views (words_of card.now) run.now m heads.now)) × (result ≤ 3407872) }
 {
     let mut total: u32 = 0;
-    let mut i: usize = 0;
-    while i < m {
-        let at = 4 * i + 3;
-        total += heads[at];
-        i += 1;
+    for i in 0..m {
+        total += heads[4 * i + 3];
     }
     total
 }
@@ -59,7 +38,7 @@ fn weigh(card: &[u8], run: &[u32], group: &mut [u32], m: usize, n: u16, f: u16)
         × (term_of (words_of card.now) run.now m group.new
         ≡ record { lists = views (words_of card.now) run.now m (drop 4 group.old); weight = idf_weight n f }) }
 {
-    let l = heads::leading::leader(card, run, &group[4..], m);
+    let l = kway::leading::leader(&Lists { card, run }, &group[4..], m);
     group[0] = l.top;
     group[1] = weights::idf_weight(n, f);
     group[2] = l.at;
@@ -74,11 +53,12 @@ pub fn count_term(
     s: State,
     id: u16,
     t: Stretch,
-) -> Told
+) -> Option<Told>
     requires { (state_rule s ≡ true) × (length (words_of card.now) ≡ 1024 * blocks s)
         × (partitions_formed (words_of card.now) (blocks s) (finished s.partitions) ≡ true)
         × Packed s.buffer run.now × (length heads.old ≡ 4 * s.partitions.used + 4) }
-    ensures { (result ≡ told_term (words_of card.now) s t id) × Fitting result }
+    ensures told { result ≡ told_term (words_of card.now) s t id }
+    ensures fitting { IfSome result Fitting }
 {
     let n = s.partitions.used as usize;
     terms::opening::open_heads(card, run, heads, s, id);
@@ -100,14 +80,11 @@ pub fn judge_term(
         × Packed s.buffer run.now × (length heads.old ≡ 4 * s.partitions.used + 4) }
     ensures { result ≡ identifier_formed (words_of card.now) s id }
 {
-    let told = count_term(card, run, heads, s, id, t);
-    match told {
-        Told::Malformed => false,
-        Told::Windows(windows, total) => true,
-    }
+    count_term(card, run, heads, s, id, t).is_some()
 }
 
-// The same for one of the first five, whose opened heads are kept as its term, where `live` windows of the stretch exist; the judging spends a copy.
+// The same for one of the first five, whose opened heads are kept as its term, where `live` windows of the stretch exist: how many postings of it are stored. The
+// judging spends a copy.
 pub fn keep_term(
     card: &[u8],
     run: &[u32],
@@ -117,7 +94,7 @@ pub fn keep_term(
     id: u16,
     t: Stretch,
     live: u16,
-) -> Counted
+) -> Option<u32>
     requires { (state_rule s ≡ true) × (length (words_of card.now) ≡ 1024 * blocks s)
         × (partitions_formed (words_of card.now) (blocks s) (finished s.partitions) ≡ true)
         × Packed s.buffer run.now × (length heads.old ≡ 4 * s.partitions.used + 4) × (length group.old ≡ 4 * s.partitions.used + 8) }
@@ -125,21 +102,9 @@ pub fn keep_term(
 {
     let n = s.partitions.used as usize;
     terms::opening::open_heads(card, run, heads, s, id);
-    copy(&mut group[4..], heads);
+    group[4..].copy_from_slice(heads);
     let current = s.windows.current as u32;
-    let told = terms::judging::judge(card, run, heads, n, current, t.first as u32, t.last as u32);
-    match told {
-        Told::Malformed => Counted {
-            fine: false,
-            taken: 0,
-        },
-        Told::Windows(windows, total) => {
-            weigh(card, run, group, n + 1, live, windows as u16);
-            let taken = total_left(card, run, &group[4..], n + 1);
-            Counted {
-                fine: true,
-                taken: taken,
-            }
-        }
-    }
+    let told = terms::judging::judge(card, run, heads, n, current, t.first as u32, t.last as u32)?;
+    weigh(card, run, group, n + 1, live, told.windows as u16);
+    Some(total_left(card, run, &group[4..], n + 1))
 }

@@ -1,5 +1,5 @@
 // The second pass of a query: the k-way merge of its terms together, window by window, and what each window's counts weigh.
-ghost use Rattle.std.specs.Prelude.{◌≡◌, true, ◌||◌, map, ◌+◌, ◌*◌, ◌≤◌, ◌<◌, length, drop};
+ghost use Rattle.std.specs.Prelude.{◌≡◌, true, map, ◌+◌, ◌*◌, ◌≤◌, ◌<◌, length, drop};
 ghost use Rattle.lists.specs.All.{AllOf};
 ghost use Rattle.lists.specs.Lists.{any, every};
 ghost use Rattle.keyed.specs.Keys.{topmost_from, head_vals};
@@ -12,19 +12,14 @@ ghost use Rattle.heads.specs.Heads.{views};
 ghost use Rattle.scores.specs.Terms.{term_of, KeptGroup, terms_of};
 ghost use Rattle.scores.specs.Scores.{moved, groups_in, weigh, score_at};
 
+use heads::Lists;
+
 // What is taken under a window: its score, whether a count is above 0, and one more than the greatest window to come.
 #[derive(Clone, Copy)]
 pub struct Scored {
     pub score: u32,
     pub counts: bool,
     pub next: u32,
-}
-
-// Whether one holds.
-fn either(a: bool, b: bool) -> bool
-    ensures { result ≡ (a || b) }
-{
-    if a { true } else { b }
 }
 
 // Takes the heads of a term that have the key. A term that is not at the key is passed over without a look at its heads.
@@ -50,17 +45,17 @@ fn take_term(card: &[u8], run: &[u32], group: &mut [u32], m: usize, key: u32) ->
     let weight = group[1];
     let at = group[2];
     let others = group[3];
-    let t = heads::leading::take_led(card, run, &mut group[4..], m, at, others, key);
-    let next = t.next;
-    group[0] = next;
+    let lists = Lists { card, run };
+    let t = kway::leading::take_led(&lists, &mut group[4..], m, at, others, key);
+    group[0] = t.next;
     group[2] = t.at;
     group[3] = t.others;
     let count = kway::above(t.sum) as u16;
     let score = weights::tf_weight(count) * weight;
     Scored {
-        score: score,
+        score,
         counts: 0 < count,
-        next: next,
+        next: t.next,
     }
 }
 
@@ -89,20 +84,17 @@ pub fn take_terms(
     let mut score: u32 = 0;
     let mut counts = false;
     let mut next: u32 = 0;
-    let mut j: usize = 0;
-    while j < g {
+    for j in 0..g {
         let at = size * j;
-        let end = at + size;
-        let t = take_term(card, run, &mut heads[at..end], m, key);
+        let t = take_term(card, run, &mut heads[at..at + size], m, key);
         score += t.score;
-        counts = either(counts, t.counts);
-        next = kway::larger(next, t.next);
-        j += 1;
+        counts |= t.counts;
+        next = next.max(t.next);
     }
     Scored {
-        score: score,
-        counts: counts,
-        next: next,
+        score,
+        counts,
+        next,
     }
 }
 
@@ -114,11 +106,8 @@ pub fn top_terms(card: &[u8], run: &[u32], heads: &[u32], g: usize, m: usize) ->
 {
     let size = 4 * m + 4;
     let mut top: u32 = 0;
-    let mut j: usize = 0;
-    while j < g {
-        let at = size * j;
-        top = kway::larger(top, heads[at]);
-        j += 1;
+    for j in 0..g {
+        top = top.max(heads[size * j]);
     }
     top
 }

@@ -1,11 +1,11 @@
 -- What each call promises of a state or a store is what a line promises of the probe.
+use Rattle.answers.specs.declared.Refusal.{Refusal}
 use Rattle.lists.proofs.Prelude.{List, ◌≡◌, refl, sym, ◌∙◌, ap, ℕ, arith, replicate}
-use mathlib.Core.Option.{Option, some}
+use Rattle.std.specs.Prelude.{Result, Ok, Err, Option, Some}
 use Rattle.postings.specs.declared.Stretch.{Stretch}
 use Rattle.answers.specs.Answers.{Answer, Outcome, refuse, leave, answer_of, state_of, carry}
 use Rattle.answers.specs.Numbers.{found_as}
 use Rattle.answers.specs.declared.Found.{Found}
-use Rattle.answers.specs.declared.Found.TheVariants as found
 use Rattle.answers.specs.declared.Hit.{Hit}
 use Rattle.identifiers.specs.Names.{Name}
 use Rattle.state.specs.declared.State.{State}
@@ -39,7 +39,7 @@ pub on_store : {s after : State} {card card' : List ℕ} {o : Outcome Store} {a 
 on_store {s = s} {card = card} register g = carried (with_store (probe_of s card register)) g
 
 -- a call made, and its answer written
-pub written : {p after : Probe} {c : Call} {a : Answer} {buffer : List ℕ} {n : ℕ} → Gives p (probe_call p c) a after → Says buffer n (answer_text a) → Obeys p (some c) buffer n after
+pub written : {p after : Probe} {c : Call} {a : Answer} {buffer : List ℕ} {n : ℕ} → Gives p (probe_call p c) a after → Says buffer n (answer_text a) → Obeys p (Some c) buffer n after
 unfolding text_of left_of
 written g w = record { says = rw (← g.answer) w; left = g.left }
 
@@ -48,13 +48,13 @@ pub obeys-as : {p after : Probe} {c d : Option Call} {buffer : List ℕ} {n : �
 obeys-as e t = rw e t
 
 -- an answer lists as many hits as stand beside it
-pub few-found : {x : Answer} {k : ℕ} {a : Found} {t : Top} → Finds x k a t → Few a
-few-found {a = found.Hits n taken} f = omega (arith, f.used n taken refl, f.most)
-few-found {a = found.Refused why} f = tt
+pub few-found : {x : Answer} {k : ℕ} {a : Result Found Refusal} {t : Top} → Finds x k a t → Few a
+few-found {a = Ok a} f = omega (arith, f.used a refl, f.most)
+few-found {a = Err why} f = tt
 
 -- a query made, and its answer written
-pub written-found : {p : Probe} {st : Stretch} {ids : List Name} {k : ℕ} {a : Found} {t : Top} → Finds (answered p st ids k) k a t
-    → {buffer : List ℕ} {n : ℕ} → Says buffer n (answer_text (found_as a t.hits)) → Obeys p (some (Query k st ids)) buffer n p
+pub written-found : {p : Probe} {st : Stretch} {ids : List Name} {k : ℕ} {a : Result Found Refusal} {t : Top} → Finds (answered p st ids k) k a t
+    → {buffer : List ℕ} {n : ℕ} → Says buffer n (answer_text (found_as a t.hits)) → Obeys p (Some (Query k st ids)) buffer n p
 unfolding text_of left_of probe_call
 written-found {p = p} {st = st} {ids = ids} {k = k} f w =
     let o : Outcome (List Hit) = query_of p st ids (replicate k no_hit) in

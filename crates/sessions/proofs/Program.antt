@@ -1,6 +1,6 @@
 -- Bytes taken in one after another are lines cut and obeyed one after another.
 use Rattle.lists.proofs.Prelude.{true, false, List, [], ◌∷◌, ◌++◌, append_assoc, append-nil, ◌≡◌, refl, sym, ◌∙◌, ap, ℕ, zero, suc, ◌+◌, ◌≤◌, ◌<◌, arith, eqb, leb, length, take, take_all, length-take-le, leb-true, leb-false, joined, by-test}
-use mathlib.Core.Option.{Option}
+use Rattle.std.specs.Prelude.{Option}
 use Rattle.state.specs.Probe.{Probe}
 use Rattle.engine.specs.Calls.{Call}
 use Rattle.texts.proofs.Splitting.{too_long}

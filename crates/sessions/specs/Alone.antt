@@ -1,6 +1,6 @@
 -- A line for which card and register do not matter.
 use Rattle.std.specs.Prelude.{List, ℕ}
-use Rattle.std.proofs.Math.Option.{Option}
+use Rattle.std.specs.Prelude.{Option}
 use Rattle.state.specs.declared.State.{State}
 use Rattle.windows.specs.Promises.{probe_of}
 use Rattle.engine.specs.Calls.{Call}

@@ -4,7 +4,7 @@
 pub mod lines; // the input cut into lines
 
 ghost use Rattle.std.specs.Prelude.{map, ◌≤◌, length};
-ghost use Rattle.std.proofs.Math.Option.{none, some};
+ghost use Rattle.std.specs.Prelude.{None, Some};
 ghost use Rattle.answers.specs.Numbers.{replied};
 ghost use Rattle.engine.specs.Calls.{Open, Query, probe_call};
 ghost use Rattle.windows.specs.Promises.{Gives, probe_of};
@@ -16,7 +16,7 @@ ghost use Rattle.sessions.specs.Alone.{ObeysAlone};
 use commands::{Change, Order};
 use postings::Stretch;
 use state::State;
-use windows::Replied;
+use windows::After;
 
 // The state after a line, and how many bytes its text has.
 #[derive(Clone, Copy)]
@@ -25,17 +25,17 @@ pub struct Done {
     pub used: usize,
 }
 
-// A call that is answered with a reply.
+// A call whose answer gives no value.
 fn reply_to(
     s: State,
     card: &mut [u8],
     register: &mut [u8],
     parts: &[&[u8]],
     change: Change,
-) -> Replied
+) -> After<()>
     requires { change_reach change ≤ length parts.now }
     ensures { Gives (probe_of s card.old register.old) (probe_call (probe_of s card.old register.old) (changing change (map (λ x. x.now) parts.now)))
-        (replied result.reply) (probe_of result.state card.new register.new) }
+        (replied result.answer) (probe_of result.state card.new register.new) }
 {
     match change {
         Change::Event => {
@@ -59,38 +59,32 @@ fn changed(
     out: &mut [u8],
 ) -> Done
     requires { (change_reach change ≤ length parts.now) × (1024 ≤ length out.old) }
-    ensures { Obeys (probe_of s card.old register.old) (some (changing change (map (λ x. x.now) parts.now)))
+    ensures { Obeys (probe_of s card.old register.old) (Some (changing change (map (λ x. x.now) parts.now)))
         out.new result.used (probe_of result.state card.new register.new) }
 {
     let r = reply_to(s, card, register, parts, change);
-    let reply = r.reply;
-    let state = r.state;
-    let used = texts::writing::write_reply(out, reply);
     Done {
-        state: state,
-        used: used,
+        state: r.state,
+        used: texts::writing::write_reply(out, r.answer),
     }
 }
 
 // An open.
 fn opened(s: State, out: &mut [u8]) -> Done
     requires { 1024 ≤ length out.old }
-    ensures { ObeysAlone s (some Open) out.new result.used result.state }
+    ensures { ObeysAlone s (Some Open) out.new result.used result.state }
 {
     let r = engine::open(s);
-    let answer = r.answer;
-    let state = r.state;
-    let used = texts::writing::write_opened(out, answer);
     Done {
-        state: state,
-        used: used,
+        state: r.state,
+        used: texts::writing::write_opened(out, r.answer),
     }
 }
 
 // A query of all windows with so many places; it leaves everything as it is.
 fn asked(s: State, card: &[u8], register: &[u8], ids: &[&[u8]], places: u32, out: &mut [u8]) -> Done
     requires { 1024 ≤ length out.old }
-    ensures { Obeys (probe_of s card.now register.now) (some (Query places whole (map (λ x. x.now) ids.now)))
+    ensures { Obeys (probe_of s card.now register.now) (Some (Query places whole (map (λ x. x.now) ids.now)))
         out.new result.used (probe_of result.state card.now register.now) }
 {
     let t = Stretch {
@@ -98,25 +92,20 @@ fn asked(s: State, card: &[u8], register: &[u8], ids: &[&[u8]], places: u32, out
         last: 65535,
     };
     let r = engine::query_value(s, card, register, ids, t, places as usize);
-    let answer = r.answer;
-    let top = r.top;
-    let hits = top.hits;
-    let used = texts::writing::write_found(out, answer, hits);
     Done {
         state: s,
-        used: used,
+        used: texts::writing::write_found(out, r.answer, r.top.hits),
     }
 }
 
 // No command: nothing but the mark is written.
 fn unknown(s: State, out: &mut [u8]) -> Done
     requires { 1024 ≤ length out.old }
-    ensures { ObeysAlone s none out.new result.used result.state }
+    ensures { ObeysAlone s None out.new result.used result.state }
 {
-    let used = texts::writing::write_unknown(out);
     Done {
         state: s,
-        used: used,
+        used: texts::writing::write_unknown(out),
     }
 }
 
@@ -132,15 +121,13 @@ fn obey_fields(
     ensures { Obeys (probe_of s card.old register.old) (call_in (map (λ x. x.now) parts.now))
         out.new result.used (probe_of result.state card.new register.new) }
 {
-    let order = commands::order_of(parts);
+    let Some(order) = commands::order_of(parts) else {
+        return unknown(s, out);
+    };
     match order {
         Order::Open => opened(s, out),
         Order::Change(change) => changed(s, card, register, parts, change, out),
-        Order::Query(places) => {
-            let ids = &parts[2..];
-            asked(s, &*card, &*register, ids, places, out)
-        }
-        Order::Unknown => unknown(s, out),
+        Order::Query(places) => asked(s, &*card, &*register, &parts[2..], places, out),
     }
 }
 

@@ -21,25 +21,26 @@ pub struct Taken {
     pub used: usize,
 }
 
-// Takes in a piece's bytes up to a line feed (10), or all. Of a line longer than 512 bytes the first 513 are kept, which are no command either.
+// Takes in a piece's bytes up to a line feed, or all. Of a line longer than 512 bytes the first 513 are kept, which are no command either.
 fn keep_some(line: &mut [u8], kept: usize, piece: &[u8]) -> Kept
     requires { (kept ≤ 513) × (513 ≤ length line.old) }
     ensures { Keeps line.old kept piece.now line.new result.kept result.passed }
 {
     let mut n = kept;
-    let mut i: usize = 0;
-    while i < piece.len() {
+    for i in 0..piece.len() {
         let b = piece[i];
-        if b == 10 {
-            break;
+        if b == b'\n' {
+            return Kept { kept: n, passed: i };
         }
         if n < 513 {
             line[n] = b;
             n += 1;
         }
-        i += 1;
     }
-    Kept { kept: n, passed: i }
+    Kept {
+        kept: n,
+        passed: piece.len(),
+    }
 }
 
 // Obeys a line, its text behind the first `used` bytes of the buffer.
@@ -79,6 +80,7 @@ pub fn take_some(
     let first = keep_some(line, kept, piece);
     let mut n = first.kept;
     let mut i = first.passed;
+    // A turn moves on by a line, not by a byte.
     while i < piece.len() {
         if out.len() - used < 1024 {
             break;
@@ -92,10 +94,10 @@ pub fn take_some(
         i += next.passed;
     }
     Taken {
-        state: state,
+        state,
         kept: n,
         passed: i,
-        used: used,
+        used,
     }
 }
 

@@ -23,29 +23,13 @@ pub struct Span {
     pub highest: u16,
 }
 
-// The smaller of two.
-pub fn smaller(a: u16, b: u16) -> u16
-    ensures { result ≡ min a b }
-{
-    if a < b { a } else { b }
-}
-
-// The larger of two.
-pub fn larger(a: u16, b: u16) -> u16
-    ensures { result ≡ max a b }
-{
-    if a < b { b } else { a }
-}
-
 // A window more.
 pub fn widened(s: Span, window: u16) -> Span
     ensures { (result.lowest ≡ min s.lowest window) × (result.highest ≡ max s.highest window) }
 {
-    let lowest = smaller(s.lowest, window);
-    let highest = larger(s.highest, window);
     Span {
-        lowest: lowest,
-        highest: highest,
+        lowest: s.lowest.min(window),
+        highest: s.highest.max(window),
     }
 }
 
@@ -60,6 +44,7 @@ fn span_ahead(card: &[u8], c: Cursor) -> Span
         lowest: 65535,
         highest: 0,
     };
+    // A cursor has no index: it is followed until nothing is to come.
     while 0 < at.left {
         let p = postings::unpack(0, card::head(card, at));
         span = widened(span, p.window);
@@ -83,14 +68,10 @@ pub fn spans_ok(card: &[u8], ps: Partitions) -> bool
     requires { (ps.used ≤ 51) × AllOf (Readable (words_of card.now)) (finished ps) }
     ensures { result ≡ every (λ p. span_rule p (postings_of (words_of card.now) p)) (finished ps) }
 {
-    let n = ps.used as usize;
-    let mut i: usize = 0;
-    while i < n {
-        let p = ps.records[i];
-        if !span_ok(card, p) {
+    for p in ps.finished() {
+        if !span_ok(card, *p) {
             return false;
         }
-        i += 1;
     }
     true
 }

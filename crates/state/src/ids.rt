@@ -10,16 +10,7 @@ pub fn found_from(l: Listed, from: usize, id: u16) -> bool
     requires { l.used ≤ 64 }
     ensures { result ≡ elem id (drop from (listed l)) }
 {
-    let n = l.used as usize;
-    let mut i = from;
-    while i < n {
-        let x = l.ids[i];
-        if x == id {
-            return true;
-        }
-        i += 1;
-    }
-    false
+    l.listed().iter().skip(from).any(|x| *x == id)
 }
 
 // Whether the identifier is listed.
@@ -27,7 +18,7 @@ pub fn is_listed(l: Listed, id: u16) -> bool
     requires { l.used ≤ 64 }
     ensures { result ≡ elem id (listed l) }
 {
-    found_from(l, 0, id)
+    l.listed().contains(&id)
 }
 
 // The identifier listed after the others.

@@ -1,5 +1,6 @@
 -- The places at which windows are named, and the slots that hold their counts.
-use Rattle.lists.proofs.Prelude.{true, false, List, [], ◌∷◌, ◌≡◌, sym, ap, ◌∙◌, ℕ, suc, ◌+◌, ◌*◌, ◌<◌, ◌≤◌, add-one, arith, eqb, ltb, length, length-map, length-drop, length-take-le, get_or, get_or-set_same, get_or-set_other, set, length-set, take, drop, drop-cons, drop_of_length-le, eqb-true, eqb-false, eq-eqb, ne_eqb, ltb-true, ltb-false, elem, by-test, never}
+use Rattle.std.specs.List.{position_or_len}
+use Rattle.lists.proofs.Prelude.{true, false, List, [], ◌∷◌, ◌≡◌, refl, sym, ap, ◌∙◌, ℕ, ◌+◌, ◌*◌, ◌<◌, ◌≤◌, arith, eqb, ltb, length, length-map, length-drop, length-take-le, get_or, get_or-set_same, get_or-set_other, set, length-set, take, drop, drop_of_length-le, eqb-true, eqb-false, eq-eqb, ltb-true, ltb-false, elem, by-test, never}
 use Rattle.kway.specs.Parts.{part}
 use Rattle.kway.proofs.Parts.{first-of, put_in, put-length, put-here, put-before, put-later}
 use Rattle.sums.specs.Views.{held_in, Tidy, Cleared, first_place, held_for}
@@ -34,12 +35,10 @@ module _ (w : ℕ) where
   pub place-missing : (ws : List ℕ) → length ws ≤ first_place w ws → elem w ws ≡ false
   place-missing ws h = by-test (elem w ws) (λ y. let g = place-there ws y in absurd (omega arith)) (λ n. n)
 
-  -- from place i on: the place there, or what comes after it
-  pub place_here : (ws : List ℕ) (i : ℕ) → i < length ws → get_or ws i 0 ≡ w → first_place w (drop i ws) ≡ 0
-  place_here ws i h e = rw (drop-cons ws i 0 h, eq-eqb (get_or ws i 0) w e)
-
-  pub place-on : (ws : List ℕ) (i : ℕ) → i < length ws → (get_or ws i 0 ≡ w → ⊥) → first_place w (drop i ws) ≡ suc (first_place w (drop (i + 1) ws))
-  place-on ws i h n = rw (drop-cons ws i 0 h, ne_eqb (get_or ws i 0) w n, add-one i)
+  -- it is the library's first place at which a test passes
+  pub place-first : (ws : List ℕ) → position_or_len (λ v. eqb v w) ws ≡ first_place w ws
+  place-first [] = refl
+  place-first (v ∷ ws) = by-test (eqb v w) (λ y. rw y) (λ n. rw (n, place-first ws) (omega arith))
 
 -- different windows have different places
 pub place-apart : (v w : ℕ) (ws : List ℕ) → (v ≡ w → ⊥) → first_place w ws < length ws → first_place v ws ≡ first_place w ws → ⊥

@@ -1,6 +1,7 @@
 -- The walk's invariant, and its turns.
+use Prim.Native.Nat.{max}
 use Rattle.lists.proofs.Prelude.{Bool, true, false, cond, ◌&&◌, ◌||◌, not, List, [], ◌∷◌, ◌++◌, map, ◌≡◌, refl, sym, ap, ap₂, ◌∙◌, ℕ, suc, ◌*◌, ◌<◌, ◌≤◌, arith, eqb, ℤ, ◌+ℤ◌, length, get_or, AllOf, elem, by-test}
-use Rattle.keyed.specs.Keys.{Item, larger, topmost_from, rest, head_val, head_vals, heads_fine}
+use Rattle.keyed.specs.Keys.{Item, topmost_from, rest, head_val, head_vals, heads_fine}
 use Rattle.keyed.specs.Groups.{Group, top_all, heads_fine_all}
 use Rattle.postings.specs.declared.Posting.{Posting}
 use Rattle.postings.specs.Merge.{is_zero}
@@ -66,7 +67,7 @@ going_start W n b ws H next T len ok few room kept top none = record {
 }
 
 module _ {W : List ℕ} {n : ℕ} {b : Buffer} {ws : List ℕ} {size : ℕ} {whole : ℕ → Tally} {H : List ℕ} {i next bound : ℕ} {T : List ℕ} (g : Going W n b ws size whole H i next bound T)
-    (f : Front) (shown : Shown (buffer_items b i) f) (t : ℕ) (e : t ≡ larger next f.reach) where
+    (f : Front) (shown : Shown (buffer_items b i) f) (t : ℕ) (e : t ≡ max next f.reach) where
   top : top_all 0 (groups W n H b i) ≡ t
   top = top-step (views W n H) (buffer_items b i) next f.reach t g.top shown.reach e
 

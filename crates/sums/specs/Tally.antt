@@ -1,5 +1,5 @@
 -- What one pass over the finished partitions and the buffer tells of windows: whether lists and sums are well formed, and the counts.
-use Rattle.std.specs.Prelude.{Bool, true, ◌&&◌, List, ◌≡◌, ℕ, ◌*◌, ◌<◌, eqb, leb, length, get_or}
+use Rattle.std.specs.Prelude.{Option, MatchOption, Bool, true, false, ◌&&◌, List, ◌≡◌, ℕ, ◌*◌, ◌<◌, eqb, leb, length, get_or}
 use Rattle.lists.specs.Lists.{keep, any, every, elem}
 use Rattle.postings.specs.declared.Posting.{Posting}
 use Rattle.postings.specs.Merge.{nonzero, pairs}
@@ -8,7 +8,7 @@ use Rattle.state.specs.declared.State.{State}
 use Rattle.state.specs.Views.{finished}
 use Rattle.partitions.specs.Reading.{in_partitions, stored}
 use Rattle.partitions.specs.Formed.{lists_rule, sums_in_range}
-use Rattle.sums.specs.declared.Judged.{Judged}
+use Rattle.sums.specs.declared.Counts.{Counts}
 use Rattle.kway.specs.Parts.{part}
 use Rattle.scans.specs.Keys.{is_keyed}
 use Rattle.sums.specs.Views.{counts_in, Neat, held_for, Tidy}
@@ -39,11 +39,15 @@ window_formed W s w =
 unfoldable pub lists_formed : List ℕ → State → ℕ → Bool
 lists_formed W s w = lists_ruled W s && window_formed W s w
 
+-- it is not refused, and these are the window's counts
+pub record ReadWell (W : List ℕ) (s : State) (w : ℕ) (c : Counts) : Type 0 where
+  pub formed : lists_formed W s w ≡ true
+  pub counts : counts_in c ≡ counts_of w (stored W s)
+  pub neat : Neat c
+
 -- whether that is so is told, and the counts where it is
-pub record ReadOf (W : List ℕ) (s : State) (w : ℕ) (r : Judged) : Type 0 where
-  pub fine : r.fine ≡ lists_formed W s w
-  pub counts : r.fine ≡ true → counts_in r.counts ≡ counts_of w (stored W s)
-  pub neat : Neat r.counts
+abbrev pub ReadOf : List ℕ → State → ℕ → Option Counts → Type 0
+ReadOf W s w r = MatchOption r (lists_formed W s w ≡ false) (ReadWell W s w)
 
 -- the same of several windows: each one's counts are in its slot
 pub record ReadAll (W : List ℕ) (s : State) (ws : List ℕ) (r : Bool) (T : List ℕ) : Type 0 where

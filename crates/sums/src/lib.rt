@@ -1,7 +1,7 @@
 // The counts of windows, read from all that is stored in one pass by falling key.
 #![tactic(auto)]
 
-ghost use Rattle.std.specs.Prelude.{true, cond, ◌≡◌, [], ◌+◌, ◌*◌, ◌≤◌, ◌<◌, eqb, pos, length};
+ghost use Rattle.std.specs.Prelude.{true, cond, ◌≡◌, ◌+◌, ◌*◌, ◌≤◌, ◌<◌, eqb, pos, length};
 ghost use Rattle.words.specs.Words.{words as words_of};
 ghost use Rattle.state.specs.Views.{blocks, finished};
 ghost use Rattle.state.specs.Rules.{state_rule};
@@ -12,6 +12,7 @@ ghost use Rattle.sums.specs.Tally.{ReadOf, ReadAll};
 ghost use Rattle.sums.specs.Steps.{Counted, Begun};
 
 use postings::{LAST_ID, Posting};
+use scans::Whole;
 use state::{Buffer, MOST_LISTED, State};
 
 // How many windows one pass can be asked for.
@@ -27,33 +28,11 @@ pub struct Counts {
     pub postings: [Posting; MOST_LISTED],
 }
 
-// Whether what was read is well formed, and the window's counts where it is.
-#[derive(Clone, Copy)]
-pub struct Judged {
-    pub fine: bool,
-    pub counts: Counts,
-}
-
 // What the buffer has still to come first: one more than the key, and the count; 0 where nothing is to come.
 #[derive(Clone, Copy)]
 pub struct Front {
     pub reach: u32,
     pub count: i16,
-}
-
-// No counts.
-fn none() -> Counts
-    ensures { (counts_in result ≡ []) × Neat result }
-{
-    let p = Posting {
-        id: 0,
-        window: 0,
-        count: 0,
-    };
-    Counts {
-        used: 0,
-        postings: [p; MOST_LISTED],
-    }
 }
 
 // A buffered posting that is to come first.
@@ -86,15 +65,8 @@ pub fn past(at: usize, f: Front, top: u32) -> usize
 pub fn place_of(windows: &[u32], window: u32) -> usize
     ensures { result ≡ first_place window windows.now }
 {
-    let n = windows.len();
-    let mut i: usize = 0;
-    while i < n {
-        if windows[i] == window {
-            return i;
-        }
-        i += 1;
-    }
-    n
+    let found = windows.iter().position(|w| *w == window);
+    found.unwrap_or(windows.len())
 }
 
 // Every slot without counts.
@@ -102,10 +74,8 @@ fn clear(slots: &mut [u32], n: usize)
     requires { (n ≤ 32) × (length slots.old ≡ 65 * n) }
     ensures { Cleared n slots.new }
 {
-    let mut i: usize = 0;
-    while i < n {
+    for i in 0..n {
         slots[SLOT * i] = 0;
-        i += 1;
     }
 }
 
@@ -114,7 +84,8 @@ fn keep_total(slot: &mut [u32], key: u32, sum: i32, total: i32) -> bool
     requires { Tidy (key_window key) slot.old × (key < 67108864) }
     ensures { Counted slot.old key sum total result slot.new }
 {
-    if !kway::both(kway::in_range(sum), kway::in_range(total)) {
+    let fits = kway::in_range(sum) & kway::in_range(total);
+    if !fits {
         return false;
     }
     if total == 0 {
@@ -148,13 +119,14 @@ fn walk(
     let mut at: usize = 0;
     let mut next = start;
     let mut bound: u32 = kway::KEYS;
+    // by falling key, whichever list has it; the buffer's place moves on only where the buffer has the key
     loop {
         let mut front = Front { reach: 0, count: 0 };
         if at < used {
             let p = b.postings[at];
             front = front_of(p);
         }
-        let top = kway::larger(next, front.reach);
+        let top = next.max(front.reach);
         if top == 0 {
             return true;
         }
@@ -162,14 +134,14 @@ fn walk(
             return false;
         }
         let key = top - 1;
-        let t = scans::take(card, heads, n, key);
+        let t = kway::take(&Whole { card }, heads, n, key);
         let mut fine = t.fine;
         let place = place_of(windows, scans::key_window(key) as u32);
         if place < named {
             let total = kway::added(t.sum, count_under(front, top));
             let from = SLOT * place;
-            let to = from + SLOT;
-            fine = kway::both(fine, keep_total(&mut slots[from..to], key, t.sum, total));
+            let kept = keep_total(&mut slots[from..from + SLOT], key, t.sum, total);
+            fine &= kept;
         }
         if !fine {
             return false;
@@ -203,40 +175,31 @@ pub fn counts_of(slot: &[u32], window: u32) -> Counts
     ensures { (counts_in result ≡ held_in window slot.now) × Neat result }
 {
     let n = slot[0] as usize;
-    let mut c = none();
-    let mut i: usize = 0;
-    while i < n {
+    let mut postings = [Posting::NONE; MOST_LISTED];
+    for i in 0..n {
         let q = postings::unpack(0, slot[i + 1]);
-        let p = Posting {
+        postings[i] = Posting {
             id: q.window,
             window: window as u16,
             count: q.count,
         };
-        c.postings[i] = p;
-        i += 1;
     }
-    c.used = n as u16;
-    c
+    Counts {
+        used: n as u16,
+        postings,
+    }
 }
 
-// The counts of one window.
-pub fn read(card: &[u8], s: State, window: u32) -> Judged
+// The counts of one window, where what is read is well formed.
+pub fn read(card: &[u8], s: State, window: u32) -> Option<Counts>
     requires { (state_rule s ≡ true) × (length (words_of card.now) ≡ 1024 * blocks s)
         × (partitions_formed (words_of card.now) (blocks s) (finished s.partitions) ≡ true) }
     ensures { ReadOf (words_of card.now) s window result }
 {
     let windows = [window; 1];
     let mut slot = [0u32; SLOT];
-    let fine = read_all(card, s, &windows, &mut slot);
-    if !fine {
-        return Judged {
-            fine: false,
-            counts: none(),
-        };
+    if !read_all(card, s, &windows, &mut slot) {
+        return None;
     }
-    let c = counts_of(&slot, window);
-    Judged {
-        fine: true,
-        counts: c,
-    }
+    Some(counts_of(&slot, window))
 }

@@ -10,7 +10,8 @@ use Rattle.postings.proofs.Order.{precedes-cases}
 use Rattle.postings.proofs.Sums.{sum-pairs}
 use Rattle.postings.proofs.Merge.{every-puts, pairs-ordered}
 use Rattle.partitions.specs.Formed.{in_range, sums_in_range}
-use Rattle.terms.specs.Judged.{total_z, ranges, Spread, unspread, spread_at}
+use Rattle.terms.specs.declared.judging.Told.{Told}
+use Rattle.terms.specs.Judged.{total_z, ranges, unspread, spread_at}
 use Rattle.terms.proofs.Steps.{spread_none}
 
 -- the test of one sum at every window
@@ -94,5 +95,5 @@ over-down shows c S e z zero = by-test (shows 0) (λ y. rw (y, ← e 0, z)) (λ 
 over-down shows c S e z (suc n) =
     ap (spread_at shows (suc n) (S (suc n))) (over-down shows c S e z n)
     ∙ by-test (shows (suc n))
-    (λ y. by-test (ltb 0 (c (suc n))) (λ t. rw (y, ← e (suc n), t) (ap₂ {C = Spread} (λ (a b : ℕ). record { windows = a; total = b }) (omega arith) refl)) (λ t. rw (y, ← e (suc n), t) (ap₂ {C = Spread} (λ (a b : ℕ). record { windows = a; total = b }) (omega arith) refl)))
+    (λ y. by-test (ltb 0 (c (suc n))) (λ t. rw (y, ← e (suc n), t) (ap₂ {C = Told} (λ (a b : ℕ). record { windows = a; total = b }) (omega arith) refl)) (λ t. rw (y, ← e (suc n), t) (ap₂ {C = Told} (λ (a b : ℕ). record { windows = a; total = b }) (omega arith) refl)))
     (λ y. rw y (spread_none _))

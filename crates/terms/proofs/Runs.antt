@@ -1,5 +1,5 @@
 -- The run of an identifier in the buffer: where it lies, and its words.
-use Rattle.lists.proofs.Prelude.{true, List, [], ◌∷◌, map, ⊎_elim, ◌≡◌, refl, sym, ap, ◌∙◌, ℕ, suc, ◌+◌, ◌-◌, ◌<◌, ◌≤◌, add-one, arith, ltb, eqb, leb, nat_abs, length, get_or, take, drop, set, slice, take-take, get_or-take, take-suc, take-suc-set, length-take-le, lt-ltb, le-ltb, ne_eqb, ltb-true, ltb-false, eqb-true, eqb-false, leb-true, every, used_turn, used-end, by-test, and_left, and_right, every-at, every-keep, every-kept, map-take, map-drop, take-drop, map-append}
+use Rattle.lists.proofs.Prelude.{true, List, [], ◌∷◌, map, ⊎_elim, ◌≡◌, refl, sym, ap, ◌∙◌, ℕ, suc, ◌+◌, ◌-◌, ◌≤◌, add-one, arith, ltb, eqb, nat_abs, length, take, drop, slice, take-take, length-take-le, lt-ltb, le-ltb, ne_eqb, ltb-true, ltb-false, eqb-true, eqb-false, leb-true, every, by-test, and_left, and_right, every-keep, every-kept, map-take, map-drop, take-drop}
 use Rattle.postings.specs.declared.Posting.{Posting}
 use Rattle.postings.specs.Order.{precedes, ordered}
 use Rattle.postings.specs.Pack.{posted}
@@ -7,7 +7,7 @@ use Rattle.postings.specs.Sums.{under}
 use Rattle.postings.proofs.Order.{precedes-cases}
 use Rattle.postings.proofs.Trips.{packed-count, packed-window}
 use Rattle.state.specs.declared.Buffer.{Buffer}
-use Rattle.state.specs.Views.{no_posting, buffered}
+use Rattle.state.specs.Views.{buffered}
 use Rattle.partitions.specs.Formed.{in_range}
 use Rattle.heads.specs.Heads.{comes, Lies}
 use Rattle.terms.specs.Opening.{lower, word_for, Packed}
@@ -36,36 +36,24 @@ module _ (i : ℕ) where
       let r = lower-run l o in
       by-test (ltb p.id i)
       (λ y. let h = ltb-true p.id i y in
-      rw (y, lt-ltb p.id (suc i) (omega arith), ne_eqb p.id i (λ q. omega arith)) (omega arith, r.1))
+      rw (y, lt-ltb p.id (suc i) (omega arith), ne_eqb p.id i (λ q. omega arith)) (omega arith, rw (next (lower i l), next (lower (suc i) l)) r.1))
       (λ n. let h : i ≤ p.id = ltb-false p.id i n in
       let z = later p l h f in
       by-test (eqb p.id i)
       (λ y. let q = eqb-true p.id i y in
-      rw (n, y, lt-ltb p.id (suc i) (omega arith)) (omega arith, ap (λ (t : List Posting). p ∷ t) (rw z at r.1)))
+      rw (n, y, lt-ltb p.id (suc i) (omega arith)) (omega arith, rw (next (lower (suc i) l)) (ap (λ (t : List Posting). p ∷ t) (rw z at r.1))))
       (λ m. let q : suc i ≤ p.id = omega (arith, eqb-false p.id i m) in
       let u : slice 0 0 l ≡ under i l = rw (z, nothing p l q f) at r.1 in
       rw (n, m, le-ltb p.id (suc i) q) (omega arith, u)))
     where
+      next : (n : ℕ) → 1 + n ≡ suc n
+      next n = omega arith
+
       nothing : (p : Posting) (l : List Posting) → suc i ≤ p.id → every (precedes p) l ≡ true → lower (suc i) l ≡ 0
       nothing p [] h e = refl
       nothing p (q ∷ l) h e =
           let g : p.id ≤ q.id = ⊎_elim (λ a. omega arith) (λ a. omega arith) (precedes-cases p q (and_left _ _ e)) in
           rw (le-ltb q.id (suc i) (omega arith))
-
--- ---- the turns of the search for it: the first n places of the array are used
-
-module _ (x : ℕ) (all : List Posting) (n i : ℕ) (fits : n ≤ length all) where
-  -- it ends at the first identifier that is not lower
-  pub lower-here : i < n → x ≤ (get_or all i no_posting).id → lower x (drop i (take n all)) ≡ 0
-  lower-here h g = used_turn (lower x) all n i no_posting fits h refl ∙ rw (le-ltb _ x g)
-
-  -- it goes on past a lower one
-  pub lower-on : i < n → (get_or all i no_posting).id < x → lower x (drop i (take n all)) ≡ suc (lower x (drop (i + 1) (take n all)))
-  lower-on h g = used_turn (lower x) all n i no_posting fits h refl ∙ rw (lt-ltb _ x g)
-
-  -- past the last there is none
-  pub lower-end : n ≤ i → lower x (drop i (take n all)) ≡ 0
-  lower-end h = used-end (lower x) all n i fits h refl
 
 -- the places between two lower bounds are those of the identifier
 pub run_lies : (i n : ℕ) (all : List Posting) → n ≤ length all → ordered (take n all) ≡ true
@@ -76,21 +64,6 @@ run_lies i n all fits o a e p q =
     let r = lower-run i (take n all) o in
     let h : e ≤ n = omega (arith, lower-length (suc i) (take n all)) in
     (omega (arith, r.0), h, ap (drop a) (sym (take-take e n all h)) ∙ rw (p, s) r.1)
-
--- ---- packing
-
--- a posting's size fits
-pub size_fits : (n : ℕ) (all : List Posting) (i : ℕ) → n ≤ length all → i < n → every (λ p. in_range p.count) (take n all) ≡ true → nat_abs (get_or all i no_posting).count ≤ 32767
-size_fits n all i f h e =
-    let l : length (take n all) ≡ n = length-take-le n all f in
-    leb-true _ _ (ap (λ (p : Posting). leb (nat_abs p.count) 32767) (sym (get_or-take n all i no_posting h)) ∙ every-at (λ p. in_range p.count) (take n all) no_posting e i (omega arith))
-
--- one word more
-pub pack-more : (R : List ℕ) (all : List Posting) (i : ℕ) → i < length R → i < length all → take i R ≡ map word_for (take i all)
-    → take (i + 1) (set R i (word_for (get_or all i no_posting))) ≡ map word_for (take (i + 1) all)
-pack-more R all i h g e =
-    rw (add-one i, take-suc-set R i (word_for (get_or all i no_posting)) h, take-suc all i no_posting g, e)
-    (sym (map-append word_for (take i all) (get_or all i no_posting ∷ [])))
 
 -- ---- the words of an identifier's postings
 

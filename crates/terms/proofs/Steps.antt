@@ -8,57 +8,57 @@ use Rattle.postings.specs.Sums.{above}
 use Rattle.partitions.specs.Formed.{in_range}
 pub use Rattle.kway.proofs.Ranges.{total-none, quiet, top-step}
 use Rattle.terms.specs.declared.judging.Told.{Told}
-use Rattle.terms.specs.declared.judging.Told.TheVariants.{Malformed, Windows}
-use Rattle.terms.specs.Judged.{total_z, in_ranges, count_at, Spread, unspread, spread, spread_at, formed, risen, told_of, fine_at}
+use Rattle.std.specs.Prelude.{Option, Some, None}
+use Rattle.terms.specs.Judged.{total_z, in_ranges, count_at, unspread, spread, spread_at, formed, risen, told_of, fine_at}
 
 -- a window that counts nothing changes nothing
-pub spread_none : (t : Spread) → spread 0 t ≡ t
-spread_none t = ap₂ {C = Spread} (λ (n m : ℕ). record { windows = n; total = m }) (omega arith) (omega arith)
+pub spread_none : (t : Told) → spread 0 t ≡ t
+spread_none t = ap₂ {C = Told} (λ (n m : ℕ). record { windows = n; total = m }) (omega arith) (omega arith)
 
 module _ (shows : ℕ → Bool) where
   -- sums of 0 count nothing
-  pub still : (w : ℕ) (v : List ℤ) (t : Spread) → AllOf G.Zero v → spread_at shows w v t ≡ t
+  pub still : (w : ℕ) (v : List ℤ) (t : Told) → AllOf G.Zero v → spread_at shows w v t ≡ t
   still w v t z = by-test (shows w) (λ y. rw (y, total-none v z) (spread_none t)) (λ y. rw y (spread_none t))
 
   -- what is told, where n windows count t and x is yet to come
-  abbrev told : ℕ → ℕ → Spread → Told
-  told n t x = Windows (n + x.windows) (t + x.total)
+  abbrev told : ℕ → ℕ → Told → Option Told
+  told n t x = Some (record { windows = n + x.windows; total = t + x.total })
 
   -- the answer, where groups with windows below m are left
-  abbrev pub resume : ℕ → ℕ → ℕ → List Group → Told
-  resume m n t gs = G.resume_all in_ranges quiet (spread_at shows) unspread still Malformed (told n t) m gs
+  abbrev pub resume : ℕ → ℕ → ℕ → List Group → Option Told
+  resume m n t gs = G.resume_all in_ranges quiet (spread_at shows) unspread still None (told n t) m gs
 
   -- at the start all is left
   pub start : (gs : List Group) → told_of shows gs ≡ resume 65536 0 0 gs
   unfolding told_of formed risen G.resume_all
-  start gs = ap₂ (λ (x y : ℕ). cond (formed gs) (Windows x y) Malformed) (omega arith) (omega arith)
+  start gs = ap₂ (λ (x y : ℕ). cond (formed gs) (Some (record { windows = x; total = y })) None) (omega arith) (omega arith)
 
   module _ (m n t : ℕ) (gs : List Group) where
     -- where nothing is left, what is counted is the answer
-    pub ended : top_all 0 gs ≡ 0 → resume m n t gs ≡ Windows n t
-    ended e = G.ended-all in_ranges quiet (spread_at shows) unspread still Malformed (told n t) m gs e ∙ ap₂ Windows (omega arith) (omega arith)
+    pub ended : top_all 0 gs ≡ 0 → resume m n t gs ≡ Some (record { windows = n; total = t })
+    ended e = G.ended-all in_ranges quiet (spread_at shows) unspread still None (told n t) m gs e ∙ ap₂ (λ (x y : ℕ). Some (record { windows = x; total = y })) (omega arith) (omega arith)
 
     -- a head that reaches a window that was passed
-    pub too-high : m < top_all 0 gs → resume m n t gs ≡ Malformed
-    too-high h = G.too-high-all in_ranges quiet (spread_at shows) unspread still Malformed (told n t) m gs h
+    pub too-high : m < top_all 0 gs → resume m n t gs ≡ None
+    too-high h = G.too-high-all in_ranges quiet (spread_at shows) unspread still None (told n t) m gs h
 
     module _ (k : ℕ) (top : top_all 0 gs ≡ suc k) (low : suc k ≤ m) where
       -- what is taken is not well formed, or a sum not in range
-      pub faulty : fine_at k gs ≡ false → resume m n t gs ≡ Malformed
+      pub faulty : fine_at k gs ≡ false → resume m n t gs ≡ None
       faulty e =
           by-test (heads_fine_all k gs)
-          (λ y. G.out-of-range-all in_ranges quiet (spread_at shows) unspread still Malformed (told n t) m gs k top low (rw y at e))
-          (λ y. G.not-formed-all in_ranges quiet (spread_at shows) unspread still Malformed (told n t) m gs k top low y)
+          (λ y. G.out-of-range-all in_ranges quiet (spread_at shows) unspread still None (told n t) m gs k top low (rw y at e))
+          (λ y. G.not-formed-all in_ranges quiet (spread_at shows) unspread still None (told n t) m gs k top low y)
 
       -- one window more
       pub counted : fine_at k gs ≡ true → (c : ℕ) → c ≡ count_at shows k (map (head_vals k) gs) → resume m n t gs ≡ resume k (n + bool_byte (ltb 0 c)) (t + c) (move_all k gs)
       counted f c e =
-          G.went-on-all in_ranges quiet (spread_at shows) unspread still Malformed (told n t) m gs k top low (and_left _ _ f) (and_right (heads_fine_all k gs) _ f)
-          ∙ G.resume-all-same in_ranges quiet (spread_at shows) unspread still Malformed (λ x. told n t (spread_at shows k (map (head_vals k) gs) x)) (told (n + bool_byte (ltb 0 c)) (t + c)) (λ x. rw (← e) (on x (ltb 0 c))) k (move_all k gs)
+          G.went-on-all in_ranges quiet (spread_at shows) unspread still None (told n t) m gs k top low (and_left _ _ f) (and_right (heads_fine_all k gs) _ f)
+          ∙ G.resume-all-same in_ranges quiet (spread_at shows) unspread still None (λ x. told n t (spread_at shows k (map (head_vals k) gs) x)) (told (n + bool_byte (ltb 0 c)) (t + c)) (λ x. rw (← e) (on x (ltb 0 c))) k (move_all k gs)
         where
-          on : (x : Spread) (b : Bool) → Windows (n + (cond b 1 0 + x.windows)) (t + (c + x.total)) ≡ Windows (n + bool_byte b + x.windows) (t + c + x.total)
-          on x true = ap₂ Windows (omega arith) (omega arith)
-          on x false = ap₂ Windows (omega arith) (omega arith)
+          on : (x : Told) (b : Bool) → ◌≡◌ {A = Option Told} (Some (record { windows = n + (cond b 1 0 + x.windows); total = t + (c + x.total) })) (Some (record { windows = n + bool_byte b + x.windows; total = t + c + x.total }))
+          on x true = ap₂ (λ (a b : ℕ). Some (record { windows = a; total = b })) (omega arith) (omega arith)
+          on x false = ap₂ (λ (a b : ℕ). Some (record { windows = a; total = b })) (omega arith) (omega arith)
 
 -- what a sum in range counts
 pub above_most : (z : ℤ) → in_range z ≡ true → above z ≤ 32767

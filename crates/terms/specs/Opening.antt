@@ -1,5 +1,6 @@
 -- Where the lists of an identifier start: in each finished partition, and in the run.
-use Rattle.std.specs.Prelude.{cond, List, [], ◌∷◌, map, ◌≡◌, ℕ, suc, ◌+◌, ◌*◌, ltb, length, take}
+use Rattle.std.specs.Prelude.{List, map, ◌≡◌, ℕ, ◌+◌, ◌*◌, ltb, length, take}
+use Rattle.std.specs.List.{prefix_len}
 use Rattle.postings.specs.declared.Posting.{Posting}
 use Rattle.postings.specs.Pack.{packed, posted}
 use Rattle.postings.specs.Sums.{under}
@@ -13,8 +14,7 @@ use Rattle.terms.specs.Both.{Ready}
 
 -- how many postings at the front have an identifier below i
 abbrev pub lower : ℕ → List Posting → ℕ
-lower i [] = 0
-lower i (p ∷ ps) = cond (ltb p.id i) (suc (lower i ps)) 0
+lower i ps = prefix_len (λ p. ltb p.id i) ps
 
 -- the word of a posting
 abbrev pub word_for : Posting → ℕ

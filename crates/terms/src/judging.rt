@@ -10,8 +10,11 @@ ghost use Rattle.kway.specs.Leads.{Leads};
 ghost use Rattle.heads.specs.Heads.{views};
 ghost use Rattle.terms.specs.Both.{Ready, both as both_of};
 
+use heads::Lists;
+use kway::Source;
+
 // What is taken under a window: whether it is well formed with sums in range, what it counts, one more than the greatest window to come, and the list on
-// the card that leads.
+// the card that leads. All but the first is told of malformed postings too, so that it stands beside a flag and in no option.
 #[derive(Clone, Copy)]
 struct Judged {
     pub fine: bool,
@@ -23,9 +26,9 @@ struct Judged {
 
 // In how many windows that show the sum is above 0, and what these sums come to.
 #[derive(Clone, Copy)]
-pub enum Told {
-    Malformed,
-    Windows(u32, u32),
+pub struct Told {
+    pub windows: u32,
+    pub total: u32,
 }
 
 // What a window counts, if it shows.
@@ -58,25 +61,24 @@ fn judge_window(
 {
     let at = 4 * n;
     let end = at + 4;
-    let t = heads::leading::take_led(card, run, &mut heads[0..at], n, lead, others, key);
-    let q = heads::took(card, run, &mut heads[at..end], key);
+    let lists = Lists { card, run };
+    let t = kway::leading::take_led(&lists, &mut heads[0..at], n, lead, others, key);
+    let q = lists.took(&mut heads[at..end], key);
     let sum = t.sum;
     let total = kway::added(sum, q.count);
     let ranges = kway::in_range(sum) & kway::in_range(total);
-    let fine = (t.fine & q.fine) & ranges;
     let count = kway::above(total);
-    let next = kway::larger(t.next, q.reach);
     Judged {
-        fine: fine,
-        count: count,
-        next: next,
+        fine: (t.fine & q.fine) & ranges,
+        count,
+        next: t.next.max(q.reach),
         at: t.at,
         others: t.others,
     }
 }
 
-// The whole merge, by falling window. `current` is the open window's number, or 0: it is judged and counts nothing, and so is a window outside the stretch from
-// `first` to `last`. No list may reach a window that was passed. The heads are spent by it.
+// The whole merge, by falling window: `None` where what is read is malformed. `current` is the open window's number, or 0: it is judged and counts nothing, and so
+// is a window outside the stretch from `first` to `last`. No list may reach a window that was passed. The heads are spent by it.
 pub fn judge(
     card: &[u8],
     run: &[u32],
@@ -85,26 +87,26 @@ pub fn judge(
     current: u32,
     first: u32,
     last: u32,
-) -> Told
+) -> Option<Told>
     requires { (length heads.old ≡ 4 * n + 4) × (n ≤ 51) × Ready (words_of card.now) run.now n heads.old }
     ensures { result ≡ told_of (shows_in (record { first = first; last = last }) current) (both_of (words_of card.now) run.now n heads.old) }
 {
-    let l = heads::leading::leader(card, run, heads, n);
-    let mut top = kway::larger(l.top, heads[4 * n]);
+    let l = kway::leading::leader(&Lists { card, run }, heads, n);
+    let mut top = l.top.max(heads[4 * n]);
     let mut at = l.at;
     let mut others = l.others;
     let mut bound: u32 = 65536;
     let mut windows: u32 = 0;
     let mut total: u32 = 0;
+    // by falling window, whichever list has it: no index is counted
     while 0 < top {
         if bound < top {
-            return Told::Malformed;
+            return None;
         }
         let w = top - 1;
         let t = judge_window(card, run, heads, n, at, others, w);
-        let fine = t.fine;
-        if !fine {
-            return Told::Malformed;
+        if !t.fine {
+            return None;
         }
         let count = shown(t.count, ((first <= w) & (w <= last)) & (w != current));
         windows += (0 < count) as u32;
@@ -114,5 +116,5 @@ pub fn judge(
         others = t.others;
         bound = w;
     }
-    Told::Windows(windows, total)
+    Some(Told { windows, total })
 }

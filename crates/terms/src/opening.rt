@@ -20,12 +20,8 @@ pub fn pack_run(b: Buffer, run: &mut [u32])
     requires { (b.used ≤ 128) × (length run.old ≡ 128) × (every (λ p. in_range p.count) (buffered b) ≡ true) }
     ensures { Packed b run.new }
 {
-    let n = b.used as usize;
-    let mut i: usize = 0;
-    while i < n {
-        let p = b.postings[i];
+    for (i, p) in b.buffered().iter().enumerate() {
         run[i] = postings::pack(p.count, p.window);
-        i += 1;
     }
 }
 
@@ -34,16 +30,8 @@ fn lower(b: Buffer, id: u32) -> u16
     requires { b.used ≤ 128 }
     ensures { result ≡ lower_of id (buffered b) }
 {
-    let n = b.used;
-    let mut i: u16 = 0;
-    while i < n {
-        let p = b.postings[i as usize];
-        if id <= p.id as u32 {
-            return i;
-        }
-        i += 1;
-    }
-    i
+    let lower = b.buffered().iter().take_while(|p| (p.id as u32) < id);
+    lower.count() as u16
 }
 
 // Puts the head of the buffer's postings of an identifier, which stand together.
@@ -66,16 +54,10 @@ fn open_lists(card: &[u8], run: &[u32], heads: &mut [u32], ps: Partitions, id: u
         × (map (listed (words_of card.now) run.now id) (parts 4 ps.used heads.new)
         ≡ map (λ p. under id (postings_of (words_of card.now) p)) (finished ps)) }
 {
-    let n = ps.used as usize;
-    let mut i: usize = 0;
-    while i < n {
-        let p = ps.records[i];
-        let c = partitions::find_list(card, p, id);
+    for (i, p) in ps.finished().iter().enumerate() {
+        let c = partitions::find_list(card, *p, id);
         let place = 1024 * c.block as u32 + c.word as u32;
-        let at = 4 * i;
-        let end = at + 4;
-        heads::put(card, run, &mut heads[at..end], place, c.left);
-        i += 1;
+        heads::put(card, run, &mut heads[4 * i..4 * i + 4], place, c.left);
     }
 }
 

@@ -1,6 +1,6 @@
 -- Digits read one after another.
 use Rattle.lists.proofs.Prelude.{true, false, ◌&&◌, List, ◌∷◌, ◌≡◌, sym, ◌∙◌, ap, ℕ, ◌+◌, ◌-◌, ◌*◌, ◌^◌, ◌≤◌, ◌<◌, add-one, pow-succ', pow-le-pow_right, arith, leb, length, get_or, drop, leb-true, and_left, and_right, turn, end}
-use mathlib.Core.Option.{none, some}
+use Rattle.std.specs.Prelude.{None, Some}
 use Rattle.texts.specs.Fields.{is_digit, digits_from, number_in}
 
 -- the digits up to i are read, and n is their value
@@ -10,7 +10,7 @@ pub record Reading (f : List ℕ) (n i : ℕ) : Type 0 where
   pub small : n < 10 ^ i
   pub rest : number_in f ≡ digits_from n (drop i f)
 
-pub none-long : (f : List ℕ) → (leb 1 (length f) && leb (length f) 5) ≡ false → none ≡ number_in f
+pub none-long : (f : List ℕ) → (leb 1 (length f) && leb (length f) 5) ≡ false → None ≡ number_in f
 unfolding number_in
 none-long f e = rw e
 
@@ -34,7 +34,7 @@ module _ {f : List ℕ} {n i : ℕ} (s : Reading f n i) where
     at_byte : number_in f ≡ digits_from n (b ∷ drop (i + 1) f)
     at_byte = rw e (turn (digits_from n) f i 0 h s.rest)
 
-    pub no_digit : is_digit b ≡ false → none ≡ number_in f
+    pub no_digit : is_digit b ≡ false → None ≡ number_in f
     unfolding digits_from
     no_digit k = sym (at_byte ∙ rw k)
 
@@ -45,6 +45,6 @@ module _ {f : List ℕ} {n i : ℕ} (s : Reading f n i) where
         let d = digit-range b k in
         record { within = omega arith; short = s.short; small = omega (arith, p, s.small, d.1); rest = at_byte ∙ rw k }
 
-  pub all_read : length f ≤ i → some n ≡ number_in f
+  pub all_read : length f ≤ i → Some n ≡ number_in f
   unfolding digits_from
   all_read h = sym (end (digits_from n) f i h s.rest)

@@ -1,9 +1,7 @@
 -- The fields of a line, and the number that a field gives.
 use Rattle.std.specs.Prelude.{Bool, cond, ◌&&◌, List, [], ◌∷◌, ◌++◌, ℕ, ◌+◌, ◌-◌, ◌*◌, eqb, leb, length}
-use Rattle.std.proofs.Math.Option.{Option, none, some}
+use Rattle.std.specs.Prelude.{Option, None, Some}
 use Rattle.lists.specs.Lists.{any, empty}
-use Rattle.texts.specs.declared.Number.{Number}
-use Rattle.texts.specs.declared.Number.TheVariants as number
 
 -- the fields of what is left of a line, where f is what the field at hand has so far; a space (32) ends a field
 unfoldable pub fields_from : List ℕ → List ℕ → List (List ℕ)
@@ -24,14 +22,9 @@ is_digit b = leb 48 b && leb b 57
 
 -- the number that digits give after n; none where a byte is no digit
 unfoldable pub digits_from : ℕ → List ℕ → Option ℕ
-digits_from n [] = some n
-digits_from n (b ∷ l) = cond (is_digit b) (digits_from (n * 10 + (b - 48)) l) none
+digits_from n [] = Some n
+digits_from n (b ∷ l) = cond (is_digit b) (digits_from (n * 10 + (b - 48)) l) None
 
 -- the number of 1 to 5 digits that a field is
 unfoldable pub number_in : List ℕ → Option ℕ
-number_in f = cond (leb 1 (length f) && leb (length f) 5) (digits_from 0 f) none
-
--- what the code's answer says
-abbrev pub number_of : Number → Option ℕ
-number_of (number.Value n) = some n
-number_of number.Nothing = none
+number_in f = cond (leb 1 (length f) && leb (length f) 5) (digits_from 0 f) None

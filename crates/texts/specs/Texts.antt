@@ -1,10 +1,11 @@
 -- The text of an answer.
+use Rattle.std.specs.Prelude.{Result, Ok, Err}
+use Rattle.answers.specs.declared.Refusal.{Refusal}
 use Rattle.std.specs.Prelude.{cond, List, [], ◌∷◌, ◌++◌, map, ◌≡◌, ℕ, zero, suc, ◌+◌, ◌/◌, ◌%◌, ◌≤◌, ltb, length, take}
 use Rattle.lists.specs.Lists.{joined}
 use Rattle.answers.specs.Answers.{Answer, done, number, hits, mean, forecast, refused}
 use Rattle.answers.specs.declared.Hit.{Hit}
 use Rattle.answers.specs.declared.Found.{Found}
-use Rattle.answers.specs.declared.Found.TheVariants as found
 
 -- n in decimal without leading zeros: what stands before the last digit, then that one; `turns` of at least n never ends it early
 unfoldable pub decimal_in : ℕ → ℕ → List ℕ
@@ -48,6 +49,6 @@ pub record Says (buffer : List ℕ) (n : ℕ) (text : List ℕ) : Type 0 where
   pub fits : n ≤ length buffer
 
 -- an answer lists at most 32 hits
-abbrev pub Few : Found → Type 0
-Few (found.Hits n taken) = n ≤ 32
-Few (found.Refused r) = Unit {0}
+abbrev pub Few : Result Found Refusal → Type 0
+Few (Ok f) = f.hits ≤ 32
+Few (Err r) = Unit {0}

@@ -2,16 +2,9 @@
 #![tactic(auto)]
 
 ghost use Rattle.std.specs.Prelude.{map, ◌≡◌, ◌≤◌, length, take};
-ghost use Rattle.texts.specs.Fields.{parts_of, number_in, number_of};
+ghost use Rattle.texts.specs.Fields.{parts_of, number_in};
 
 pub mod writing; // the text of an answer
-
-// The number that a field is, or nothing.
-#[derive(Clone, Copy)]
-pub enum Number {
-    Value(u32),
-    Nothing,
-}
 
 // Puts the fields of a line into `parts` and gives their number: 0 where the line is longer than 512 bytes or a field is empty.
 pub fn split<'a>(line: &'a [u8], parts: &mut [&'a [u8]]) -> usize
@@ -23,49 +16,36 @@ pub fn split<'a>(line: &'a [u8], parts: &mut [&'a [u8]]) -> usize
     }
     let mut n: usize = 0;
     let mut start: usize = 0;
-    let mut i: usize = 0;
-    while i < line.len() {
-        if line[i] == 32 {
+    for i in 0..line.len() {
+        if line[i] == b' ' {
             if start == i {
                 return 0;
             }
-            let part = &line[start..i];
-            parts[n] = part;
+            parts[n] = &line[start..i];
             n += 1;
             start = i + 1;
         }
-        i += 1;
     }
-    if start == i {
+    if start == line.len() {
         return 0;
     }
-    let last = &line[start..i];
-    parts[n] = last;
+    parts[n] = &line[start..];
     n + 1
 }
 
 // The number of 1 to 5 digits that a field is.
-pub fn read_number(field: &[u8]) -> Number
-    ensures { number_of result ≡ number_in field.now }
+pub fn read_number(field: &[u8]) -> Option<u32>
+    ensures { result ≡ number_in field.now }
 {
     if !((1 <= field.len()) & (field.len() <= 5)) {
-        return Number::Nothing;
+        return None;
     }
     let mut n: u32 = 0;
-    let mut i: usize = 0;
-    while i < field.len() {
-        let b = wide(field[i]);
-        if !((48 <= b) & (b <= 57)) {
-            return Number::Nothing;
+    for b in field {
+        if !b.is_ascii_digit() {
+            return None;
         }
-        n = n * 10 + (b - 48);
-        i += 1;
+        n = n * 10 + (*b - b'0') as u32;
     }
-    Number::Value(n)
-}
-
-fn wide(b: u8) -> u32
-    ensures { result ≡ b }
-{
-    b as u32
+    Some(n)
 }

@@ -5,7 +5,7 @@ ghost use Rattle.answers.specs.Answers.{refused, hits as Answer·hits};
 ghost use Rattle.answers.specs.Numbers.{refusal_number, replied, opened_as, found_as};
 ghost use Rattle.texts.specs.Texts.{decimal, pair_text, hit_text, answer_text, unknown_text, Wrote, Says, Few};
 
-use answers::{Found, Hit, Opened, Refusal, Reply};
+use answers::{Found, Hit, Refusal};
 
 // One byte.
 fn put_byte(out: &mut [u8], n: usize, b: u8) -> usize
@@ -21,12 +21,9 @@ fn put_bytes(out: &mut [u8], n: usize, added: &[u8]) -> usize
     requires { n + length added.now ≤ length out.old }
     ensures { Wrote out.old n added.now out.new result }
 {
-    let mut i: usize = 0;
-    while i < added.len() {
-        out[n + i] = added[i];
-        i += 1;
-    }
-    n + i
+    let end = n + added.len();
+    out[n..end].copy_from_slice(added);
+    end
 }
 
 // A number in decimal: at most 10 bytes.
@@ -45,9 +42,9 @@ fn put_pair(out: &mut [u8], n: usize, a: u32, b: u32) -> usize
     ensures { Wrote out.old n (pair_text a b) out.new result × (result ≤ n + 22) }
 {
     let first = put_number(out, n, a);
-    let space = put_byte(out, first, 32);
+    let space = put_byte(out, first, b' ');
     let second = put_number(out, space, b);
-    put_byte(out, second, 10)
+    put_byte(out, second, b'\n')
 }
 
 // The lines of the first `used` hits.
@@ -56,11 +53,9 @@ fn put_hits(out: &mut [u8], n: usize, hits: [Hit; 32], used: usize) -> usize
     ensures { Wrote out.old n (joined (map hit_text (take used hits))) out.new result × (result ≤ n + used * 22) }
 {
     let mut m = n;
-    let mut i: usize = 0;
-    while i < used {
+    for i in 0..used {
         let h = hits[i];
         m = put_pair(out, m, h.window as u32, h.score);
-        i += 1;
     }
     m
 }
@@ -70,9 +65,9 @@ fn put_refusal(out: &mut [u8], why: Refusal) -> usize
     requires { 1024 ≤ length out.old }
     ensures { Says out.new result (answer_text (refused (refusal_number why))) }
 {
-    let mark = put_byte(out, 0, 33);
-    let number = put_number(out, mark, answers::number_of(why));
-    put_byte(out, number, 10)
+    let mark = put_byte(out, 0, b'!');
+    let number = put_number(out, mark, u32::from(why));
+    put_byte(out, number, b'\n')
 }
 
 // A line of one number.
@@ -81,28 +76,28 @@ fn put_line(out: &mut [u8], value: u32) -> usize
     ensures { Says out.new result (decimal value ++ (10 ∷ [])) }
 {
     let number = put_number(out, 0, value);
-    put_byte(out, number, 10)
+    put_byte(out, number, b'\n')
 }
 
-// The text of a reply.
-pub fn write_reply(out: &mut [u8], reply: Reply) -> usize
+// The text of an answer that gives no value.
+pub fn write_reply(out: &mut [u8], answer: Result<(), Refusal>) -> usize
     requires { 1024 ≤ length out.old }
-    ensures { Says out.new result (answer_text (replied reply)) }
+    ensures { Says out.new result (answer_text (replied answer)) }
 {
-    match reply {
-        Reply::Done => put_line(out, 0),
-        Reply::Refused(why) => put_refusal(out, why),
+    match answer {
+        Ok(()) => put_line(out, 0),
+        Err(why) => put_refusal(out, why),
     }
 }
 
 // The text of an open's answer.
-pub fn write_opened(out: &mut [u8], answer: Opened) -> usize
+pub fn write_opened(out: &mut [u8], answer: Result<u16, Refusal>) -> usize
     requires { 1024 ≤ length out.old }
     ensures { Says out.new result (answer_text (opened_as answer)) }
 {
     match answer {
-        Opened::Number(window) => put_line(out, window as u32),
-        Opened::Refused(why) => put_refusal(out, why),
+        Ok(window) => put_line(out, window as u32),
+        Err(why) => put_refusal(out, why),
     }
 }
 
@@ -116,13 +111,13 @@ fn put_found(out: &mut [u8], used: u16, taken: u32, hits: [Hit; 32]) -> usize
 }
 
 // The text of a query's answer, with its hits beside it.
-pub fn write_found(out: &mut [u8], answer: Found, hits: [Hit; 32]) -> usize
+pub fn write_found(out: &mut [u8], answer: Result<Found, Refusal>, hits: [Hit; 32]) -> usize
     requires { (1024 ≤ length out.old) × Few answer }
     ensures { Says out.new result (answer_text (found_as answer hits)) }
 {
     match answer {
-        Found::Hits(used, taken) => put_found(out, used, taken, hits),
-        Found::Refused(why) => put_refusal(out, why),
+        Ok(f) => put_found(out, f.hits, f.taken, hits),
+        Err(why) => put_refusal(out, why),
     }
 }
 
@@ -131,6 +126,6 @@ pub fn write_unknown(out: &mut [u8]) -> usize
     requires { 1024 ≤ length out.old }
     ensures { Says out.new result unknown_text }
 {
-    let mark = put_byte(out, 0, 63);
-    put_byte(out, mark, 10)
+    let mark = put_byte(out, 0, b'?');
+    put_byte(out, mark, b'\n')
 }

@@ -1,5 +1,5 @@
 -- A list of bytes and the list of its words: each is known by the other.
-use Rattle.lists.proofs.Prelude.{List, [], ◌∷◌, ◌++◌, ◌≡◌, refl, sym, ◌∙◌, ℕ, zero, suc, ◌+◌, ◌*◌, ◌/◌, ◌%◌, ◌^◌, ◌<◌, arith, length, get_or, take, drop, set, replicate, drop-set-lt}
+use Rattle.lists.proofs.Prelude.{List, [], ◌∷◌, ◌++◌, ◌≡◌, refl, sym, ℕ, zero, suc, ◌+◌, ◌*◌, ◌/◌, ◌%◌, ◌^◌, ◌<◌, arith, length, get_or, take, drop, set, replicate}
 use Rattle.words.specs.Words.{joined4, words, bytes, all_ones, Below}
 
 -- Lengths -----------------------------------------------------------------------------------------------------------
@@ -12,6 +12,9 @@ length-words (x ∷ []) = refl
 length-words (x ∷ y ∷ []) = refl
 length-words (x ∷ y ∷ z ∷ []) = refl
 length-words (x ∷ y ∷ z ∷ w ∷ l) = let h = length-words l in omega arith
+
+-- for a crate's `using`
+pub ruleset lengths = (length-words)
 
 -- four bytes for each word
 pub length-bytes : (ws : List ℕ) → length (bytes ws) ≡ 4 * length ws
@@ -46,23 +49,14 @@ word_at (x ∷ y ∷ z ∷ w ∷ l) (suc i) h = rw (four-more i 1, four-more i 2
 
 -- four bytes put in place of a word's are that word put among the words
 pub words-set : (b : List ℕ) (i p q r s : ℕ) → i < length (words b)
-    → words (set (set (set (set b (4 * i) p) (4 * i + 1) q) (4 * i + 2) r) (4 * i + 3) s) ≡ set (words b) i (joined4 p q r s)
+    → words (take (4 * i) b ++ (p ∷ q ∷ r ∷ s ∷ drop 4 (drop (4 * i) b))) ≡ set (words b) i (joined4 p q r s)
 unfolding words
 words-set [] i p q r s h = absurd (omega arith)
 words-set (x ∷ []) i p q r s h = absurd (omega arith)
 words-set (x ∷ y ∷ []) i p q r s h = absurd (omega arith)
 words-set (x ∷ y ∷ z ∷ []) i p q r s h = absurd (omega arith)
 words-set (x ∷ y ∷ z ∷ w ∷ l) zero p q r s h = refl
-words-set (x ∷ y ∷ z ∷ w ∷ l) (suc i) p q r s h =
-    rw (four-more i 1, four-more i 2, four-more i 3, four-on i) (rw (words-set l i p q r s (omega arith)))
-
--- and the bytes past the last whole word are as they were
-pub rest-set : (b : List ℕ) (i p q r s : ℕ) → i < length (words b)
-    → drop (4 * length (words b)) (set (set (set (set b (4 * i) p) (4 * i + 1) q) (4 * i + 2) r) (4 * i + 3) s) ≡ drop (4 * length (words b)) b
-rest-set b i p q r s h =
-    let n = 4 * length (words b) in
-    drop-set-lt n _ (4 * i + 3) s (omega arith) ∙ drop-set-lt n _ (4 * i + 2) r (omega arith)
-    ∙ drop-set-lt n _ (4 * i + 1) q (omega arith) ∙ drop-set-lt n b (4 * i) p (omega arith)
+words-set (x ∷ y ∷ z ∷ w ∷ l) (suc i) p q r s h = rw (four-on i) (rw (words-set l i p q r s (omega arith)))
 
 -- words of bytes are below 2 ^ 32
 pub words-below : (b : List ℕ) → Below 256 b → Below 4294967296 (words b)

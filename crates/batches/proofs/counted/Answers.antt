@@ -1,4 +1,4 @@
-use Rattle.lists.proofs.Prelude.{arith, rules}
+use Rattle.lists.proofs.Prelude.{arith}
 use Rattle.batches.proofs.counted.Goals as goal
 
 pub returns-then-flush : goal.returns-then-flush

@@ -1,4 +1,4 @@
-use Rattle.lists.proofs.Prelude.{sym, ap, ◌∙◌, add-one, arith, not-true, not-false, rules}
+use Rattle.lists.proofs.Prelude.{sym, ap, ◌∙◌, add-one, arith, not-true, not-false}
 use Rattle.words.specs.Words.{words}
 use Rattle.answers.specs.Answers.{answer_of}
 use Rattle.batches.proofs.Verdicts.{level-full, half_full, too_few, flush-fits}

@@ -1,4 +1,4 @@
-use Rattle.lists.proofs.Prelude.{◌&&◌, ◌||◌, false, not, ◌≡◌, sym, ap, ◌∙◌, eqb, ltb, not-true, not-false, rules}
+use Rattle.lists.proofs.Prelude.{◌&&◌, ◌||◌, false, not, ◌≡◌, sym, ap, ◌∙◌, eqb, ltb, not-true, not-false}
 use Rattle.words.specs.Words.{words}
 use Rattle.answers.specs.Answers.{answer_of}
 use Rattle.sums.specs.Views.{counts_in}

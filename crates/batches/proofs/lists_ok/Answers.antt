@@ -1,6 +1,6 @@
 use Rattle.lists.proofs.Prelude.{◌≡◌, ◌+◌, ◌-◌, ◌*◌, arith, length, length-drop, length-take-le, take, drop, not-true, not-false, rules}
 use Rattle.words.specs.Words.{words}
-use Rattle.batches.proofs.Passes.{Passing, passing-none, passing-more, passing-bad, passing-end}
+use Rattle.batches.proofs.Passes.{passing-none, passing-more, passing-bad, passing-end}
 use Rattle.batches.proofs.lists_ok.Goals as goal
 
 pub read_all-fine-requires : goal.read_all-fine-requires

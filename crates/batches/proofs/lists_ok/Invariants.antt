@@ -1,6 +1,6 @@
-use Rattle.lists.proofs.Prelude.{◌≡◌, ◌+◌, ◌-◌, ◌*◌, arith, length, length-drop, length-take-le, take, drop, not-true, not-false, rules}
+use Rattle.lists.proofs.Prelude.{◌-◌}
 use Rattle.words.specs.Words.{words}
-use Rattle.batches.proofs.Passes.{Passing, passing-none, passing-more, passing-bad, passing-end}
+use Rattle.batches.proofs.Passes.{Passing}
 use Rattle.batches.proofs.lists_ok.Given as goal
 
 abbrev pub invariant-loop-s : goal.invariant-loop-s

@@ -1,21 +1,18 @@
-use denote.Enum.Declared.{tag_of}
-use Rattle.lists.proofs.Prelude.{refl, sym, ap, ◌∙◌, rules}
+use Rattle.lists.proofs.Prelude.{sym, ap, ◌∙◌}
 use Rattle.answers.specs.Numbers.{replied}
-use Rattle.answers.specs.contracts.Reply.{the_type}
-use Rattle.answers.proofs.Unrefused.{reply-done}
 use Rattle.batches.proofs.Turns.{gives-refused, gives-done}
 use Rattle.batches.proofs.remove_all.Goals as goal
 
 pub remove_each-requires : goal.remove_each-requires
 remove_each-requires c =
-    sym c.judge-verdict.ensures ∙ ap replied (reply-done (tag_of the_type) (λ why. refl) c.judge-verdict.result c.in-Done.in-Done-own.keys2)
+    sym c.judge.ensures ∙ ap replied c.in-Ok.is
 
-pub returns-in-Refused : goal.returns-in-Refused
-returns-in-Refused c =
+pub returns-in-Err : goal.returns-in-Err
+returns-in-Err c =
     let s = c.args in
-    rw c.refuse.ensures (gives-refused s.s s.card.now s.named.now _ (ap replied (sym c.in-Refused.is) ∙ c.judge-verdict.ensures))
+    rw c.refuse.ensures (gives-refused s.s s.card.now s.named.now _ (ap replied (sym c.in-Err.is) ∙ c.judge.ensures))
 
-pub returns-in-Done : goal.returns-in-Done
-returns-in-Done c =
+pub returns-in-Ok : goal.returns-in-Ok
+returns-in-Ok c =
     let s = c.args in
     rw c.done.ensures (gives-done s.s s.card.now s.named.now _ _ c.remove_each.ensures)

@@ -1,21 +1,14 @@
-use Rattle.lists.proofs.Prelude.{refl, sym, ◌∙◌, arith}
-use Rattle.words.specs.Words.{words}
-use Rattle.blocks.proofs.Taking.{free-past, free-not, free-end}
+-- `blocks::is_free` meets its contract: the test of each place of the block is one of each of its words.
+use Rattle.lists.proofs.Prelude.{◌∙◌, ◌+◌, ◌*◌, get_or, arith, rules, eqb}
+use borrow.Author.Tests.{tests}
+use Rattle.std.proofs.lemmas.Iterator.{YieldsList-from_range}
+use Rattle.std.proofs.lemmas.Iterator.Search.{all_from_yields_List}
+use Rattle.words.specs.Words.{words, all_ones}
+use Rattle.blocks.proofs.Taking.{every-places}
 use Rattle.blocks.proofs.is_free.Goals as goal
-
-pub loop-at-init : goal.loop-at-init
-loop-at-init c = (omega arith, refl)
-
-pub returns-then-block_word : goal.returns-then-block_word
-returns-then-block_word c =
-    let W = words c.args.card.now in
-    sym (c.loop-at.invariant.1 ∙ free-not W c.args.block c.requires c.loop-at.at (omega arith) (λ e. c.if-block_word.true (c.block_word.ensures ∙ e)))
-
-pub loop-at-preserved : goal.loop-at-preserved
-loop-at-preserved c =
-    let W = words c.args.card.now in
-    (omega arith, c.loop-at.invariant.1 ∙ free-past W c.args.block c.requires c.loop-at.at (omega arith) (sym c.block_word.ensures ∙ c.if-block_word.false))
 
 pub returns : goal.returns
 returns c =
-    sym (c.loop-at.invariant.1 ∙ free-end (words c.args.card.now) c.args.block c.requires c.loop-at.at (omega arith))
+    let W = words c.args.card.now in
+    all_from_yields_List (λ i. eqb (get_or W (1024 * c.args.block + i) 0) all_ones) _ _ _ c.all.ensures.ran (YieldsList-from_range 0 1024 1024 (cc) (omega arith)) (λ x b q k. search (rules, tests))
+    ∙ every-places W (1024 * c.args.block) all_ones 1024 (omega arith)

@@ -1,33 +1,12 @@
-use Rattle.lists.proofs.Prelude.{List, ◌≡◌, refl, sym, ap, ap₂, ◌∙◌, ℕ, ◌+◌, ◌-◌, arith, rules, get_or, set, unmapped}
-use Rattle.lists.proofs.Shifts.{raised, raised-none, raised-more}
+use Rattle.lists.proofs.Prelude.{List, ap, ◌∙◌, ◌+◌, set}
+use Rattle.lists.proofs.Shifts.{raised_copied}
 use Rattle.postings.specs.declared.Posting.{Posting}
-use Rattle.state.specs.Views.{no_posting}
 use Rattle.buffer.proofs.Canonical.{made, insert-made}
 use Rattle.buffer.proofs.insert.Goals as goal
-
-pub loop-i-init : goal.loop-i-init
-loop-i-init c =
-    let b = c.args.b in
-    (search (unmapped, rules), omega arith, omega arith, refl, sym (raised-none b.used b.postings))
-
-pub loop-i-preserved : goal.loop-i-preserved
-loop-i-preserved c =
-    let b = c.args.b in
-    let i = c.loop-i.i in
-    let v = c.loop-i.invariant in
-    let len = v.0 in (
-      len,
-      omega arith,
-      omega arith,
-      v.3,
-      ap (λ (xs : List Posting). set xs i (get_or xs (i - 1) no_posting)) v.4 ∙ raised-more no_posting b.used i b.postings (omega arith) (omega arith) (omega arith),
-    )
 
 pub returns : goal.returns
 returns c =
     let b = c.args.b in
     let k = c.args.k in
-    let v = c.loop-i.invariant in
-    let e : c.loop-i.i ≡ k = omega arith in
-    ap₂ (λ (u : ℕ) (xs : List Posting). made (u + 1) (set xs k c.args.p)) v.3 (v.4 ∙ ap (λ (j : ℕ). raised b.used j b.postings) e)
+    ap (λ (xs : List Posting). made (b.used + 1) (set xs k c.args.p)) (c.copy_within.ensures.after ∙ raised_copied b.used k b.postings c.requires.2)
     ∙ insert-made b c.requires.0 k c.args.p c.requires.2 c.requires.1

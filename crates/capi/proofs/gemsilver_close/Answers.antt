@@ -1,5 +1,5 @@
 -- `capi::gemsilver_close` meets its contract.
-use Rattle.lists.proofs.Prelude.{arith, rules}
+use Rattle.lists.proofs.Prelude.{arith}
 use Rattle.windows.specs.Calls.{close_of}
 use Rattle.windows.proofs.Refused.{close-unchanged}
 use Rattle.capi.specs.Exports.{close_on}

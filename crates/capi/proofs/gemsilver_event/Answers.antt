@@ -1,5 +1,5 @@
 -- `capi::gemsilver_event` meets its contract.
-use Rattle.lists.proofs.Prelude.{arith, rules}
+use Rattle.lists.proofs.Prelude.{arith}
 use Rattle.events.specs.Event.{event_of}
 use Rattle.events.proofs.Refused.{event-unchanged}
 use Rattle.capi.specs.Exports.{event_on}

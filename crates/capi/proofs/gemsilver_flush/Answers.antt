@@ -1,5 +1,5 @@
 -- `capi::gemsilver_flush` meets its contract.
-use Rattle.lists.proofs.Prelude.{arith, rules}
+use Rattle.lists.proofs.Prelude.{arith}
 use Rattle.flushes.specs.Flush.{flush_of}
 use Rattle.flushes.proofs.Refused.{flush-unchanged}
 use Rattle.capi.specs.Exports.{flush_on}

@@ -1,5 +1,5 @@
 -- `capi::gemsilver_forecast` meets its contract.
-use Rattle.lists.proofs.Prelude.{not, refl, sym, ap, ◌∙◌, not-false, rules}
+use Rattle.lists.proofs.Prelude.{not, refl, sym, ap, ◌∙◌, not-false}
 use Rattle.answers.specs.Answers.{Answer, refuse_if}
 use Rattle.numbers.specs.Images.{number_for, told_by}
 use Rattle.capi.specs.Queries.{forecast_on}

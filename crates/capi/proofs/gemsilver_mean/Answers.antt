@@ -1,5 +1,5 @@
 -- `capi::gemsilver_mean` meets its contract.
-use Rattle.lists.proofs.Prelude.{not, sym, ap, ◌∙◌, not-false, rules}
+use Rattle.lists.proofs.Prelude.{not, sym, ap, ◌∙◌, not-false}
 use Rattle.answers.specs.Answers.{refuse_if}
 use Rattle.numbers.specs.Images.{number_for}
 use Rattle.capi.specs.Queries.{mean_on}

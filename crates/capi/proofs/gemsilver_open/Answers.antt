@@ -1,5 +1,5 @@
 -- `capi::gemsilver_open` meets its contract.
-use Rattle.lists.proofs.Prelude.{arith, rules}
+use Rattle.lists.proofs.Prelude.{arith}
 use Rattle.windows.specs.Calls.{open_of}
 use Rattle.windows.proofs.Refused.{open-unchanged}
 use Rattle.capi.specs.Exports.{open_on}

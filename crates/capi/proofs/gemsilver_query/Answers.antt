@@ -1,5 +1,5 @@
 -- `capi::gemsilver_query` meets its contract.
-use Rattle.lists.proofs.Prelude.{not, map, sym, ap, ◌∙◌, arith, not-false, rules}
+use Rattle.lists.proofs.Prelude.{not, map, sym, ap, ◌∙◌, arith, not-false}
 use Rattle.windows.specs.Promises.{probe_of}
 use Rattle.numbers.specs.Images.{state_on}
 use Rattle.capi.specs.Queries.{query_on}

@@ -1,5 +1,5 @@
 -- `capi::gemsilver_remove` meets its contract.
-use Rattle.lists.proofs.Prelude.{arith, rules}
+use Rattle.lists.proofs.Prelude.{arith}
 use Rattle.removals.specs.Removal.{remove_of}
 use Rattle.removals.proofs.Refused.{removal-unchanged}
 use Rattle.capi.specs.Exports.{remove_on}

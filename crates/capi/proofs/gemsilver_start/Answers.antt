@@ -1,5 +1,5 @@
 -- `capi::gemsilver_start` meets its contract.
-use Rattle.lists.proofs.Prelude.{eq-eqb, ne_eqb, rules}
+use Rattle.lists.proofs.Prelude.{eq-eqb, ne_eqb}
 use Rattle.numbers.specs.Images.{imaged}
 use Rattle.capi.proofs.Carried.{start-short, on-start}
 use Rattle.capi.proofs.gemsilver_start.Goals as goal

@@ -1,5 +1,5 @@
 -- `capi::gemsilver_step` meets its contract.
-use Rattle.lists.proofs.Prelude.{arith, rules}
+use Rattle.lists.proofs.Prelude.{arith}
 use Rattle.plans.specs.Step.{step_of}
 use Rattle.merges.proofs.Refused.{step-unchanged}
 use Rattle.capi.specs.Exports.{step_on}

@@ -1,4 +1,4 @@
-use Rattle.lists.proofs.Prelude.{ap, ◌∙◌, rules}
+use Rattle.lists.proofs.Prelude.{ap, ◌∙◌}
 use Rattle.answers.specs.Answers.{answer_of}
 use Rattle.state.specs.declared.State.{State}
 use Rattle.windows.specs.Promises.{store_of}
@@ -8,4 +8,4 @@ use Rattle.capi.proofs.judge_list.Goals as goal
 pub returns : goal.returns
 returns c =
     let a = c.args in
-    c.reply_number.ensures ∙ c.judge-verdict.ensures ∙ ap (λ (s : State). answer_of (remove_all_of (store_of s a.card.now) a.windows.now)) c.read_state-s.ensures
+    c.judge.ensures ∙ ap (λ (s : State). answer_of (remove_all_of (store_of s a.card.now) a.windows.now)) c.read_state-s.ensures

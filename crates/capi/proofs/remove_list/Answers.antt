@@ -1,4 +1,4 @@
-use Rattle.lists.proofs.Prelude.{ap, ◌∙◌, rules}
+use Rattle.lists.proofs.Prelude.{ap, ◌∙◌}
 use Rattle.answers.specs.Answers.{answer_of}
 use Rattle.state.specs.declared.State.{State}
 use Rattle.windows.specs.Promises.{store_of}

@@ -1,5 +1,5 @@
 -- `census::count` meets its contract: partitions whose records tell other windows are malformed, and of the others the parts tell.
-use Rattle.lists.proofs.Prelude.{sym, ◌∙◌, subst, never, arith, passed, failed, rules}
+use Rattle.lists.proofs.Prelude.{sym, subst, arith, passed, failed, rules}
 use mir.Syntax.{w16}
 use mir.Val.{Fits}
 use Rattle.words.specs.Words.{words}
@@ -21,9 +21,7 @@ spans_ok-requires c =
 
 pub returns-then-not-spans_ok : goal.returns-then-not-spans_ok
 returns-then-not-spans_ok c =
-    let m = c.malformed.ensures in
-    let e = lists-unspanned (words c.args.card.now) (finished c.args.s.partitions) (failed c.spans_ok.ensures c.if-not-spans_ok.true-raw) in
-    record { fine = m.0 ∙ sym e; windows = λ y. never (sym m.0 ∙ y); few = omega (arith, m.1) }
+    lists-unspanned (words c.args.card.now) (finished c.args.s.partitions) (failed c.spans_ok.ensures c.if-not-spans_ok.true-raw)
 
 pub count_parts-requires : goal.count_parts-requires
 count_parts-requires c =

@@ -6,9 +6,9 @@ use Rattle.partitions.specs.Reading.{in_partitions}
 use Rattle.census.proofs.Parts.{so_far}
 use Rattle.census.proofs.count_parts.Given as goal
 
-abbrev pub invariant-loop-ps : goal.invariant-loop-ps
-invariant-loop-ps l =
+abbrev pub invariant-loop-more : goal.invariant-loop-more
+invariant-loop-more l =
     (1 ≤ l.from) × (l.t.first ≤ l.from) × (length l.heads ≡ 510) × (length l.marks ≡ l.n) × (l.windows ≡ so_far l.t l.v (in_partitions (words l.card) (finished l.ps) ++ buffered l.b) l.from)
 
-abbrev pub decreases-loop-ps : goal.decreases-loop-ps
-decreases-loop-ps l = 65536 - l.from
+abbrev pub decreases-loop-more : goal.decreases-loop-more
+decreases-loop-more l = 65536 - l.from

@@ -10,14 +10,14 @@ use Rattle.sums.proofs.Tally.{buffer_items}
 use Rattle.sums.proofs.Buffers.{Shown, shown-under, shown-some, shown-none, buffer-small, buffer-past}
 use Rattle.census.proofs.Marks.{step-few}
 use Rattle.census.proofs.Counts.{counted-few}
-use Rattle.census.proofs.Walking.{going_start, stop-ended, stop-high, stop-formed, goes_on, told, not-told}
+use Rattle.census.proofs.Walking.{going_start, stop-ended, stop-high, stop-formed, goes_on, told}
 use Rattle.census.proofs.walk.Goals as goal
 use Rattle.census.proofs.walk.Lts as lts
 use Rattle.census.proofs.walk.Tie as tie
 use Rattle.census.proofs.walk.Reads as reads
 
-abbrev After-larger : Type 0
-After-larger = lts.After-larger tie.the-claims reads.Pre reads.Post goal.the-invariant-loop-at goal.the-decreases-loop-at tie.handed_clauses
+abbrev After-max-top : Type 0
+After-max-top = lts.After-max tie.the-claims reads.Pre reads.Post goal.the-invariant-loop-at goal.the-decreases-loop-at tie.handed_clauses
 
 pub leader-l-requires : goal.leader-l-requires
 leader-l-requires c = (c.requires.1, omega (arith, c.requires.0), c.requires.2)
@@ -41,7 +41,7 @@ front_of-front-requires c =
     buffer-small c.args.b c.loop-at.invariant.ok c.loop-at.at c.loop-at.invariant.len c.if-at-used.true
 
 -- what the buffer has to come first
-shown : (c : After-larger) → Shown (buffer_items c.args.b c.loop-at.at) c.if-at-used.front
+shown : (c : After-max-top) → Shown (buffer_items c.args.b c.loop-at.at) c.if-at-used.front
 shown c =
     let v = c.loop-at.invariant in
     let b = c.args.b in
@@ -54,12 +54,12 @@ pub returns-then-top-eq0 : goal.returns-then-top-eq0
 returns-then-top-eq0 c =
     let a = c.args in
     let g = c.loop-at.invariant in
-    told a.t a.v _ _ c.loop-at.marks c.loop-at.windows g.counts (stop-ended g c.if-at-used.front (shown c.before.before) c.larger-top.result c.larger-top.ensures c.if-top-eq0.true)
+    told a.t a.v _ _ c.loop-at.marks c.loop-at.windows g.counts (stop-ended g c.if-at-used.front (shown c.before.before) c.max-top.result c.max-top.ensures c.if-top-eq0.true)
 
 pub returns-then-bound-top : goal.returns-then-bound-top
 returns-then-bound-top c =
     let g = c.loop-at.invariant in
-    not-told _ _ _ c.malformed.result (stop-high g c.if-at-used.front (shown c.before.before.before.before) c.larger-top.result c.larger-top.ensures c.if-bound-top.true) c.malformed.ensures.0 c.malformed.ensures.1
+    stop-high g c.if-at-used.front (shown c.before.before.before) c.max-top.result c.max-top.ensures c.if-bound-top.true
 
 pub take_led-k-requires : goal.take_led-k-requires
 take_led-k-requires c =
@@ -70,9 +70,7 @@ pub returns-then-not-k : goal.returns-then-not-k
 returns-then-not-k c =
     let g = c.loop-at.invariant in
     let k = c.take_led-k in
-    not-told _ _ _ c.malformed-then-not-k.result
-    (stop-formed g c.if-at-used.front (shown c.before.before.before.before.before.before.before.before.before.before) c.larger-top.result c.larger-top.ensures (c.larger-top.result - 1) (omega (arith, c.if-top-eq0.false)) c.if-bound-top.false k.result.fine k.ensures.taken.1 (not-true _ c.if-not-k.true))
-    c.malformed-then-not-k.ensures.0 c.malformed-then-not-k.ensures.1
+    stop-formed g c.if-at-used.front (shown c.before.before.before.before.before.before.before.before.before.before) c.max-top.result c.max-top.ensures (c.max-top.result - 1) (omega (arith, c.if-top-eq0.false)) c.if-bound-top.false k.result.fine k.ensures.taken.1 (not-true _ c.if-not-k.true)
 
 pub added-total-requires : goal.added-total-requires
 added-total-requires c =
@@ -100,8 +98,8 @@ loop-at-preserved c =
     let l = c.loop-at in
     let g = l.invariant in
     let t = c.take_led-k in
-    let k = c.larger-top.result - 1 in
-    let h : c.larger-top.result ≡ suc k = omega (arith, c.if-top-eq0.false) in
+    let k = c.max-top.result - 1 in
+    let h : c.max-top.result ≡ suc k = omega (arith, c.if-top-eq0.false) in
     let x = c.added-total in
     let u = c.count_under in
     let m = c.mark_window-windows in
@@ -109,11 +107,11 @@ loop-at-preserved c =
     let fc : SFits w16 u.result = record { sfits = u.type_inv } in
     let fx : SFits w32 x.result = record { sfits = x.type_inv } in
     let total : x.result ≡ head_vals k (views (words c.args.card.now) c.args.n l.heads) +ℤ head_val k (buffer_items c.args.b l.at) =
-    x.ensures ∙ rw (to_z-of_z fs, to_z-of_z fc, u.ensures, shown-under (shown c.before.before.before.before.before.before.before.before.before.before.before.before.before.before.before.before.before.before) c.larger-top.result k h, t.ensures.taken.0) in
+    x.ensures ∙ rw (to_z-of_z fs, to_z-of_z fc, u.ensures, shown-under (shown c.before.before.before.before.before.before.before.before.before.before.before.before.before.before.before.before.before.before.before) c.max-top.result k h, t.ensures.taken.0) in
     let step = rw (to_z-of_z fx, c.key_window.ensures) at m.ensures in
-    goes_on g c.if-at-used.front (shown c.before.before.before.before.before.before.before.before.before.before.before.before.before.before.before.before.before.before) c.larger-top.result c.larger-top.ensures k h c.if-bound-top.false t.result.fine t.ensures.taken.1 (not-false _ c.if-not-k.false) x.result total m.result _ step
+    goes_on g c.if-at-used.front (shown c.before.before.before.before.before.before.before.before.before.before.before.before.before.before.before.before.before.before.before) c.max-top.result c.max-top.ensures k h c.if-bound-top.false t.result.fine t.ensures.taken.1 (not-false _ c.if-not-k.false) x.result total m.result _ step
     _ _ _ _ _ t.ensures.heads.0 t.ensures.heads.1 t.ensures.heads.2
-    (buffer-past c.args.b g.ok l.at g.len g.place c.if-at-used.front (shown c.before.before.before.before.before.before.before.before.before.before.before.before.before.before.before.before.before.before) c.larger-top.result k h c.past-at.result c.past-at.ensures) t.ensures.taken.2 t.ensures.lead
+    (buffer-past c.args.b g.ok l.at g.len g.place c.if-at-used.front (shown c.before.before.before.before.before.before.before.before.before.before.before.before.before.before.before.before.before.before.before) c.max-top.result k h c.past-at.result c.past-at.ensures) t.ensures.taken.2 t.ensures.lead
 
 pub shape_of-heads-then-top-eq0 : goal.shape_of-heads-then-top-eq0
 shape_of-heads-then-top-eq0 c = c.loop-at.invariant.long

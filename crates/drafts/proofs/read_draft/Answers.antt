@@ -45,7 +45,7 @@ returns c =
     let rest = c.rest_free-rest.ensures in
     let b = c.sixteen-b.ensures in
     let on = p.ensures.1 ∙ ap (drop c.args.passed) e in (
-      c.both-2.ensures ∙ ap₂ ◌&&◌ (c.both.ensures ∙ ap₂ ◌&&◌ space refl) rest
+      ap₂ ◌&&◌ (ap₂ ◌&&◌ space refl) rest
           ∙ draft-read W c.args.first c.args.n c.args.front c.args.passed ps c.requires.3 c.requires.5 (ahead W head.result) (ahead W out.result) (ahead W p.result.out) p.result.same head.ensures.0 out.ensures.0 m,
       ap (λ k. 1023 * c.args.n - c.args.front - k) (sym (length-ahead W p.result.out)) ∙ w.1,
       b.0 ∙ ap (λ l. nonzero (take 16 l)) on,

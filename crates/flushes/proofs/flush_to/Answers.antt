@@ -28,4 +28,4 @@ flush-list-requires c =
 
 pub returns : goal.returns
 unfolding flushed_to flushed_card
-returns c = (rw (c.empty_buffer-empty.ensures, c.flush-list.ensures.0), c.flush-list.ensures.1)
+returns c = (rw (c.new.ensures, c.flush-list.ensures.0), c.flush-list.ensures.1)

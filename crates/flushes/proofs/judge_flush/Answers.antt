@@ -1,25 +1,22 @@
-use Rattle.lists.proofs.Prelude.{refl}
-use denote.Enum.Declared.{tag_of}
+use Rattle.std.proofs.lemmas.Result.{err_from_is_err_and}
 use Rattle.state.specs.Rules.{state_rule}
-use Rattle.admission.specs.contracts.Admission.{the_type}
-use Rattle.admission.proofs.Laws.{goes_on, card-sound}
+use Rattle.admission.proofs.Laws.{card-sound}
 use Rattle.flushes.proofs.Flushes.{flush-barred, flush-judged}
 use Rattle.flushes.proofs.judge_flush.Goals as goal
 
 pub target_of-requires : goal.target_of-requires
 target_of-requires c =
     let a = c.args in
-    let go = goes_on (tag_of the_type) (λ why. refl) c.judge_card-a.result c.in-Granted.in-Granted-own.keys2 in
-    let k = card-sound (state_rule a.s) a.s.lengths a.card.now (rw (go, c.state_ok.ensures) at c.judge_card-a.ensures) in
+    let k = card-sound (state_rule a.s) a.s.lengths a.card.now (rw (c.in_ok-judge_card.was, c.state_ok.ensures) at c.judge_card.ensures) in
     (k.rule, k.size)
 
-pub returns-in-Refused : goal.returns-in-Refused
-returns-in-Refused c =
+pub returns-in_err-judge_card : goal.returns-in_err-judge_card
+returns-in_err-judge_card c =
     let a = c.args in
-    flush-barred a.s a.card.now c.in-Refused.why (rw (c.in-Refused.is, c.state_ok.ensures) at c.judge_card-a.ensures)
+    let p = err_from_is_err_and c.from_residual.result c.from_residual.ensures.1 in
+    rw (p.1, p.2) (flush-barred a.s a.card.now _ (rw (c.in_err-judge_card.was, c.state_ok.ensures) at c.judge_card.ensures))
 
-pub returns-in-Granted : goal.returns-in-Granted
-returns-in-Granted c =
+pub returns : goal.returns
+returns c =
     let a = c.args in
-    let go = goes_on (tag_of the_type) (λ why. refl) c.judge_card-a.result c.in-Granted.in-Granted-own.keys2 in
-    flush-judged a.s a.card.now (rw (go, c.state_ok.ensures) at c.judge_card-a.ensures) c.target_of.result c.target_of.ensures
+    flush-judged a.s a.card.now (rw (c.in_ok-judge_card.was, c.state_ok.ensures) at c.judge_card.ensures) c.target_of.result c.target_of.ensures

@@ -1,5 +1,4 @@
-use Rattle.lists.proofs.Prelude.{◌≡◌, refl, sym, ap, ◌∙◌, ℕ, suc, ◌+◌, ◌*◌, ◌≤◌, ◌<◌, arith, total_by}
-use denote.Enum.Declared.{tag_of}
+use Rattle.lists.proofs.Prelude.{◌≡◌, sym, ◌∙◌, ℕ, suc, ◌+◌, ◌*◌, ◌≤◌, ◌<◌, arith, total_by}
 use Rattle.words.specs.Words.{words}
 use Rattle.words.proofs.Views.{length-words}
 use Rattle.state.specs.declared.Partition.{Partition}
@@ -8,7 +7,6 @@ use Rattle.state.specs.Views.{blocks, finished}
 use Rattle.state.proofs.Kept.{state-kept}
 use Rattle.card.specs.Blocks.{free_blocks}
 use Rattle.card.specs.Chains.{blocks_for}
-use Rattle.blocks.specs.contracts.Free.{the_type}
 use Rattle.flushes.specs.Flush.{finished_blocks}
 use Rattle.flushes.proofs.Targets.{idle, level-full, half_full, none_free, first-free, block-found, none_found}
 use Rattle.flushes.proofs.target_of.Goals as goal
@@ -52,25 +50,25 @@ returns-then-finished_blocks-blocks c =
     let total = c.finished_blocks.ensures.1 in
     half_full s c.args.card.now c.args.wanted (rw c.is_empty.ensures at c.if-wanted-is_empty.false) (omega (arith, c.if-of_level-ge16.false)) (unfold-total s _ total c.if-finished_blocks-blocks.true)
 
-pub next_free-free-requires : goal.next_free-free-requires
-next_free-free-requires c =
+pub next_free-requires : goal.next_free-requires
+next_free-requires c =
     let k = state-kept c.args.s c.requires.0 in
     (omega (arith, length-words c.args.card.now, k.lengths.card, c.requires.1), k.lengths.most_blocks, omega (arith, k.taken))
 
-pub returns-in-Block : goal.returns-in-Block
-returns-in-Block c =
+pub returns-in-Some : goal.returns-in-Some
+returns-in-Some c =
     let s = c.args.s in
     let level = c.of_level.ensures in
     let total = c.finished_blocks.ensures.1 in
     let card = c.args.card.now in
-    let found = block-found (free_blocks (words card) (blocks s) s.taken) c.in-Block.b (sym c.in-Block.is ∙ c.next_free-free.ensures) in
+    let found = block-found (free_blocks (words card) (blocks s) s.taken) c.in-Some.b (sym c.in-Some.is ∙ c.next_free.ensures) in
     first-free s card c.args.wanted (rw c.is_empty.ensures at c.if-wanted-is_empty.false) (omega (arith, c.if-of_level-ge16.false)) (unfold-within s _ total c.if-finished_blocks-blocks.false) found.0 _ found.1
 
-pub returns-in-Nothing : goal.returns-in-Nothing
-returns-in-Nothing c =
+pub returns-in-None : goal.returns-in-None
+returns-in-None c =
     let s = c.args.s in
     let level = c.of_level.ensures in
     let total = c.finished_blocks.ensures.1 in
     let card = c.args.card.now in
-    let none = none_found (tag_of the_type) (λ v. refl) (free_blocks (words card) (blocks s) s.taken) (ap (tag_of the_type) (sym c.next_free-free.ensures) ∙ c.in-Nothing.in-Nothing-own.keys2) in
+    let none = none_found (free_blocks (words card) (blocks s) s.taken) (sym c.in-None.is ∙ c.next_free.ensures) in
     none_free s card c.args.wanted (rw c.is_empty.ensures at c.if-wanted-is_empty.false) (omega (arith, c.if-of_level-ge16.false)) (unfold-within s _ total c.if-finished_blocks-blocks.false) none

@@ -1,5 +1,5 @@
 -- `forecasts::judge` meets its contract: each test that fails is told by its number, and none where all pass.
-use Rattle.lists.proofs.Prelude.{sym, ◌∙◌, arith, rules, length, eq-eqb, ne_eqb, not-true, not-false}
+use Rattle.lists.proofs.Prelude.{sym, ◌∙◌, arith, length, eq-eqb, ne_eqb, not-true, not-false}
 use Rattle.forecasts.proofs.judge.Goals as goal
 
 pub returns-then-register-l : goal.returns-then-register-l

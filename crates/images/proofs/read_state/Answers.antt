@@ -5,4 +5,4 @@ use Rattle.images.proofs.read_state.Goals as goal
 pub returns : goal.returns
 unfolding state_in
 returns c =
-    rw (c.read_lengths-lengths.ensures, c.read_windows-windows.ensures, c.read_listed-listed.ensures, c.read_buffer-buffer.ensures, c.read_partitions-partitions.ensures, c.narrow-taken.ensures, c.read_merge-merge.ensures)
+    rw (c.lengths.ensures, c.windows.ensures, c.listed.ensures, c.buffer.ensures, c.partitions.ensures, c.narrow.ensures, c.merge.ensures)

@@ -23,9 +23,9 @@ head-requires c =
     let l : 1 ≤ c.args.out.left = rw e at c.requires.1 in
     (l, c.requires.0)
 
-pub moved-next-requires : goal.moved-next-requires
+pub moved-requires : goal.moved-requires
 unfolding nonzero
-moved-next-requires c =
+moved-requires c =
     let e : is_zero c.args.p.count ≡ false = sym c.is_zero.ensures ∙ c.if-is_zero.false in
     let l : 1 ≤ c.args.out.left = rw e at c.requires.1 in
     (l, c.requires.0)
@@ -39,4 +39,4 @@ returns c =
     let f : SFits w16 c.args.p.count = search rules in
     let w = c.pack-word.ensures in
     let a = ahead_more W c.args.out l in
-    (rw (e, a, c.moved-next.ensures, c.head.ensures, w, to_z-of_z f) (record { same = eqb_swap (head_of W c.args.out) (word_of c.args.p) ∙ sym (and-true (eqb (word_of c.args.p) (head_of W c.args.out))); rest = refl }), rw c.moved-next.ensures (good-moved W c.args.out l c.requires.0))
+    (rw (e, a, c.moved.ensures, c.head.ensures, w, to_z-of_z f) (record { same = eqb_swap (head_of W c.args.out) (word_of c.args.p) ∙ sym (and-true (eqb (word_of c.args.p) (head_of W c.args.out))); rest = refl }), rw c.moved.ensures (good-moved W c.args.out l c.requires.0))

@@ -18,8 +18,8 @@ take-moved-requires c =
     let r = c.requires.0.ready in
     (r.fits, omega (arith, r.few), omega arith, r.kept)
 
-pub pair_of-pair-requires : goal.pair_of-pair-requires
-pair_of-pair-requires c =
+pub pair_of-requires : goal.pair_of-requires
+pair_of-requires c =
     let W = words c.args.card.now in
     let small = words-below c.args.card.now (λ k. omega (arith, c.shared_slice_known-1.given k)) in
     let t = c.take-moved in
@@ -40,7 +40,7 @@ returns c =
     let is : c.args.top ≡ suc k = omega (arith, c.requires.1) in
     let H' = t.new.heads in
     let ready : Ready W n H' t.result.next = record { few = c.requires.0.ready.few; fits = omega (arith, t.ensures.heads.0, c.requires.0.ready.fits); kept = t.ensures.heads.1; top = t.ensures.taken.2 } in
-    let p : c.pair_of-pair.result ≡ posting_of (record { key = k; sum = head_vals k (views W n H) }) = c.pair_of-pair.ensures ∙ rw (to_z-of_z f, t.ensures.taken.0) in (
+    let p : c.pair_of.result ≡ posting_of (record { key = k; sum = head_vals k (views W n H) }) = c.pair_of.ensures ∙ rw (to_z-of_z f, t.ensures.taken.0) in (
       ahead_more W small n H c.args.top c.requires.0 k is H' t.result.next ready t.ensures.heads.2 ∙ ap (λ (x : Posting). x ∷ pairs_ahead W n H') (sym p),
       formed-more W small n H c.args.top c.requires.0 k is H' t.result.next ready t.ensures.heads.2,
     )

@@ -7,4 +7,4 @@ pub overflow_cast-result : goal.overflow_cast-result
 overflow_cast-result c = rw (to_z-of_z c.ranges.sum) (small-fits c.args.sum c.requires.1)
 
 pub returns : goal.returns
-returns c = rw (to_z-of_z c.ranges.sum, to_z-of_z (small-fits c.args.sum c.requires.1), c.key_id-id.ensures, c.key_window-window.ensures)
+returns c = rw (to_z-of_z c.ranges.sum, to_z-of_z (small-fits c.args.sum c.requires.1), c.key_id.ensures, c.key_window.ensures)

@@ -12,4 +12,4 @@ pub returns : goal.returns
 unfolding totals_more counts_more
 returns c =
     let e : is_zero c.args.p.count ≡ false = sym c.is_zero.ensures ∙ c.if-is_zero.false in
-    (rw (e, c.risen.ensures, c.smaller.ensures, c.larger.ensures), rw e)
+    (rw (e, c.risen.ensures, c.min.ensures, c.max.ensures), rw e)

@@ -1,6 +1,6 @@
 -- `inputs::walk` meets its contract. The invariant: what is told of all heads is what is told where `t` and `counts` are told of what was taken and keys
 -- below `bound` are to come. The measure is `bound`.
-use Rattle.lists.proofs.Prelude.{◌≡◌, length}
+use Rattle.lists.proofs.Prelude.{◌≡◌}
 use Rattle.words.specs.Words.{words}
 use Rattle.scans.specs.Heads.{views}
 use Rattle.inputs.specs.Judging.{untold, resumed}
@@ -9,9 +9,11 @@ use Rattle.inputs.proofs.Room.{Room}
 use Rattle.inputs.proofs.walk.Given as goal
 
 abbrev pub invariant-loop-top : goal.invariant-loop-top
-invariant-loop-top l =
-    (length l.heads ≡ length l.initial.heads) × (length l.counts ≡ length l.initial.counts) × Ready (words l.card) l.n l.heads l.top × Room l.t l.counts l.bound
-    × (resumed 67108864 (views (words l.card) l.n l.initial.heads) untold ≡ resumed l.bound (views (words l.card) l.n l.heads) (record { totals = l.t; counts = l.counts }))
+invariant-loop-top l = record {
+  ready : Ready (words l.card) l.n l.heads l.top;
+  room : Room l.t l.counts l.bound;
+  told : resumed 67108864 (views (words l.card) l.n l.initial.heads) untold ≡ resumed l.bound (views (words l.card) l.n l.heads) (record { totals = l.t; counts = l.counts });
+}
 
 abbrev pub decreases-loop-top : goal.decreases-loop-top
 decreases-loop-top l = l.bound

@@ -6,21 +6,21 @@ use Rattle.levels.proofs.due_level.Goals as goal
 
 pub loop-v-init : goal.loop-v-init
 unfolding below
-loop-v-init c = (omega arith, refl)
+loop-v-init c = refl
 
 pub returns-then-of_level-due_at : goal.returns-then-of_level-due_at
 returns-then-of_level-due_at c =
     let p = c.args.p in
     let v = c.loop-v.v in
     let due : leb (due_at (v - 1)) (of_level (λ q. q.level) (v - 1) (finished p)) ≡ true = le-leb _ _ (rw (c.of_level.ensures, c.due_at.ensures) at c.if-of_level-due_at.true) in
-    rw (c.loop-v.invariant.1, below-pred v (omega arith), due)
+    rw (c.loop-v.invariant, below-pred v (omega arith), due)
 
 pub loop-v-preserved : goal.loop-v-preserved
 loop-v-preserved c =
     let p = c.args.p in
     let v = c.loop-v.v in
     let due : leb (due_at (v - 1)) (of_level (λ q. q.level) (v - 1) (finished p)) ≡ false = lt-leb _ _ (rw (c.of_level.ensures, c.due_at.ensures) at c.if-of_level-due_at.false) in
-    (omega arith, c.loop-v.invariant.1 ∙ rw (below-pred v (omega arith), due))
+    c.loop-v.invariant ∙ rw (below-pred v (omega arith), due)
 
 pub returns : goal.returns
-returns c = rw (c.loop-v.invariant.1, below-zero c.loop-v.v (omega arith))
+returns c = rw (c.loop-v.invariant, below-zero c.loop-v.v (omega arith))

@@ -29,21 +29,21 @@ count_term-told-requires c =
     (c.requires.0, c.requires.1, c.requires.2, c.pack_run.ensures, length-take-le (4 * c.args.s.partitions.used + 4) (replicate 208 0) (omega arith))
 
 pub divide-requires : goal.divide-requires
-divide-requires c = rw c.in-Windows.is at c.count_term-told.ensures.1
+divide-requires c = c.in-Some.ensures.fitting
 
-pub returns-in-Malformed : goal.returns-in-Malformed
+pub returns-in_default : goal.returns-in_default
 unfolding refuse_if
-returns-in-Malformed c =
+returns-in_default c =
     let a = c.args in
     let W = words a.card.now in
     rw (told-malformed W a.s whole a.number
-    (ap (λ t. told_term W a.s t a.number) (sym c.all_windows.ensures) ∙ sym c.count_term-told.ensures.0 ∙ c.in-Malformed.is))
+    (ap (λ t. told_term W a.s t a.number) (sym c.all_windows.ensures) ∙ sym c.count_term-told.ensures.told ∙ c.in_default.is))
 
-pub returns-in-Windows : goal.returns-in-Windows
+pub returns : goal.returns
 unfolding refuse_if
-returns-in-Windows c =
+returns c =
     let a = c.args in
     let W = words a.card.now in
-    let t = told-formed W a.s whole a.number _ _
-    (ap (λ t. told_term W a.s t a.number) (sym c.all_windows.ensures) ∙ sym c.count_term-told.ensures.0 ∙ c.in-Windows.is) in
+    let t = told-formed W a.s whole a.number _
+    (ap (λ t. told_term W a.s t a.number) (sym c.all_windows.ensures) ∙ sym c.count_term-told.ensures.told ∙ c.in-Some.is) in
     c.divide.ensures ∙ rw (t.0, t.1, t.2)

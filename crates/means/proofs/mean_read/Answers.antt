@@ -1,5 +1,5 @@
 -- `means::mean_read` meets its contract: the lists of what is read, and then the identifier, if the register has it.
-use Rattle.lists.proofs.Prelude.{rules, sym, ap, ◌∙◌, arith, passed, failed}
+use Rattle.lists.proofs.Prelude.{sym, ap, ◌∙◌, arith, passed, failed}
 use Rattle.answers.specs.Answers.{answer_of}
 use Rattle.words.specs.Words.{words}
 use Rattle.queries.proofs.Tested.{sound-words, sound-names}

@@ -1,5 +1,5 @@
 -- `merges::finish` meets its contract.
-use Rattle.lists.proofs.Prelude.{List, ⊎_elim, ◌≡◌, sym, ap, ap₂, ◌∙◌, ℕ, suc, ◌+◌, ◌*◌, ◌%◌, ◌<◌, arith, leb, length, get_or, rules}
+use Rattle.lists.proofs.Prelude.{List, ⊎_elim, ◌≡◌, sym, ap, ap₂, ◌∙◌, ℕ, suc, ◌+◌, ◌*◌, ◌%◌, ◌<◌, arith, leb, length, get_or}
 use Rattle.words.specs.Words.{words, bytes}
 use Rattle.words.proofs.Views.{bytes-words}
 use Rattle.state.specs.declared.State.{State}

@@ -1,6 +1,5 @@
 -- `merges::step` meets its contract: what is judged first refuses, then refusal 3, and the step that is done.
-use Rattle.lists.proofs.Prelude.{true, not, List, [], ◌∷◌, ℕ, ◌*◌, length, ◌≡◌, refl, sym, ap, subst, ◌∙◌, rules, not-true, not-false, every, and_left}
-use denote.Enum.Declared.{tag_of}
+use Rattle.lists.proofs.Prelude.{true, not, List, [], ◌∷◌, ℕ, ◌*◌, length, ◌≡◌, sym, ap, subst, ◌∙◌, rules, not-true, not-false, every, and_left}
 use Rattle.words.specs.Words.{words}
 use Rattle.answers.specs.Answers.{Answer, done}
 use Rattle.state.specs.declared.State.{State}
@@ -10,8 +9,7 @@ use Rattle.state.specs.Views.{blocks, finished}
 use Rattle.state.proofs.Kept.{state-kept}
 use Rattle.partitions.specs.Formed.{partition_rule, partitions_formed}
 use Rattle.admission.specs.Admission.{first_of, card_tests}
-use Rattle.admission.specs.contracts.Admission.{the_type}
-use Rattle.admission.proofs.Laws.{goes_on, CardSound, card-sound}
+use Rattle.admission.proofs.Laws.{CardSound, card-sound}
 use Rattle.windows.specs.Promises.{Gives, store_of}
 use Rattle.windows.proofs.Outcomes.{stopped}
 use Rattle.flushes.proofs.Flushes.{gives-by}
@@ -23,17 +21,17 @@ use Rattle.plans.proofs.Planning.{next-told}
 use Rattle.merges.proofs.step.Goals as goal
 
 -- the rest decides
-pub returns-in-Refused : goal.returns-in-Refused
-returns-in-Refused c =
+pub returns-in-Err : goal.returns-in-Err
+returns-in-Err c =
     let a = c.args in
-    rw c.refuse.ensures (step-barred a.s a.card.now c.in-Refused.why (rw (c.in-Refused.is, c.state_ok.ensures) at c.judge_card-a.ensures))
+    rw c.refuse.ensures (step-barred a.s a.card.now _ (rw (c.in-Err.is, c.state_ok.ensures) at c.judge_card.ensures))
 
 pub partitions_ok-requires : goal.partitions_ok-requires
 partitions_ok-requires c =
     let state : State = c.args.s in
     let card : List ℕ = c.args.card.now in
     let passes : 0 ≡ first_of (1 ∷ 2 ∷ []) (card_tests (state_rule state) state.lengths card) =
-    rw (goes_on (tag_of the_type) (λ why. refl) c.judge_card-a.result c.in_default.in_default-own.keys2, c.state_ok.ensures) at c.judge_card-a.ensures in
+    rw (c.in_default.is, c.state_ok.ensures) at c.judge_card.ensures in
     let sound : CardSound (state_rule state) state.lengths card = card-sound (state_rule state) state.lengths card passes in
     let long : length (words card) ≡ 1024 * blocks state = card-long state card sound.rule sound.size in
     let k = state-kept state sound.rule in
@@ -44,7 +42,7 @@ returns-then-not-partitions_ok c =
     let state : State = c.args.s in
     let card : List ℕ = c.args.card.now in
     let passes : 0 ≡ first_of (1 ∷ 2 ∷ []) (card_tests (state_rule state) state.lengths card) =
-    rw (goes_on (tag_of the_type) (λ why. refl) c.judge_card-a.result c.in_default.in_default-own.keys2, c.state_ok.ensures) at c.judge_card-a.ensures in
+    rw (c.in_default.is, c.state_ok.ensures) at c.judge_card.ensures in
     let by-third : (a : Answer) (after : Store) → Gives (store_of state card) (third_on state card) a after → Gives (store_of state card) (step_of (store_of state card)) a after =
     λ a after. gives-by (step_of (store_of state card)) (third_on state card) (step-granted state card passes) in
     rw c.refuse-then-not-partitions_ok.ensures
@@ -56,7 +54,7 @@ stands-requires c =
     let card : List ℕ = c.args.card.now in
     let state : State = c.args.s in
     let passes : 0 ≡ first_of (1 ∷ 2 ∷ []) (card_tests (state_rule state) state.lengths card) =
-    rw (goes_on (tag_of the_type) (λ why. refl) c.judge_card-a.result c.in_default.in_default-own.keys2, c.state_ok.ensures) at c.judge_card-a.ensures in
+    rw (c.in_default.is, c.state_ok.ensures) at c.judge_card.ensures in
     let sound : CardSound (state_rule state) state.lengths card = card-sound (state_rule state) state.lengths card passes in
     let long : length (words card) ≡ 1024 * blocks state = card-long state card sound.rule sound.size in
     let formed : partitions_formed (words card) (blocks state) (finished state.partitions) ≡ true = sym c.partitions_ok.ensures ∙ not-false _ c.if-not-partitions_ok.false-raw in
@@ -70,7 +68,7 @@ returns-then-not-stands c =
     let state : State = c.args.s in
     let card : List ℕ = c.args.card.now in
     let passes : 0 ≡ first_of (1 ∷ 2 ∷ []) (card_tests (state_rule state) state.lengths card) =
-    rw (goes_on (tag_of the_type) (λ why. refl) c.judge_card-a.result c.in_default.in_default-own.keys2, c.state_ok.ensures) at c.judge_card-a.ensures in
+    rw (c.in_default.is, c.state_ok.ensures) at c.judge_card.ensures in
     let by-third : (a : Answer) (after : Store) → Gives (store_of state card) (third_on state card) a after → Gives (store_of state card) (step_of (store_of state card)) a after =
     λ a after. gives-by (step_of (store_of state card)) (third_on state card) (step-granted state card passes) in
     let formed : partitions_formed (words card) (blocks state) (finished state.partitions) ≡ true = sym c.partitions_ok.ensures ∙ not-false _ c.if-not-partitions_ok.false-raw in
@@ -82,7 +80,7 @@ inputs_of-is-requires c =
     let state : State = c.args.s in
     let card : List ℕ = c.args.card.now in
     let passes : 0 ≡ first_of (1 ∷ 2 ∷ []) (card_tests (state_rule state) state.lengths card) =
-    rw (goes_on (tag_of the_type) (λ why. refl) c.judge_card-a.result c.in_default.in_default-own.keys2, c.state_ok.ensures) at c.judge_card-a.ensures in
+    rw (c.in_default.is, c.state_ok.ensures) at c.judge_card.ensures in
     let sound : CardSound (state_rule state) state.lengths card = card-sound (state_rule state) state.lengths card passes in
     let k = (state-kept state sound.rule).partitions in
     (k.used, k.form)
@@ -92,16 +90,16 @@ output_level-requires c =
     let state : State = c.args.s in
     let card : List ℕ = c.args.card.now in
     let passes : 0 ≡ first_of (1 ∷ 2 ∷ []) (card_tests (state_rule state) state.lengths card) =
-    rw (goes_on (tag_of the_type) (λ why. refl) c.judge_card-a.result c.in_default.in_default-own.keys2, c.state_ok.ensures) at c.judge_card-a.ensures in
+    rw (c.in_default.is, c.state_ok.ensures) at c.judge_card.ensures in
     let sound : CardSound (state_rule state) state.lengths card = card-sound (state_rule state) state.lengths card passes in
     (state-kept state sound.rule).partitions.used
 
-pub act-d-requires : goal.act-d-requires
-act-d-requires c =
+pub act-requires : goal.act-requires
+act-requires c =
     let state : State = c.args.s in
     let card : List ℕ = c.args.card.now in
     let passes : 0 ≡ first_of (1 ∷ 2 ∷ []) (card_tests (state_rule state) state.lengths card) =
-    rw (goes_on (tag_of the_type) (λ why. refl) c.judge_card-a.result c.in_default.in_default-own.keys2, c.state_ok.ensures) at c.judge_card-a.ensures in
+    rw (c.in_default.is, c.state_ok.ensures) at c.judge_card.ensures in
     let sound : CardSound (state_rule state) state.lengths card = card-sound (state_rule state) state.lengths card passes in
     let formed : partitions_formed (words card) (blocks state) (finished state.partitions) ≡ true = sym c.partitions_ok.ensures ∙ not-false _ c.if-not-partitions_ok.false-raw in
     let k = sound in
@@ -114,44 +112,41 @@ act-d-requires c =
       level = c.output_level.ensures;
     }
 
-pub returns-then-not-d : goal.returns-then-not-d
-returns-then-not-d c =
+pub returns-in-Err-act : goal.returns-in-Err-act
+returns-in-Err-act c =
     let state : State = c.args.s in
     let card : List ℕ = c.args.card.now in
     let passes : 0 ≡ first_of (1 ∷ 2 ∷ []) (card_tests (state_rule state) state.lengths card) =
-    rw (goes_on (tag_of the_type) (λ why. refl) c.judge_card-a.result c.in_default.in_default-own.keys2, c.state_ok.ensures) at c.judge_card-a.ensures in
+    rw (c.in_default.is, c.state_ok.ensures) at c.judge_card.ensures in
     let by-third : (a : Answer) (after : Store) → Gives (store_of state card) (third_on state card) a after → Gives (store_of state card) (step_of (store_of state card)) a after =
     λ a after. gives-by (step_of (store_of state card)) (third_on state card) (step-granted state card passes) in
-    let q = c.act-d.ensures.stop (not-true _ c.if-not-d.true) in
-    rw (c.refuse-then-not-d.ensures, q.0) (by-third _ _ q.1)
+    let q = c.in-Err-act.ensures in
+    rw (c.refuse-in-Err-act.ensures, q.same) (by-third _ _ q.told)
 
 pub list_after-list-requires : goal.list_after-list-requires
 list_after-list-requires c =
     let state : State = c.args.s in
     let card : List ℕ = c.args.card.now in
     let passes : 0 ≡ first_of (1 ∷ 2 ∷ []) (card_tests (state_rule state) state.lengths card) =
-    rw (goes_on (tag_of the_type) (λ why. refl) c.judge_card-a.result c.in_default.in_default-own.keys2, c.state_ok.ensures) at c.judge_card-a.ensures in
+    rw (c.in_default.is, c.state_ok.ensures) at c.judge_card.ensures in
     let sound : CardSound (state_rule state) state.lengths card = card-sound (state_rule state) state.lengths card passes in
     let k = (state-kept state sound.rule).partitions in
-    (k.used, k.form, c.act-d.ensures.small (not-false _ c.if-not-d.false))
+    (k.used, k.form, c.in-Ok.ensures.small)
 
 pub job_after-job-requires : goal.job_after-job-requires
 job_after-job-requires c =
-    let a = c.act-d.ensures in
-    let on = not-false _ c.if-not-d.false in
-    (a.small on, a.early on)
+    (c.in-Ok.ensures.small, c.in-Ok.ensures.early)
 
 pub returns : goal.returns
 returns c =
     let state : State = c.args.s in
     let card : List ℕ = c.args.card.now in
     let passes : 0 ≡ first_of (1 ∷ 2 ∷ []) (card_tests (state_rule state) state.lengths card) =
-    rw (goes_on (tag_of the_type) (λ why. refl) c.judge_card-a.result c.in_default.in_default-own.keys2, c.state_ok.ensures) at c.judge_card-a.ensures in
+    rw (c.in_default.is, c.state_ok.ensures) at c.judge_card.ensures in
     let by-third : (a : Answer) (after : Store) → Gives (store_of state card) (third_on state card) a after → Gives (store_of state card) (step_of (store_of state card)) a after =
     λ a after. gives-by (step_of (store_of state card)) (third_on state card) (step-granted state card passes) in
     let s = state in
     let b = card in
-    let a = c.act-d in
-    let on = not-false _ c.if-not-d.false in
-    let e = next-told s a.result.last a.result.totals a.result.output c.list_after-list.result c.job_after-job.result c.list_after-list.ensures c.job_after-job.ensures in
-    by-third _ _ (subst (λ (x : State). Gives (store_of s b) (third_on s b) done (store_of x a.new.card)) (sym e) (a.ensures.done on))
+    let d = c.in-Ok.d in
+    let e = next-told s d.last d.totals d.output c.list_after-list.result c.job_after-job.result c.list_after-list.ensures c.job_after-job.ensures in
+    rw c.done.ensures (by-third _ _ (subst (λ (x : State). Gives (store_of s b) (third_on s b) done (store_of x c.act.new.card)) (sym e) c.in-Ok.ensures.done))

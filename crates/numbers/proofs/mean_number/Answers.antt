@@ -1,5 +1,5 @@
 -- `numbers::mean_number` meets its contract.
 use Rattle.numbers.proofs.mean_number.Goals as goal
 
-pub returns-in-Mean : goal.returns-in-Mean
-returns-in-Mean c = rw c.in-Mean.is
+pub returns-in-Ok : goal.returns-in-Ok
+returns-in-Ok c = rw c.in-Ok.is

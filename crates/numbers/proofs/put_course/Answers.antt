@@ -1,8 +1,8 @@
 -- `numbers::put_course` meets its contract.
 use Rattle.numbers.proofs.put_course.Goals as goal
 
-pub returns-in-Nowhere : goal.returns-in-Nowhere
-returns-in-Nowhere c = rw c.in-Nowhere.is
+pub returns-in-None : goal.returns-in-None
+returns-in-None c = rw c.in-None.is
 
-pub returns-in-At : goal.returns-in-At
-returns-in-At c = rw (c.in-At.is, c.number_of-number.ensures)
+pub returns-in-Some : goal.returns-in-Some
+returns-in-Some c = rw (c.in-Some.is, c.from.ensures)

@@ -2,5 +2,5 @@
 use Rattle.numbers.proofs.Told.{number-refused}
 use Rattle.numbers.proofs.reply_number.Goals as goal
 
-pub returns-in-Refused : goal.returns-in-Refused
-returns-in-Refused c = rw (c.in-Refused.is, c.number_of.ensures) (number-refused c.in-Refused.why)
+pub returns-in-Err : goal.returns-in-Err
+returns-in-Err c = rw (c.in-Err.is, c.from.ensures) (number-refused _)

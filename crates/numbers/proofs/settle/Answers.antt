@@ -4,9 +4,9 @@ use Rattle.numbers.specs.Images.{imaged}
 use Rattle.numbers.proofs.Told.{number-refused}
 use Rattle.numbers.proofs.settle.Goals as goal
 
-pub returns-in-Refused : goal.returns-in-Refused
-returns-in-Refused c = rw (c.in-Refused.is, c.number_of.ensures) (number-refused c.in-Refused.why, refl)
+pub returns-in-Err : goal.returns-in-Err
+returns-in-Err c = rw (c.in-Err.is, c.from.ensures) (number-refused _, refl)
 
-pub returns-in-Done : goal.returns-in-Done
+pub returns-in-Ok : goal.returns-in-Ok
 unfolding imaged
-returns-in-Done c = rw c.in-Done.is (refl, c.write_state.ensures)
+returns-in-Ok c = rw c.in-Ok.is (refl, c.write_state.ensures)

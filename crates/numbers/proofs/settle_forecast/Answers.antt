@@ -2,8 +2,8 @@
 use Rattle.lists.proofs.Prelude.{refl}
 use Rattle.numbers.proofs.settle_forecast.Goals as goal
 
-pub returns-in-Refused : goal.returns-in-Refused
-returns-in-Refused c = rw (c.in-Refused.is, c.number_of.ensures) (refl, refl)
+pub returns-in-Err : goal.returns-in-Err
+returns-in-Err c = rw (c.in-Err.is, c.from.ensures) (refl, refl)
 
-pub returns-in-Course : goal.returns-in-Course
-returns-in-Course c = rw c.in-Course.is (refl, c.put_course.ensures)
+pub returns-in-Ok : goal.returns-in-Ok
+returns-in-Ok c = rw c.in-Ok.is (refl, c.put_course.ensures)

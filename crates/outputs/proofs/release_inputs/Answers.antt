@@ -1,26 +1,31 @@
-use Rattle.lists.proofs.Prelude.{refl, ◌∙◌, arith, rules, unmapped}
+use Rattle.lists.proofs.Prelude.{refl, ◌<◌, arith, length}
 use Rattle.words.specs.Words.{words}
-use Rattle.state.specs.Views.{no_partition}
+use Rattle.state.specs.Views.{no_partition, finished}
 use Rattle.outputs.proofs.Freeing.{freeing-end, freeing-chained, freeing-different, freeing-on}
 use Rattle.outputs.proofs.release_inputs.Goals as goal
 
-pub loop-i-init : goal.loop-i-init
-loop-i-init c = (search (unmapped, rules), refl, record { chained = c.requires.2; apart = c.requires.3; rest = refl })
+pub loop-p-init : goal.loop-p-init
+loop-p-init c = record { chained = c.requires.2; apart = c.requires.3; rest = refl }
 
 pub release_chain-requires : goal.release_chain-requires
 release_chain-requires c =
-    let h = c.loop-i-test.true in
-    rw c.blocks_for.ensures (omega (arith, c.loop-i.invariant.1, c.requires.0), freeing-chained (words c.args.card.now) c.args.ps.records c.args.ps.used (omega (arith, c.loop-i.invariant.0, c.requires.1)) (words c.loop-i.card) c.loop-i.i no_partition c.loop-i.invariant.2 h, freeing-different (words c.args.card.now) c.args.ps.records c.args.ps.used (omega (arith, c.loop-i.invariant.0, c.requires.1)) (words c.loop-i.card) c.loop-i.i no_partition c.loop-i.invariant.2 h)
+    let W₀ = words c.args.card.now in
+    let W = words c.loop-p.card in
+    let l = finished c.args.ps in
+    let same = c.finished-p-items.ensures in
+    let h : c.loop-p.p-index < length l = rw same at c.loop-p-test.true in
+    rw (c.blocks_for.ensures, same)
+    (omega arith, freeing-chained W₀ l W c.loop-p.p-index no_partition c.loop-p.invariant h, freeing-different W₀ l W c.loop-p.p-index no_partition c.loop-p.invariant h)
 
-pub loop-i-preserved : goal.loop-i-preserved
-loop-i-preserved c =
-    let freed = c.release_chain in
-    let e = rw c.blocks_for.ensures at freed.ensures in
-    (c.loop-i.invariant.0, freed.auto.card ∙ c.loop-i.invariant.1, freeing-on (words c.args.card.now) c.args.ps.records c.args.ps.used (omega (arith, c.loop-i.invariant.0, c.requires.1)) (words c.loop-i.card) c.loop-i.i no_partition c.loop-i.invariant.2 c.loop-i-test.true (words freed.new.card) e)
-
-pub shape_of-card : goal.shape_of-card
-shape_of-card c = c.loop-i.invariant.1
+pub loop-p-preserved : goal.loop-p-preserved
+loop-p-preserved c =
+    let l = finished c.args.ps in
+    let same = c.finished-p-items.ensures in
+    let h : c.loop-p.p-index < length l = rw same at c.loop-p-test.true in
+    let e = rw same at (rw c.blocks_for.ensures at c.release_chain.ensures) in
+    freeing-on (words c.args.card.now) l (words c.loop-p.card) c.loop-p.p-index no_partition c.loop-p.invariant h (words c.release_chain.new.card) e
 
 pub returns : goal.returns
 returns c =
-    freeing-end (words c.args.card.now) c.args.ps.records c.args.ps.used (omega (arith, c.loop-i.invariant.0, c.requires.1)) (words c.loop-i.card) c.loop-i.i no_partition c.loop-i.invariant.2 c.loop-i-test.false
+    let h = rw c.finished-p-items.ensures at c.loop-p-test.false in
+    freeing-end (words c.args.card.now) (finished c.args.ps) (words c.loop-p.card) c.loop-p.p-index no_partition c.loop-p.invariant h

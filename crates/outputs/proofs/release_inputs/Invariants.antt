@@ -1,12 +1,9 @@
--- `outputs::release_inputs` meets its contract. The invariant: freeing the blocks of the partitions from i on gives the whole; they are different
+-- `outputs::release_inputs` meets its contract. The invariant: freeing the blocks of the partitions from the next on gives the whole; they are different
 -- blocks of the card.
-use Rattle.lists.proofs.Prelude.{◌≡◌, ◌-◌, length}
 use Rattle.words.specs.Words.{words}
+use Rattle.state.specs.Views.{finished}
 use Rattle.outputs.proofs.Freeing.{Freeing}
 use Rattle.outputs.proofs.release_inputs.Given as goal
 
-abbrev pub invariant-loop-i : goal.invariant-loop-i
-invariant-loop-i l = (length l.ps.records ≡ 51) × (length l.card ≡ length l.initial.card) × Freeing (words l.initial.card) l.ps.records l.n (words l.card) l.i
-
-abbrev pub decreases-loop-i : goal.decreases-loop-i
-decreases-loop-i l = l.n - l.i
+abbrev pub invariant-loop-p : goal.invariant-loop-p
+invariant-loop-p l = Freeing (words l.initial.card) (finished l.fn.ps) (words l.card) l.p-index

@@ -1,12 +1,7 @@
 -- `outputs::write_entries` meets its contract. The invariant: writing the entries of the identifiers from i on gives the whole.
-use Rattle.lists.proofs.Prelude.{◌≡◌, ◌-◌, length}
 use Rattle.words.specs.Words.{words}
 use Rattle.outputs.proofs.Entering.{Entering}
 use Rattle.outputs.proofs.write_entries.Given as goal
 
 abbrev pub invariant-loop-i : goal.invariant-loop-i
-invariant-loop-i l =
-    (length l.counts ≡ 1024) × (length l.card ≡ length l.initial.card) × Entering (words l.initial.card) l.first l.n l.counts (words l.card) l.at l.sum l.i
-
-abbrev pub decreases-loop-i : goal.decreases-loop-i
-decreases-loop-i l = 1024 - l.i
+invariant-loop-i l = Entering (words l.initial.card) l.first l.n l.counts (words l.card) l.at l.sum l.i

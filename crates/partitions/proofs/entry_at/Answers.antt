@@ -5,31 +5,18 @@ use Rattle.card.specs.Cursors.{moved_of}
 use Rattle.partitions.proofs.Listed.{second_word, third-word}
 use Rattle.partitions.proofs.entry_at.Goals as goal
 
-pub head-count-requires : goal.head-count-requires
-head-count-requires c =
-    second_word (words c.args.card.now) c.args.e c.requires.0 c.requires.1 c.moved-e1.result c.moved-e1.ensures
+pub moved-third-requires : goal.moved-third-requires
+moved-third-requires c = second_word (words c.args.card.now) c.args.e c.requires.0 c.requires.1 c.moved-second.result c.moved-second.ensures
 
-pub moved-e2-requires : goal.moved-e2-requires
-moved-e2-requires c =
-    second_word (words c.args.card.now) c.args.e c.requires.0 c.requires.1 c.moved-e1.result c.moved-e1.ensures
+pub head-requires-2 : goal.head-requires-2
+head-requires-2 c = second_word (words c.args.card.now) c.args.e c.requires.0 c.requires.1 c.moved-second.result c.moved-second.ensures
 
-pub head-first-requires : goal.head-first-requires
-head-first-requires c =
+pub head-requires-3 : goal.head-requires-3
+head-requires-3 c =
     let W = words c.args.card.now in
-    third-word W c.args.e c.requires.0 c.requires.1 c.moved-e2.result (c.moved-e2.ensures ∙ ap (moved_of W) c.moved-e1.ensures)
+    third-word W c.args.e c.requires.0 c.requires.1 c.moved-third.result (c.moved-third.ensures ∙ ap (moved_of W) c.moved-second.ensures)
 
-pub moved-e3-requires : goal.moved-e3-requires
-moved-e3-requires c =
+pub moved-requires : goal.moved-requires
+moved-requires c =
     let W = words c.args.card.now in
-    third-word W c.args.e c.requires.0 c.requires.1 c.moved-e2.result (c.moved-e2.ensures ∙ ap (moved_of W) c.moved-e1.ensures)
-
-pub returns : goal.returns
-returns c =
-    rw (
-      c.head-number.ensures,
-      c.moved-e3.ensures,
-      c.head-first.ensures,
-      c.moved-e2.ensures,
-      c.head-count.ensures,
-      c.moved-e1.ensures,
-    )
+    third-word W c.args.e c.requires.0 c.requires.1 c.moved-third.result (c.moved-third.ensures ∙ ap (moved_of W) c.moved-second.ensures)

@@ -23,8 +23,8 @@ block_word-count-requires c =
     let i = first_block W p.first (blocks_for p.length) c.requires.chained r.some in
     omega (arith, i.inside)
 
-pub first_entry-e-requires : goal.first_entry-e-requires
-first_entry-e-requires c =
+pub first_entry-requires : goal.first_entry-requires
+first_entry-requires c =
     let W = words c.args.card.now in
     let p = c.args.p in
     (c.requires.chained, c.requires.header)
@@ -34,7 +34,7 @@ entry_at-entry-requires c =
     let W = words c.args.card.now in
     let p = c.args.p in
     let r = header-room W p c.requires.chained c.requires.header in
-    (omega (arith, r.terms, c.first_entry-e.ensures.terms), c.first_entry-e.ensures.good)
+    (omega (arith, r.terms, c.first_entry.ensures.terms), c.first_entry.ensures.good)
 
 pub overflow_mul-terms : goal.overflow_mul-terms
 overflow_mul-terms c =
@@ -52,8 +52,8 @@ overflow_add-terms c =
     let t = header-word W p c.requires.chained c.requires.header 0 c.block_word-terms.result (omega arith) c.block_word-terms.ensures in
     omega (arith, r.bytes, t)
 
-pub seek-postings-requires : goal.seek-postings-requires
-seek-postings-requires c =
+pub seek-requires : goal.seek-requires
+seek-requires c =
     let W = words c.args.card.now in
     let p = c.args.p in
     let r = header-room W p c.requires.chained c.requires.header in
@@ -66,16 +66,16 @@ overflow_cast-result c =
     let W = words c.args.card.now in
     let p = c.args.p in
     let r = header-room W p c.requires.chained c.requires.header in
-    let at = c.first_entry-e.ensures in
-    let q = entry-passed W c.first_entry-e.result (omega (arith, r.terms, at.terms)) at.good c.entry_at-entry.result c.entry_at-entry.ensures in
-    omega (arith, first_small W p c.requires c.first_entry-e.result c.entry_at-entry.result at q)
+    let at = c.first_entry.ensures in
+    let q = entry-passed W c.first_entry.result (omega (arith, r.terms, at.terms)) at.good c.entry_at-entry.result c.entry_at-entry.ensures in
+    omega (arith, first_small W p c.requires c.first_entry.result c.entry_at-entry.result at q)
 
 pub returns : goal.returns
 returns c =
     let W = words c.args.card.now in
     let p = c.args.p in
     let r = header-room W p c.requires.chained c.requires.header in
-    let at = c.first_entry-e.ensures in
-    let q = entry-passed W c.first_entry-e.result (omega (arith, r.terms, at.terms)) at.good c.entry_at-entry.result c.entry_at-entry.ensures in
-    reader-opened W p c.requires c.first_entry-e.result c.entry_at-entry.result at q _ refl refl refl
-    c.block_word-terms.result c.block_word-count.result c.blocks_for.result c.block_word-terms.ensures c.block_word-count.ensures c.blocks_for.ensures c.seek-postings.ensures.0 c.seek-postings.ensures.1
+    let at = c.first_entry.ensures in
+    let q = entry-passed W c.first_entry.result (omega (arith, r.terms, at.terms)) at.good c.entry_at-entry.result c.entry_at-entry.ensures in
+    reader-opened W p c.requires c.first_entry.result c.entry_at-entry.result at q _ refl refl refl
+    c.block_word-terms.result c.block_word-count.result c.blocks_for.result c.block_word-terms.ensures c.block_word-count.ensures c.blocks_for.ensures c.seek.ensures.0 c.seek.ensures.1

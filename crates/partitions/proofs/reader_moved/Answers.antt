@@ -5,17 +5,17 @@ use Rattle.partitions.specs.Readers.{moved_reader}
 use Rattle.partitions.proofs.Readers.{numbered_more, reader-step}
 use Rattle.partitions.proofs.reader_moved.Goals as goal
 
-pub returns-then-here-gt1 : goal.returns-then-here-gt1
+pub returns-then-r-gt1 : goal.returns-then-r-gt1
 unfolding moved_reader
-returns-then-here-gt1 c =
+returns-then-r-gt1 c =
     reader-step (words c.args.card.now) c.args.r c.requires.0 c.requires.1 _
-    (rw (lt-ltb 1 c.args.r.here c.if-here-gt1.true, c.moved-next.ensures))
+    (rw (lt-ltb 1 c.args.r.here c.if-r-gt1.true, c.moved-postings.ensures))
 
-pub returns-then-e-eq0 : goal.returns-then-e-eq0
+pub returns-then-r-eq0 : goal.returns-then-r-eq0
 unfolding moved_reader
-returns-then-e-eq0 c =
+returns-then-r-eq0 c =
     reader-step (words c.args.card.now) c.args.r c.requires.0 c.requires.1 _
-    (rw (le-ltb 1 c.args.r.here c.if-here-gt1.false, le-ltb 0 c.args.r.entries.left (omega arith), c.moved-next.ensures))
+    (rw (le-ltb 1 c.args.r.here c.if-r-gt1.false, le-ltb 0 c.args.r.entries.left (omega arith), c.moved-postings.ensures))
 
 pub overflow_cast-result : goal.overflow_cast-result
 overflow_cast-result c =
@@ -26,4 +26,4 @@ pub returns : goal.returns
 unfolding moved_reader
 returns c =
     reader-step (words c.args.card.now) c.args.r c.requires.0 c.requires.1 _
-    (rw (le-ltb 1 c.args.r.here c.if-here-gt1.false, lt-ltb 0 c.args.r.entries.left (omega (arith, c.if-e-eq0.false)), c.moved-next.ensures, c.entry_at-entry.ensures))
+    (rw (le-ltb 1 c.args.r.here c.if-r-gt1.false, lt-ltb 0 c.args.r.entries.left (omega (arith, c.if-r-eq0.false)), c.moved-postings.ensures, c.entry_at-entry.ensures))

@@ -1,5 +1,5 @@
 -- `plans::begin` meets its contract.
-use Rattle.lists.proofs.Prelude.{not, refl, sym, ap, ◌∙◌, suc, arith, rules, not-true, not-false, eq-eqb, leb-true, length, take}
+use Rattle.lists.proofs.Prelude.{not, refl, sym, ap, ◌∙◌, suc, arith, not-true, not-false, eq-eqb, leb-true, length, take}
 use Rattle.words.specs.Words.{words, bytes}
 use Rattle.postings.specs.Merge.{nonzero}
 use Rattle.state.specs.Views.{blocks, finished}
@@ -12,7 +12,6 @@ use Rattle.plans.proofs.Drafting.{readable, inputs-few}
 use Rattle.plans.proofs.Refusing.{pairs-read}
 use Rattle.plans.proofs.Beginning.{next-free, same-pairs, judged-linked, acts-linked, written-linked}
 use Rattle.plans.proofs.Stepping.{begin-few, begin-none, begin-done, state-told}
-use Rattle.plans.proofs.Planning.{planned-stop, planned-go}
 use Rattle.plans.proofs.begin.Goals as goal
 
 pub returns-then-not-enough_free : goal.returns-then-not-enough_free
@@ -22,7 +21,7 @@ returns-then-not-enough_free c =
     let nn = c.blocks_for-n.ensures ∙ ap blocks_for c.output_length.ensures in
     let idle = ap not (eq-eqb c.args.s.merge.steps 0 c.requires.4) in
     let e = sym c.enough_free.ensures ∙ not-true _ c.if-not-enough_free.true-raw in
-    planned-stop c.args.s c.args.is c.args.t c.args.card.now _ c.no_plan.ensures.0 (rw c.no_plan.ensures.1 (passed _ 3 _ (rw idle) (begin-few W c.args.s c.args.is c.args.t c.requires.1 c.args.card.now idle (rw nn at e))))
+    record { same = refl; told = passed _ 3 _ (rw idle) (begin-few W c.args.s c.args.is c.args.t c.requires.1 c.args.card.now idle (rw nn at e)) }
 
 pub returns-then-is-eq0 : goal.returns-then-is-eq0
 returns-then-is-eq0 c =
@@ -32,7 +31,7 @@ returns-then-is-eq0 c =
     let idle = ap not (eq-eqb c.args.s.merge.steps 0 c.requires.4) in
     let e = sym c.enough_free.ensures ∙ not-false _ c.if-not-enough_free.false-raw in
     let l = leb-true k (length (free_blocks W (blocks c.args.s) c.args.s.taken)) e in
-    planned-stop c.args.s c.args.is c.args.t c.args.card.now _ c.no_plan-then-is-eq0.ensures.0 (rw c.no_plan-then-is-eq0.ensures.1 (passed _ 3 _ (rw idle) (begin-none W c.args.s c.args.is c.args.t c.requires.1 c.args.card.now idle (rw nn at e) c.if-is-eq0.true)))
+    record { same = refl; told = passed _ 3 _ (rw idle) (begin-none W c.args.s c.args.is c.args.t c.requires.1 c.args.card.now idle (rw nn at e) c.if-is-eq0.true) }
 
 pub first_batch-b-requires : goal.first_batch-b-requires
 first_batch-b-requires c =
@@ -73,12 +72,13 @@ returns c =
     let x = fb.ensures.0 ∙ ap (λ q. nonzero (take 16 q)) read in
     let taken = fb.ensures.1 ∙ ap (λ q. length (take 16 q)) read in
     let a = acts-linked W st is t g k nn bs f tb.result fb.result tb.ensures.1 tb.ensures.2 tb.ensures.3 c.requires.4 x taken fb.ensures.2 in
-    planned-go st is t c.args.card.now _ tb.new.card refl
-    (ap (λ U. taking U st) tb.ensures.0 ∙ same-pairs W st is t g k nn bs f)
-    (rw tb.ensures.0 (judged-linked W st is t g k nn bs f))
-    (rw tb.ensures.0 a)
-    (omega (arith, c.requires.4))
-    (λ end u v. passed _ 3 _ (rw idle)
-    (begin-done W st is t g c.args.card.now idle (rw nn at e) c.if-is-eq0.false k nn end
-    (u ∙ state-told W st is t g tb.result bs tb.ensures.1 (rw idle tb.ensures.4))
-    (rw (tb.ensures.0, tb.ensures.2) at v ∙ ap bytes (written-linked W st is t g k nn bs f tb.result.first (suc st.merge.steps) tb.ensures.1))))
+    record {
+      pairs = ap (λ U. taking U st) tb.ensures.0 ∙ same-pairs W st is t g k nn bs f;
+      judged = rw tb.ensures.0 (judged-linked W st is t g k nn bs f);
+      acts = rw tb.ensures.0 a;
+      early = omega (arith, c.requires.4);
+      done = λ end u v. passed _ 3 _ (rw idle)
+          (begin-done W st is t g c.args.card.now idle (rw nn at e) c.if-is-eq0.false k nn end
+          (u ∙ state-told W st is t g tb.result bs tb.ensures.1 (rw idle tb.ensures.4))
+          (rw (tb.ensures.0, tb.ensures.2) at v ∙ ap bytes (written-linked W st is t g k nn bs f tb.result.first (suc st.merge.steps) tb.ensures.1)));
+    }

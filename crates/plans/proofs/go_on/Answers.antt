@@ -1,19 +1,15 @@
 -- `plans::go_on` meets its contract.
-use Rattle.lists.proofs.Prelude.{not, refl, sym, ap, ◌∙◌, arith, not-false, ne_eqb, rules}
+use Rattle.lists.proofs.Prelude.{not, refl, ap, ◌∙◌, arith, ne_eqb}
 use Rattle.words.specs.Words.{words}
 use Rattle.card.specs.Chains.{blocks_for}
 use Rattle.windows.proofs.Outcomes.{stopped, passed}
 use Rattle.plans.proofs.Stepping.{rule-early, go-done, state-told, first-told}
-use Rattle.plans.proofs.Planning.{planned-stop, planned-go}
 use Rattle.plans.proofs.go_on.Goals as goal
 
-pub returns-then-not-d : goal.returns-then-not-d
-returns-then-not-d c =
-    let st = c.args.s in
-    let busy = ap not (ne_eqb st.merge.steps 0 (λ z. omega (arith, c.requires.2))) in
-    let ok = c.output_ok-d.ensures.0 in
-    planned-stop st c.args.is c.args.t c.args.card.now _ c.no_plan.ensures.0
-    (rw c.no_plan.ensures.1 (stopped _ 3 _ (rw busy (ap not (sym ok) ∙ c.if-not-d.true))))
+pub returns-in_default : goal.returns-in_default
+returns-in_default c =
+    let busy = ap not (ne_eqb c.args.s.merge.steps 0 (λ z. omega (arith, c.requires.2))) in
+    record { same = refl; told = stopped _ 3 _ (rw busy (ap not c.in_default.ensures)) }
 
 pub returns : goal.returns
 returns c =
@@ -22,14 +18,17 @@ returns c =
     let is = c.args.is in
     let t = c.args.t in
     let g = c.requires.0 in
-    let d = c.output_ok-d in
     let k = c.blocks_for.result in
     let nn = c.blocks_for.ensures ∙ ap blocks_for c.output_length.ensures in
-    let y = not-false _ c.if-not-d.false in
-    let a = d.ensures.1 y in
-    let e = rule-early W st is t g (sym d.ensures.0 ∙ y) in
+    let y = c.in-Some.ensures.0 in
+    let a = c.in-Some.ensures.1 in
+    let e = rule-early W st is t g y in
     let busy = ap not (ne_eqb st.merge.steps 0 (λ z. omega (arith, c.requires.2))) in
     let f = first-told W st is t g _ _ a in
-    planned-go st is t c.args.card.now _ c.args.card.now refl refl g (rw nn a) (omega (arith, e, g.small.pairs))
-    (λ end u v. passed _ 3 _ (rw busy (ap not (sym d.ensures.0 ∙ y)))
-    (go-done W st is t g c.args.card.now busy k nn end (u ∙ state-told W st is t g _ _ (rw nn f) (rw busy)) v))
+    record {
+      pairs = refl;
+      judged = g;
+      acts = rw nn a;
+      early = omega (arith, e, g.small.pairs);
+      done = λ end u v. passed _ 3 _ (rw busy (ap not y)) (go-done W st is t g c.args.card.now busy k nn end (u ∙ state-told W st is t g _ _ (rw nn f) (rw busy)) v);
+    }

@@ -1,5 +1,5 @@
 -- `plans::output_length` meets its contract.
-use Rattle.lists.proofs.Prelude.{rules, eq-eqb, ne_eqb}
+use Rattle.lists.proofs.Prelude.{eq-eqb, ne_eqb}
 use Rattle.plans.proofs.output_length.Goals as goal
 
 pub returns-then-t-eq0 : goal.returns-then-t-eq0

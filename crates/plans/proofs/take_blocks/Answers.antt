@@ -1,5 +1,5 @@
 -- `plans::take_blocks` meets its contract.
-use Rattle.lists.proofs.Prelude.{◌≡◌, refl, sym, ap, ◌∙◌, ℕ, ◌-◌, ◌≤◌, arith, rules, length, get_or, take, length-take-le}
+use Rattle.lists.proofs.Prelude.{◌≡◌, refl, sym, ap, ◌∙◌, ℕ, ◌-◌, ◌≤◌, arith, length, get_or, take, length-take-le}
 use Rattle.words.specs.Words.{words}
 use Rattle.card.specs.Blocks.{free_blocks}
 use Rattle.blocks.specs.Writes.{store}

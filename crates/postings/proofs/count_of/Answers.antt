@@ -1,24 +1,10 @@
 use Rattle.lists.proofs.Prelude.{◌≡◌, ◌/◌, ◌%◌, ◌<◌, mod-lt, arith, lit<, pos}
-use lib.Bits.{and_mask, mask_lt}
+use lib.Bits.{and_mask}
 use mir.Syntax.{w16}
 use mir.Facts.{to_z-of_z, to_z_pos}
 use Rattle.words.proofs.Bits.{top_bit}
 use Rattle.postings.proofs.Signs.{zero-sub, neg-fits}
 use Rattle.postings.proofs.count_of.Goals as goal
-
-pub overflow_cast-size : goal.overflow_cast-size
-overflow_cast-size c = record { sfits = mask_lt c.args.low 15 }
-
-pub overflow_sub-result : goal.overflow_sub-result
-overflow_sub-result c =
-    let n = c.args.low in
-    rw (and_mask n 15, to_z_pos w16 (mod-lt n (lit< tt)), zero-sub) (neg-fits (pos (n % 32768)) (omega arith))
-
-pub returns-then-low-eq0 : goal.returns-then-low-eq0
-returns-then-low-eq0 c =
-    let n = c.args.low in
-    let z : n / 32768 ≡ 0 = omega (arith, top_bit n (omega arith)) in
-    rw (and_mask n 15, z) (to_z_pos w16 (omega arith))
 
 pub returns-else-low-eq0 : goal.returns-else-low-eq0
 returns-else-low-eq0 c =

@@ -1,6 +1,5 @@
 -- `queries::refuse` meets its contract.
-use borrow.Author.Rules.{rules}
 use Rattle.queries.proofs.refuse.Goals as goal
 
 pub returns : goal.returns
-returns c = rw c.no_hits-top.ensures
+returns c = rw c.no_hits.ensures

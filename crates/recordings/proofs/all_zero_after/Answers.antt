@@ -1,11 +1,8 @@
-use Rattle.lists.proofs.Prelude.{true, false, [], ◌≡◌, refl, sym, ◌∙◌, zero-le, add-one, arith, passed, failed, get_or, drop_of_length-le, every-step}
+use Rattle.lists.proofs.Prelude.{true, false, [], ◌≡◌, sym, ◌∙◌, add-one, arith, passed, failed, get_or, drop_of_length-le, every-step}
 use Rattle.identifiers.specs.Register.{entries}
 use Rattle.identifiers.proofs.Entries.{length-entries, length-entry}
 use Rattle.recordings.specs.Recording.{zero_after}
 use Rattle.recordings.proofs.all_zero_after.Goals as goal
-
-pub loop-i-init : goal.loop-i-init
-loop-i-init c = (zero-le, refl)
 
 pub entry_at-requires : goal.entry_at-requires
 entry_at-requires c = omega (arith, length-entries c.args.plan.now)
@@ -20,16 +17,16 @@ returns-then-not-zero_after c =
     let r = c.args.plan.now in
     let t : zero_after (get_or (entries r) c.loop-i.i []) ≡ false =
     rw (← c.entry_at.ensures) (failed c.zero_after.ensures c.if-not-zero_after.true-raw) in
-    sym (c.loop-i.invariant.1 ∙ every-step zero_after (entries r) c.loop-i.i [] (omega (arith, length-entries r)) ∙ rw t)
+    sym (c.loop-i.invariant ∙ every-step zero_after (entries r) c.loop-i.i [] (omega (arith, length-entries r)) ∙ rw t)
 
 pub loop-i-preserved : goal.loop-i-preserved
 loop-i-preserved c =
     let r = c.args.plan.now in
     let t : zero_after (get_or (entries r) c.loop-i.i []) ≡ true =
     rw (← c.entry_at.ensures) (passed c.zero_after.ensures c.if-not-zero_after.false-raw) in
-    (omega arith, rw add-one (c.loop-i.invariant.1 ∙ every-step zero_after (entries r) c.loop-i.i [] (omega (arith, length-entries r)) ∙ rw t))
+    rw add-one (c.loop-i.invariant ∙ every-step zero_after (entries r) c.loop-i.i [] (omega (arith, length-entries r)) ∙ rw t)
 
 pub returns : goal.returns
 returns c =
     let r = c.args.plan.now in
-    sym (c.loop-i.invariant.1 ∙ rw (drop_of_length-le (entries r) {i = c.loop-i.i} (omega (arith, length-entries r))))
+    sym (c.loop-i.invariant ∙ rw (drop_of_length-le (entries r) {i = c.loop-i.i} (omega (arith, length-entries r))))

@@ -1,11 +1,8 @@
 -- `recordings::all_zero_after` meets its contract. The loop's invariant: the answer is that for the entries to come.
-use Rattle.lists.proofs.Prelude.{◌≡◌, ◌-◌, ◌≤◌, drop, every}
+use Rattle.lists.proofs.Prelude.{◌≡◌, drop, every}
 use Rattle.identifiers.specs.Register.{entries}
 use Rattle.recordings.specs.Recording.{zero_after}
 use Rattle.recordings.proofs.all_zero_after.Given as goal
 
 abbrev pub invariant-loop-i : goal.invariant-loop-i
-invariant-loop-i l = (l.i ≤ l.count) × (every zero_after (entries l.plan) ≡ every zero_after (drop l.i (entries l.plan)))
-
-abbrev pub decreases-loop-i : goal.decreases-loop-i
-decreases-loop-i l = l.count - l.i
+invariant-loop-i l = every zero_after (entries l.plan) ≡ every zero_after (drop l.i (entries l.plan))

@@ -3,29 +3,8 @@ use Rattle.identifiers.proofs.Entries.{length-entry}
 use Rattle.registers.specs.Order.{before}
 use Rattle.registers.proofs.ascending.Goals as goal
 
-pub loop-k-init : goal.loop-k-init
-loop-k-init c = (omega arith, λ m h. absurd (omega arith))
-
-pub offset_bounds-order-k : goal.offset_bounds-order-k
-offset_bounds-order-k c = omega (arith, c.requires.1)
-
-pub bounds-order-k : goal.bounds-order-k
-bounds-order-k c = omega (arith, c.requires.1)
-
-pub overflow_cast-order : goal.overflow_cast-order
-overflow_cast-order c = omega (arith, c.requires.1, c.requires.2 (c.loop-k.k - 1))
-
 pub entry_at-a-requires : goal.entry_at-a-requires
 entry_at-a-requires c = omega (arith, c.requires.0, c.requires.2 (c.loop-k.k - 1))
-
-pub offset_bounds-order-k-in-loop-k : goal.offset_bounds-order-k-in-loop-k
-offset_bounds-order-k-in-loop-k c = omega (arith, c.requires.1)
-
-pub bounds-order-k-in-loop-k : goal.bounds-order-k-in-loop-k
-bounds-order-k-in-loop-k c = omega (arith, c.requires.1)
-
-pub overflow_cast-order-in-loop-k : goal.overflow_cast-order-in-loop-k
-overflow_cast-order-in-loop-k c = omega (arith, c.requires.1, c.requires.2 c.loop-k.k)
 
 pub entry_at-b-requires : goal.entry_at-b-requires
 entry_at-b-requires c = omega (arith, c.requires.0, c.requires.2 c.loop-k.k)
@@ -39,21 +18,16 @@ less-requires c =
 pub returns-then-not-less : goal.returns-then-not-less
 returns-then-not-less c e = never e
 
-pub overflow_add-k : goal.overflow_add-k
-overflow_add-k c = omega (arith, c.requires.1)
-
 pub loop-k-preserved : goal.loop-k-preserved
 loop-k-preserved c =
     let l = c.loop-k in
     let k = l.k in
     let r = c.args.register.now in
     let order = c.args.order.now in
-    let e : before r (get_or order (k - 1) 0) (get_or order k 0) ≡ true = sym (rw (c.entry_at-a.ensures, c.entry_at-b.ensures) at c.less.ensures) ∙ not-false _ c.if-not-less.false-raw in (
-      omega arith,
-      λ m h. by-test (eqb (suc m) k)
-          (λ y. let b : suc m ≡ k = eqb-true (suc m) k y in let a : m ≡ k - 1 = omega arith in rw (b, a) e)
-          (λ n. l.invariant.1 m (omega (arith, eqb-false (suc m) k n))),
-    )
+    let e : before r (get_or order (k - 1) 0) (get_or order k 0) ≡ true = sym (rw (c.entry_at-a.ensures, c.entry_at-b.ensures) at c.less.ensures) ∙ not-false _ c.if-not-less.false-raw in
+    λ m h. by-test (eqb (suc m) k)
+    (λ y. let b : suc m ≡ k = eqb-true (suc m) k y in let a : m ≡ k - 1 = omega arith in rw (b, a) e)
+    (λ n. l.invariant m (omega (arith, eqb-false (suc m) k n)))
 
 pub returns : goal.returns
-returns c e m h = c.loop-k.invariant.1 m (omega (arith, c.loop-k-test.false))
+returns c e m h = c.loop-k.invariant m (omega arith)

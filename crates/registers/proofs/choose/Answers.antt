@@ -8,26 +8,8 @@ returns-then-high-j c = let h = c.requires.4 c.if-high-j.true in (omega (arith, 
 pub returns-then-mid-i : goal.returns-then-mid-i
 returns-then-mid-i c = (omega (arith, c.if-high-j.false), λ n. absurd (n refl))
 
-pub offset_bounds-from-j : goal.offset_bounds-from-j
-offset_bounds-from-j c = omega (arith, c.requires.3, c.if-high-j.false)
-
-pub bounds-from-j : goal.bounds-from-j
-bounds-from-j c = omega (arith, c.requires.3, c.if-high-j.false)
-
-pub overflow_cast-from : goal.overflow_cast-from
-overflow_cast-from c = omega (arith, c.requires.1 c.args.j, c.ranges.n)
-
 pub entry_at-a-requires : goal.entry_at-a-requires
 entry_at-a-requires c = omega (arith, c.requires.0, c.requires.1 c.args.j)
-
-pub offset_bounds-from-i : goal.offset_bounds-from-i
-offset_bounds-from-i c = omega (arith, c.requires.2, c.requires.3, c.if-mid-i.false)
-
-pub bounds-from-i : goal.bounds-from-i
-bounds-from-i c = omega (arith, c.requires.2, c.requires.3, c.if-mid-i.false)
-
-pub overflow_cast-from-2 : goal.overflow_cast-from-2
-overflow_cast-from-2 c = omega (arith, c.requires.1 c.args.i, c.ranges.n)
 
 pub entry_at-b-requires : goal.entry_at-b-requires
 entry_at-b-requires c = omega (arith, c.requires.0, c.requires.1 c.args.i)

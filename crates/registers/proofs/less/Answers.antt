@@ -1,11 +1,8 @@
-use Rattle.lists.proofs.Prelude.{◌≡◌, refl, sym, ◌∙◌, add-one, arith, get_or}
+use Rattle.lists.proofs.Prelude.{◌≡◌, sym, ◌∙◌, add-one, arith, get_or}
 use Rattle.words.proofs.Views.{length-words}
 use Rattle.registers.specs.Order.{key}
 use Rattle.registers.proofs.Sorted.{lower-same, lower-apart, lower_last, key-length, key-word, key-last}
 use Rattle.registers.proofs.less.Goals as goal
-
-pub loop-c-init : goal.loop-c-init
-loop-c-init c = (omega arith, refl)
 
 pub word_at-x-requires : goal.word_at-x-requires
 word_at-x-requires c = omega (arith, length-words c.args.a.now, c.requires)
@@ -21,7 +18,7 @@ returns-then-x-y c =
     let i = l.c in
     let x = c.word_at-x.ensures ∙ sym (key-word a c.requires.0 i (omega arith)) in
     let y = c.word_at-y.ensures ∙ sym (key-word b c.requires.1 i (omega arith)) in
-    rw (x, y) (sym (l.invariant.1 ∙ lower-apart (key a) (key b) i (omega (arith, key-length a c.requires.0)) (omega (arith, key-length b c.requires.1)) (λ e. c.if-x-y.true (x ∙ e ∙ sym y))))
+    rw (x, y) (sym (l.invariant ∙ lower-apart (key a) (key b) i (omega (arith, key-length a c.requires.0)) (omega (arith, key-length b c.requires.1)) (λ e. c.if-x-y.true (x ∙ e ∙ sym y))))
 
 pub loop-c-preserved : goal.loop-c-preserved
 loop-c-preserved c =
@@ -31,13 +28,7 @@ loop-c-preserved c =
     let i = l.c in
     let x = c.word_at-x.ensures ∙ sym (key-word a c.requires.0 i (omega arith)) in
     let y = c.word_at-y.ensures ∙ sym (key-word b c.requires.1 i (omega arith)) in
-    (omega arith, rw (add-one i) (l.invariant.1 ∙ lower-same (key a) (key b) i (omega (arith, key-length a c.requires.0)) (omega (arith, key-length b c.requires.1)) (sym x ∙ c.if-x-y.false ∙ y)))
-
-pub bounds-a-64 : goal.bounds-a-64
-bounds-a-64 c = omega (arith, c.requires)
-
-pub bounds-b-64 : goal.bounds-b-64
-bounds-b-64 c = omega (arith, c.requires)
+    rw (add-one i) (l.invariant ∙ lower-same (key a) (key b) i (omega (arith, key-length a c.requires.0)) (omega (arith, key-length b c.requires.1)) (sym x ∙ c.if-x-y.false ∙ y))
 
 pub returns : goal.returns
 returns c =
@@ -45,4 +36,4 @@ returns c =
     let a = c.args.a.now in
     let b = c.args.b.now in
     let e : l.c ≡ 16 = omega arith in
-    sym (rw e at l.invariant.1 ∙ rw (key-last a c.requires.0, key-last b c.requires.1) (lower_last (get_or a 64 0) (get_or b 64 0)))
+    sym (rw e at l.invariant ∙ rw (key-last a c.requires.0, key-last b c.requires.1) (lower_last (get_or a 64 0) (get_or b 64 0)))

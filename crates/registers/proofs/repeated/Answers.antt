@@ -40,19 +40,6 @@ returns-then-equal c =
     let t : among n (take c.loop-left.left ms) ≡ (same (get_or ms p []) n || among n (take p ms)) = ap (λ (k : ℕ). among n (take k ms)) q ∙ among-upto ms p h n in
     (λ f. never (sym f), λ k. sym (c.loop-left.invariant.1 ∙ t ∙ rw e))
 
-pub offset_bounds-links-place : goal.offset_bounds-links-place
-offset_bounds-links-place c = omega (arith, c.requires.1.room)
-
-pub bounds-links-place : goal.bounds-links-place
-bounds-links-place c = omega (arith, c.requires.1.room)
-
-pub overflow_cast-left : goal.overflow_cast-left
-overflow_cast-left c =
-    omega (arith, c.requires.1.room, link-below (names c.args.register.now) c.args.i c.args.links.now c.requires.1.linked (c.loop-left.left - 1) (omega arith))
-
-pub overflow_add-steps : goal.overflow_add-steps
-overflow_add-steps c = omega (arith, c.requires.1.room, c.loop-left.invariant.3)
-
 pub loop-left-smaller : goal.loop-left-smaller
 loop-left-smaller c =
     omega (arith, link-below (names c.args.register.now) c.args.i c.args.links.now c.requires.1.linked (c.loop-left.left - 1) (omega arith))

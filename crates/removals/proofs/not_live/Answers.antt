@@ -1,4 +1,3 @@
-use borrow.Author.Rules.{rules}
 use Rattle.removals.proofs.not_live.Goals as goal
 
 pub returns : goal.returns

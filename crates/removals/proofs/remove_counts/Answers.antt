@@ -1,10 +1,8 @@
-use Rattle.lists.proofs.Prelude.{false, ◌≡◌, refl, sym, ◌∙◌, rules}
-use denote.Enum.Declared.{tag_of}
+use Rattle.std.specs.Prelude.{Option, Some, None, Result, Ok, Err}
+use Rattle.answers.specs.declared.Refusal.{Refusal}
+use Rattle.lists.proofs.Prelude.{ℕ, false, ◌≡◌, sym, ap, ◌∙◌}
 use Rattle.state.proofs.Kept.{state-kept}
-use Rattle.flushes.specs.declared.Target.{Target}
 use Rattle.flushes.specs.Targets.{Aimed}
-use Rattle.flushes.specs.contracts.Target.{the_type}
-use Rattle.flushes.proofs.Flushes.{nothing-told}
 use Rattle.sums.specs.Views.{counts_in}
 use Rattle.removals.specs.Removal.{removal_flushes}
 use Rattle.removals.proofs.Given.{names_open, no_live_window, names-the-open, names-no-live, some-live, flush-barred, removed-plain, removed-flushed, judged}
@@ -26,54 +24,52 @@ pub must_flush-requires : goal.must_flush-requires
 must_flush-requires c =
     ((state-kept c.args.s c.requires.rule).buffer.used, c.requires.few)
 
-pub flushed-t-requires : goal.flushed-t-requires
-flushed-t-requires c =
-    (c.requires.rule, c.requires.size, (rw c.in-Block.is at c.target_of-target.ensures).1)
+pub flush_to-requires : goal.flush_to-requires
+flush_to-requires c =
+    (c.requires.rule, c.requires.size, (rw (c.in-Ok-Some.is, c.in-Ok-Some.field-0-is) at c.target_of.ensures).1)
 
 pub without-requires : goal.without-requires
 without-requires c =
     let shut : names_open c.args.s c.args.window ≡ false = sym c.names_open.ensures ∙ c.if-names_open.false in
     let live : no_live_window c.args.s c.args.window (counts_in c.args.c) ≡ false = sym c.not_live.ensures ∙ c.if-not_live.false in
     let a = c.args in
-    rw c.flushed-t.ensures.0
+    rw c.flush_to.ensures.0
     (takeable-flushed a.s a.card.now a.window a.c c.requires _, rw (live-flushed a.s a.card.now a.window a.c c.requires _) (some-live a.s a.card.now a.window (counts_in a.c) shut live))
 
-pub without-requires-in-Nothing : goal.without-requires-in-Nothing
-without-requires-in-Nothing c =
-    let aimed : (t : Target) → c.target_of-target.result ≡ t → Aimed (removal_flushes c.args.s (counts_in c.args.c)) c.args.s c.args.card.now t =
-    λ t e. judged c.args.s (counts_in c.args.c) c.args.card.now _ t c.must_flush.ensures (rw e at c.target_of-target.ensures) in
+pub without-requires-in-Ok-None : goal.without-requires-in-Ok-None
+without-requires-in-Ok-None c =
+    let aimed : (t : Result (Option ℕ) Refusal) → c.target_of.result ≡ t → Aimed (removal_flushes c.args.s (counts_in c.args.c)) c.args.s c.args.card.now t =
+    λ t e. judged c.args.s (counts_in c.args.c) c.args.card.now _ t c.must_flush.ensures (rw e at c.target_of.ensures) in
     let shut : names_open c.args.s c.args.window ≡ false = sym c.names_open.ensures ∙ c.if-names_open.false in
     let live : no_live_window c.args.s c.args.window (counts_in c.args.c) ≡ false = sym c.not_live.ensures ∙ c.if-not_live.false in
     let a = c.args in
-    let none = nothing-told (tag_of the_type) (λ x. refl) (λ x. refl) c.target_of-target.result c.in-Nothing.in-Nothing-own.keys3 in
-    (takeable-plain a.s a.card.now a.window a.c c.requires (aimed Target.Nothing none), some-live a.s a.card.now a.window (counts_in a.c) shut live)
+    (takeable-plain a.s a.card.now a.window a.c c.requires (aimed (Ok None) (c.in-Ok-None.is ∙ ap Ok c.in-Ok-None.field-0-is)), some-live a.s a.card.now a.window (counts_in a.c) shut live)
 
-pub returns-in-Refused : goal.returns-in-Refused
-returns-in-Refused c =
+pub returns-in-Err : goal.returns-in-Err
+returns-in-Err c =
     let shut : names_open c.args.s c.args.window ≡ false = sym c.names_open.ensures ∙ c.if-names_open.false in
     let live : no_live_window c.args.s c.args.window (counts_in c.args.c) ≡ false = sym c.not_live.ensures ∙ c.if-not_live.false in
-    let aimed : (t : Target) → c.target_of-target.result ≡ t → Aimed (removal_flushes c.args.s (counts_in c.args.c)) c.args.s c.args.card.now t =
-    λ t e. judged c.args.s (counts_in c.args.c) c.args.card.now _ t c.must_flush.ensures (rw e at c.target_of-target.ensures) in
+    let aimed : (t : Result (Option ℕ) Refusal) → c.target_of.result ≡ t → Aimed (removal_flushes c.args.s (counts_in c.args.c)) c.args.s c.args.card.now t =
+    λ t e. judged c.args.s (counts_in c.args.c) c.args.card.now _ t c.must_flush.ensures (rw e at c.target_of.ensures) in
     let a = c.args in
-    rw c.refuse-in-Refused.ensures (flush-barred a.s a.card.now a.window (counts_in a.c) shut live c.in-Refused.why (aimed (Target.Refused c.in-Refused.why) c.in-Refused.is))
+    rw c.refuse-in-Err.ensures (flush-barred a.s a.card.now a.window (counts_in a.c) shut live c.in-Err.why (aimed (Err _) c.in-Err.is))
 
-pub returns-in-Block : goal.returns-in-Block
-returns-in-Block c =
+pub returns-in-Ok-Some : goal.returns-in-Ok-Some
+returns-in-Ok-Some c =
     let shut : names_open c.args.s c.args.window ≡ false = sym c.names_open.ensures ∙ c.if-names_open.false in
     let live : no_live_window c.args.s c.args.window (counts_in c.args.c) ≡ false = sym c.not_live.ensures ∙ c.if-not_live.false in
-    let aimed : (t : Target) → c.target_of-target.result ≡ t → Aimed (removal_flushes c.args.s (counts_in c.args.c)) c.args.s c.args.card.now t =
-    λ t e. judged c.args.s (counts_in c.args.c) c.args.card.now _ t c.must_flush.ensures (rw e at c.target_of-target.ensures) in
+    let aimed : (t : Result (Option ℕ) Refusal) → c.target_of.result ≡ t → Aimed (removal_flushes c.args.s (counts_in c.args.c)) c.args.s c.args.card.now t =
+    λ t e. judged c.args.s (counts_in c.args.c) c.args.card.now _ t c.must_flush.ensures (rw e at c.target_of.ensures) in
     let a = c.args in
-    let f = c.flushed-t in
+    let f = c.flush_to in
     rw (c.done.ensures, c.without.ensures, f.ensures.0, f.ensures.1)
-    (removed-flushed a.s a.card.now a.window (counts_in a.c) shut live c.in-Block.b (aimed (Target.Block c.in-Block.b) c.in-Block.is))
+    (removed-flushed a.s a.card.now a.window (counts_in a.c) shut live _ (aimed (Ok (Some _)) (c.in-Ok-Some.is ∙ ap Ok c.in-Ok-Some.field-0-is)))
 
-pub returns-in-Nothing : goal.returns-in-Nothing
-returns-in-Nothing c =
+pub returns-in-Ok-None : goal.returns-in-Ok-None
+returns-in-Ok-None c =
     let shut : names_open c.args.s c.args.window ≡ false = sym c.names_open.ensures ∙ c.if-names_open.false in
     let live : no_live_window c.args.s c.args.window (counts_in c.args.c) ≡ false = sym c.not_live.ensures ∙ c.if-not_live.false in
-    let aimed : (t : Target) → c.target_of-target.result ≡ t → Aimed (removal_flushes c.args.s (counts_in c.args.c)) c.args.s c.args.card.now t =
-    λ t e. judged c.args.s (counts_in c.args.c) c.args.card.now _ t c.must_flush.ensures (rw e at c.target_of-target.ensures) in
+    let aimed : (t : Result (Option ℕ) Refusal) → c.target_of.result ≡ t → Aimed (removal_flushes c.args.s (counts_in c.args.c)) c.args.s c.args.card.now t =
+    λ t e. judged c.args.s (counts_in c.args.c) c.args.card.now _ t c.must_flush.ensures (rw e at c.target_of.ensures) in
     let a = c.args in
-    let none = nothing-told (tag_of the_type) (λ x. refl) (λ x. refl) c.target_of-target.result c.in-Nothing.in-Nothing-own.keys3 in
-    rw (c.done-in-Nothing.ensures, c.without-in-Nothing.ensures) (removed-plain a.s a.card.now a.window (counts_in a.c) shut live (aimed Target.Nothing none))
+    rw (c.done-in-Ok-None.ensures, c.without-in-Ok-None.ensures) (removed-plain a.s a.card.now a.window (counts_in a.c) shut live (aimed (Ok None) (c.in-Ok-None.is ∙ ap Ok c.in-Ok-None.field-0-is)))

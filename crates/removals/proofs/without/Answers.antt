@@ -1,5 +1,4 @@
 use Rattle.removals.specs.Removal.{removed}
-use borrow.Author.Rules.{rules}
 use Rattle.removals.proofs.without.Goals as goal
 
 pub returns : goal.returns

@@ -1,7 +1,6 @@
-use mathlib.Core.Path.{refl}
 use Rattle.state.specs.Rules.{lengths_rule}
 use Rattle.rules.proofs.lengths_ok.Goals as goal
 
 pub returns : goal.returns
 unfolding lengths_rule
-returns c = refl
+returns c = c.lengths_ok.ensures

@@ -3,4 +3,4 @@ use Rattle.sessions.proofs.Carried.{written}
 use Rattle.sessions.proofs.changed.Goals as goal
 
 pub returns : goal.returns
-returns c = written c.reply_to-r.ensures c.write_reply-used.ensures
+returns c = written c.reply_to-r.ensures c.write_reply.ensures

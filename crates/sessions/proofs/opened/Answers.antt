@@ -5,4 +5,4 @@ use Rattle.sessions.proofs.opened.Goals as goal
 
 pub returns : goal.returns
 unfolding probe_call
-returns c = λ card register. written (on-state card register c.open-r.ensures) c.write_opened-used.ensures
+returns c = λ card register. written (on-state card register c.open-r.ensures) c.write_opened.ensures

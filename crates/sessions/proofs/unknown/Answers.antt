@@ -5,4 +5,4 @@ use Rattle.sessions.proofs.unknown.Goals as goal
 
 pub returns : goal.returns
 unfolding text_of left_of
-returns c = λ card register. record { says = c.write_unknown-used.ensures; left = refl }
+returns c = λ card register. record { says = c.write_unknown.ensures; left = refl }

@@ -20,8 +20,8 @@ use Rattle.sums.proofs.walk.Lts as lts
 use Rattle.sums.proofs.walk.Tie as tie
 use Rattle.sums.proofs.walk.Reads as reads
 
-abbrev After-larger : Type 0
-After-larger = lts.After-larger tie.the-claims reads.Pre reads.Post goal.the-invariant-loop-at goal.the-decreases-loop-at tie.handed_clauses
+abbrev After-max-top : Type 0
+After-max-top = lts.After-max tie.the-claims reads.Pre reads.Post goal.the-invariant-loop-at goal.the-decreases-loop-at tie.handed_clauses
 
 abbrev Joined4 : Type 0
 Joined4 = lts.Joined4 tie.the-claims reads.Pre reads.Post goal.the-invariant-loop-at goal.the-decreases-loop-at tie.handed_clauses
@@ -46,7 +46,7 @@ front_of-front-requires c =
     buffer-small c.args.b v.ok c.loop-at.at v.len c.if-at-used.true
 
 -- what the buffer has to come first
-shown : (c : After-larger) → Shown (buffer_items c.args.b c.loop-at.at) c.if-at-used.front
+shown : (c : After-max-top) → Shown (buffer_items c.args.b c.loop-at.at) c.if-at-used.front
 shown c =
     let v = c.loop-at.invariant in
     let b = c.args.b in
@@ -60,14 +60,14 @@ returns-then-top-eq0 c =
     let v = c.loop-at.invariant in
     let small = words-below c.args.card.now (λ k. omega (arith, c.shared_slice_known-1.given k)) in
     read_back (words c.args.card.now) c.args.s c.args.b c.args.windows.now c.args.heads.now c.args.start c.requires.0 small (rw c.requires.0.buffer at v.ok)
-    c.loop-at.slots v.slots v.tidy (outside c.args.windows.now) (stop-ended v c.if-at-used.front (shown c.before.before) c.larger-top.result c.larger-top.ensures c.if-top-eq0.true)
+    c.loop-at.slots v.slots v.tidy (outside c.args.windows.now) (stop-ended v c.if-at-used.front (shown c.before.before) c.max-top.result c.max-top.ensures c.if-top-eq0.true)
 
 pub returns-then-bound-top : goal.returns-then-bound-top
 returns-then-bound-top c =
     let v = c.loop-at.invariant in
     let small = words-below c.args.card.now (λ k. omega (arith, c.shared_slice_known-1.given k)) in
     read-fault (words c.args.card.now) c.args.s c.args.b c.args.windows.now c.args.heads.now c.args.start c.requires.0 small (rw c.requires.0.buffer at v.ok)
-    c.loop-at.slots v.slots v.tidy (stop-high v c.if-at-used.front (shown c.before.before.before) c.larger-top.result c.larger-top.ensures c.if-bound-top.true)
+    c.loop-at.slots v.slots v.tidy (stop-high v c.if-at-used.front (shown c.before.before.before) c.max-top.result c.max-top.ensures c.if-bound-top.true)
 
 pub take-t-requires : goal.take-t-requires
 take-t-requires c =
@@ -81,24 +81,24 @@ added-total-requires c =
     let fs : SFits w32 t.result.sum = record { sfits = omega (arith, c.struct_told-1.given) } in
     rw (to_z-of_z fs) (omega (arith, t.ensures.taken.3, v.few))
 
-pub keep_total-requires : goal.keep_total-requires
-keep_total-requires c =
+pub keep_total-kept-requires : goal.keep_total-kept-requires
+keep_total-kept-requires c =
     let v = c.loop-at.invariant in
     let p = c.place_of-place in
-    let k = c.larger-top.result - 1 in
+    let k = c.max-top.result - 1 in
     let e = c.key_window.ensures in
     let here = rw (p.ensures, e) at c.if-place-named.true in
     let tidy = v.tidy (first_place (key_window k) c.args.windows.now) here in
     (rw (width 65 p.result, p.ensures, e) (rw (place_at (key_window k) c.args.windows.now here) at tidy), omega (arith, v.low, c.if-top-eq0.false, c.if-bound-top.false))
 
 -- what the key below the top tells
-step : (c : Joined4) → Step c.args.windows.now c.loop-at.slots c.if-place-named.slots (c.larger-top.result - 1) c.take-t.result.sum
-    (c.take-t.result.sum +ℤ head_val (c.larger-top.result - 1) (buffer_items c.args.b c.loop-at.at)) c.take-t.result.fine c.if-place-named.fine
+step : (c : Joined4) → Step c.args.windows.now c.loop-at.slots c.if-place-named.slots (c.max-top.result - 1) c.take-t.result.sum
+    (c.take-t.result.sum +ℤ head_val (c.max-top.result - 1) (buffer_items c.args.b c.loop-at.at)) c.take-t.result.fine c.if-place-named.fine
 step c =
     let v = c.loop-at.invariant in
     let t = c.take-t in
-    let k = c.larger-top.result - 1 in
-    let h : c.larger-top.result ≡ suc k = omega (arith, c.if-top-eq0.false) in
+    let k = c.max-top.result - 1 in
+    let h : c.max-top.result ≡ suc k = omega (arith, c.if-top-eq0.false) in
     let whole = t.result.sum +ℤ head_val k (buffer_items c.args.b c.loop-at.at) in
     let e = c.key_window.ensures in
     let p = c.place_of-place.ensures in
@@ -107,12 +107,12 @@ step c =
     (λ x. let fs : SFits w32 t.result.sum = record { sfits = omega (arith, x.struct_told-1.given) } in
     let fc : SFits w16 x.count_under.result = record { sfits = x.count_under.type_inv } in
     let fd : SFits w32 x.added-total.result = record { sfits = x.added-total.type_inv } in
-    let total : x.added-total.result ≡ whole = x.added-total.ensures ∙ rw (to_z-of_z fs, to_z-of_z fc, x.count_under.ensures, shown-under (shown c.before.before.before.before.before.before.before.before.before) c.larger-top.result k h) in
+    let total : x.added-total.result ≡ whole = x.added-total.ensures ∙ rw (to_z-of_z fs, to_z-of_z fc, x.count_under.ensures, shown-under (shown c.before.before.before.before.before.before.before.before.before.before) c.max-top.result k h) in
     let here = rw q at x.if-place-named.true in
-    let kept = rw (width 65 c.place_of-place.result, q, to_z-of_z fs, to_z-of_z fd, total) at x.keep_total.ensures in
+    let kept = rw (width 65 c.place_of-place.result, q, to_z-of_z fs, to_z-of_z fd, total) at x.keep_total-kept.ensures in
     subst (λ (X : List ℕ). Step c.args.windows.now c.loop-at.slots X k t.result.sum whole t.result.fine c.if-place-named.fine)
-    (sym (x.slots-is ∙ ap (put_in 65 c.loop-at.slots x.keep_total.new.slot) q))
-    (step-own c.args.windows.now c.loop-at.slots k t.result.sum whole v.slots v.tidy here x.keep_total.new.slot x.keep_total.result kept t.result.fine c.if-place-named.fine (x.fine-is ∙ x.both-fine.ensures)))
+    (sym (x.slots-is ∙ ap (put_in 65 c.loop-at.slots x.keep_total-kept.new.slot) q))
+    (step-own c.args.windows.now c.loop-at.slots k t.result.sum whole v.slots v.tidy here x.keep_total-kept.new.slot x.keep_total-kept.result kept t.result.fine c.if-place-named.fine x.fine-is))
     (λ x. subst (λ (X : List ℕ). Step c.args.windows.now c.loop-at.slots X k t.result.sum whole t.result.fine c.if-place-named.fine) (sym x.slots-is)
     (step_other c.args.windows.now c.loop-at.slots k t.result.sum whole v.slots v.tidy (place-missing (key_window k) c.args.windows.now (rw q at x.if-place-named.false)) t.result.fine c.if-place-named.fine x.fine-is))
     c.if-place-named.branch-raw
@@ -124,11 +124,11 @@ pub returns-then-not-fine : goal.returns-then-not-fine
 returns-then-not-fine c =
     let v = c.loop-at.invariant in
     let t = c.take-t in
-    let k = c.larger-top.result - 1 in
+    let k = c.max-top.result - 1 in
     let small = words-below c.args.card.now (λ k. omega (arith, c.shared_slice_known-1.given k)) in
     read-fault (words c.args.card.now) c.args.s c.args.b c.args.windows.now c.args.heads.now c.args.start c.requires.0 small (rw c.requires.0.buffer at v.ok)
     c.if-place-named.slots (step c.before.before).long (step c.before.before).tidy
-    (stop-judged v c.if-at-used.front (shown c.before.before.before.before.before.before.before.before.before.before.before) c.larger-top.result c.larger-top.ensures k (omega (arith, c.if-top-eq0.false)) c.if-bound-top.false t.result.fine t.ensures.taken.1 t.result.sum t.ensures.taken.0 c.if-place-named.fine c.if-place-named.slots (step c.before.before) (not-true _ c.if-not-fine.true-raw))
+    (stop-judged v c.if-at-used.front (shown c.before.before.before.before.before.before.before.before.before.before.before.before) c.max-top.result c.max-top.ensures k (omega (arith, c.if-top-eq0.false)) c.if-bound-top.false t.result.fine t.ensures.taken.1 t.result.sum t.ensures.taken.0 c.if-place-named.fine c.if-place-named.slots (step c.before.before) (not-true _ c.if-not-fine.true-raw))
 
 pub past-at-requires : goal.past-at-requires
 past-at-requires c =
@@ -139,8 +139,8 @@ pub loop-at-preserved : goal.loop-at-preserved
 loop-at-preserved c =
     let v = c.loop-at.invariant in
     let t = c.take-t in
-    let k = c.larger-top.result - 1 in
-    let h : c.larger-top.result ≡ suc k = omega (arith, c.if-top-eq0.false) in
-    goes_on v c.if-at-used.front (shown c.before.before.before.before.before.before.before.before.before.before.before.before) c.larger-top.result c.larger-top.ensures k h c.if-bound-top.false t.result.fine t.ensures.taken.1 t.result.sum t.ensures.taken.0 c.if-place-named.fine c.if-place-named.slots (step c.before.before.before) (not-false _ c.if-not-fine.false-raw)
+    let k = c.max-top.result - 1 in
+    let h : c.max-top.result ≡ suc k = omega (arith, c.if-top-eq0.false) in
+    goes_on v c.if-at-used.front (shown c.before.before.before.before.before.before.before.before.before.before.before.before.before) c.max-top.result c.max-top.ensures k h c.if-bound-top.false t.result.fine t.ensures.taken.1 t.result.sum t.ensures.taken.0 c.if-place-named.fine c.if-place-named.slots (step c.before.before.before) (not-false _ c.if-not-fine.false-raw)
     _ _ _ t.ensures.heads.0 t.ensures.heads.1 t.ensures.heads.2
-    (buffer-past c.args.b v.ok c.loop-at.at v.len v.place c.if-at-used.front (shown c.before.before.before.before.before.before.before.before.before.before.before.before) c.larger-top.result k h c.past-at.result c.past-at.ensures) t.ensures.taken.2
+    (buffer-past c.args.b v.ok c.loop-at.at v.len v.place c.if-at-used.front (shown c.before.before.before.before.before.before.before.before.before.before.before.before.before) c.max-top.result k h c.past-at.result c.past-at.ensures) t.ensures.taken.2

@@ -1,4 +1,4 @@
-use Rattle.lists.proofs.Prelude.{refl, sym, ◌<◌, arith, rules, length, length-set, eq-eqb, ne_eqb}
+use Rattle.lists.proofs.Prelude.{refl, sym, ap, ℕ, ◌-◌, ◌<◌, arith, rules, length, take, drop, length-set, eq-eqb, ne_eqb}
 use Rattle.texts.proofs.Splitting.{start-split, on-byte, on-space, on-gap, on-nothing, on-last, too_long}
 use Rattle.texts.proofs.split.Goals as goal
 use Rattle.texts.proofs.split.Goals.{then-line-i-eq32+else-start-i, else-line-i-eq32}
@@ -25,10 +25,10 @@ loop-i-preserved c =
       | else-line-i-eq32 w ↦ (rw (w.parts-is, w.n-is, w.start-is) (on-byte i.0 h (ne_eqb _ _ w.if-line-i-eq32.false)), i.1, i.2)
     ]
 
-pub returns-then-start-i-2 : goal.returns-then-start-i-2
-returns-then-start-i-2 c =
+pub returns-then-start-line : goal.returns-then-start-line
+returns-then-start-line c =
     (sym (on-nothing c.loop-i.invariant.0 (omega arith) c.loop-i.invariant.1 (omega arith)), omega arith, c.loop-i.invariant.0.long)
 
 pub returns : goal.returns
 returns c =
-    (on-last c.loop-i.invariant.0 (omega arith) c.loop-i.invariant.1 _ (omega arith) (omega arith) refl, omega arith, simp length-set c.loop-i.invariant.0.long)
+    (on-last c.loop-i.invariant.0 (omega arith) c.loop-i.invariant.1 _ (omega arith) (omega arith) (ap (λ (k : ℕ). take (k - c.loop-i.start) (drop c.loop-i.start c.args.line.now)) (omega arith)), omega arith, simp length-set c.loop-i.invariant.0.long)

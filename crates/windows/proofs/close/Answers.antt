@@ -37,6 +37,6 @@ returns c =
     ⊎_elim (λ w. rw (eq-eqb s.windows.events 0 w.if-s-eq0-2.true) w.last-is) (λ w. rw (ne_eqb s.windows.events 0 w.if-s-eq0-2.false) w.last-is) c.if-s-eq0-2.branch-raw in
     let live : c.if-s-eq0-2.live ≡ cond (eqb s.windows.events 0) s.windows.live (suc s.windows.live) =
     ⊎_elim (λ w. rw (eq-eqb s.windows.events 0 w.if-s-eq0-2.true) w.live-is) (λ w. rw (ne_eqb s.windows.events 0 w.if-s-eq0-2.false) (w.live-is ∙ add-one s.windows.live)) c.if-s-eq0-2.branch-raw in
-    rw (c.done.ensures, last, live)
+    rw (c.done.ensures, c.new.ensures, last, live)
     (passed _ 1 _ (ap not (sym c.state_ok.ensures) ∙ c.if-not-state_ok.false-raw)
     (passed _ 5 _ (ap (λ t. not (not t)) (ne_eqb _ _ c.if-s-eq0.false)) (given _ refl)))

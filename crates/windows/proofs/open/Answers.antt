@@ -5,20 +5,22 @@ use Rattle.windows.proofs.open.Goals as goal
 
 pub returns-then-not-state_ok : goal.returns-then-not-state_ok
 unfolding open_of
-returns-then-not-state_ok c = stopped _ 1 _ (ap not (sym c.state_ok.ensures) ∙ c.if-not-state_ok.true-raw)
+returns-then-not-state_ok c = rw c.refuse.ensures (stopped _ 1 _ (ap not (sym c.state_ok.ensures) ∙ c.if-not-state_ok.true-raw))
 
 pub returns-then-s-ne0 : goal.returns-then-s-ne0
 unfolding open_of
 returns-then-s-ne0 c =
-    passed _ 1 _ (ap not (sym c.state_ok.ensures) ∙ c.if-not-state_ok.false-raw) (stopped _ 5 _ (ap not (ne_eqb _ _ c.if-s-ne0.true)))
+    rw c.refuse-then-s-ne0.ensures
+    (passed _ 1 _ (ap not (sym c.state_ok.ensures) ∙ c.if-not-state_ok.false-raw) (stopped _ 5 _ (ap not (ne_eqb _ _ c.if-s-ne0.true))))
 
 pub returns-then-s-eq65535 : goal.returns-then-s-eq65535
 unfolding open_of
 returns-then-s-eq65535 c =
     let s = c.args.s in
     let full = c.if-s-eq65535.true in
-    passed _ 1 _ (ap not (sym c.state_ok.ensures) ∙ c.if-not-state_ok.false-raw)
-    (passed _ 5 _ (ap not (eq-eqb _ _ c.if-s-ne0.false)) (stopped _ 6 _ (le-leb 65535 s.windows.last (omega arith))))
+    rw c.refuse-then-s-eq65535.ensures
+    (passed _ 1 _ (ap not (sym c.state_ok.ensures) ∙ c.if-not-state_ok.false-raw)
+    (passed _ 5 _ (ap not (eq-eqb _ _ c.if-s-ne0.false)) (stopped _ 6 _ (le-leb 65535 s.windows.last (omega arith)))))
 
 pub returns : goal.returns
 unfolding open_of opened

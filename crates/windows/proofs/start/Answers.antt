@@ -36,5 +36,5 @@ overflow_cast-bytes-2 c =
 pub returns : goal.returns
 unfolding start_of unstarted fresh
 returns c =
-    rw (c.done.ensures, c.empty_state-s.ensures, c.fill.ensures, c.fill-2.ensures)
+    rw (c.done.ensures, c.empty_state-s.ensures, c.fill.ensures.after (λ y e. e), c.fill-2.ensures.after (λ y e. e))
     (passed _ 2 _ (ap not (sym c.lengths_ok.ensures) ∙ c.if-not-lengths_ok.false-raw) (given _ refl))

@@ -1,4 +1,3 @@
-use borrow.Author.Rules.{rules}
 use Rattle.state.proofs.Kept.{listed_kept}
 use Rattle.events.specs.Event.{counted}
 use Rattle.events.proofs.counting.count_event.Goals as goal

@@ -1,4 +1,4 @@
-use Rattle.lists.proofs.Prelude.{add-one, rules}
+use Rattle.lists.proofs.Prelude.{add-one}
 use Rattle.events.proofs.counting.count_window.Goals as goal
 
 pub returns : goal.returns

@@ -1,4 +1,3 @@
-use borrow.Author.Rules.{rules}
 use Rattle.events.proofs.counting.enter.Goals as goal
 
 pub returns : goal.returns

@@ -1,4 +1,4 @@
-use Rattle.lists.proofs.Prelude.{◌≤◌, ◌<◌, arith, length, rules, le-leb, lt-leb}
+use Rattle.lists.proofs.Prelude.{◌≤◌, ◌<◌, arith, length, le-leb, lt-leb}
 use Rattle.identifiers.specs.Names.{number_of}
 use Rattle.identifiers.specs.Register.{names}
 use Rattle.events.proofs.counting.note.Goals as goal

@@ -1,5 +1,5 @@
 -- `events::judging::judge_number` meets its contract: the first test that holds is told by its number, or the identifier's number where none does.
-use Rattle.lists.proofs.Prelude.{refl, sym, ◌∙◌, rules, eq-eqb, ne_eqb, le-leb, lt-leb}
+use Rattle.lists.proofs.Prelude.{refl, sym, ◌∙◌, eq-eqb, ne_eqb, le-leb, lt-leb}
 use Rattle.events.proofs.judging.judge_number.Goals as goal
 
 pub returns-then-w-eq0 : goal.returns-then-w-eq0

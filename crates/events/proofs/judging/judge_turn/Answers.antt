@@ -1,5 +1,5 @@
 -- `events::judging::judge_turn` meets its contract: refused for its length, or judged by its number.
-use Rattle.lists.proofs.Prelude.{[], ◌∷◌, sym, ◌∙◌, subst, ℕ, ◌/◌, length, rules}
+use Rattle.lists.proofs.Prelude.{[], ◌∷◌, sym, ◌∙◌, subst, ℕ, ◌/◌, length}
 use Rattle.identifiers.specs.Names.{bad_length, number_of}
 use Rattle.identifiers.specs.Register.{names}
 use Rattle.events.specs.Verdicts.{number_tests, Weighed}

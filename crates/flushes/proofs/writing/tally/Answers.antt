@@ -50,10 +50,6 @@ bounds-counts-id-in-loop-i c =
     let v = c.loop-i.invariant in
     omega (arith, v.1, counting-id b.postings b.used (omega (arith, v.0, c.requires.0)) c.loop-i.counts c.loop-i.terms c.loop-i.i v.2 c.requires.1 c.loop-i-test.true)
 
-pub overflow_add-i : goal.overflow_add-i
-overflow_add-i c =
-    omega (arith, c.requires.0, c.loop-i-test.true)
-
 pub loop-i-preserved : goal.loop-i-preserved
 loop-i-preserved c =
     let b = c.args.b in

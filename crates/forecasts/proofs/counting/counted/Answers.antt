@@ -1,5 +1,4 @@
 -- `forecasts::counting::counted` meets its contract.
-use borrow.Author.Rules.{rules}
 use Rattle.forecasts.proofs.counting.counted.Goals as goal
 
 pub returns : goal.returns

@@ -1,5 +1,5 @@
 -- `forecasts::counting::judge_flush` meets its contract.
-use Rattle.lists.proofs.Prelude.{◌*◌, suc, ◌≤◌, ◌<◌, arith, rules, le-leb, lt-leb, lt-ltb, le-ltb, not-true, not-false}
+use Rattle.lists.proofs.Prelude.{◌*◌, suc, ◌≤◌, ◌<◌, arith, le-leb, lt-leb, lt-ltb, le-ltb, not-true, not-false}
 use Rattle.forecasts.proofs.counting.judge_flush.Goals as goal
 
 pub returns-then-not-wanted : goal.returns-then-not-wanted

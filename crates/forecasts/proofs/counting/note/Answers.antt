@@ -1,5 +1,5 @@
 -- `forecasts::counting::note` meets its contract.
-use Rattle.lists.proofs.Prelude.{◌≤◌, ◌<◌, add-one, refl, arith, rules, le-leb, lt-leb}
+use Rattle.lists.proofs.Prelude.{◌≤◌, ◌<◌, add-one, refl, arith, le-leb, lt-leb}
 use Rattle.forecasts.proofs.counting.note.Goals as goal
 
 pub returns-then-i-count : goal.returns-then-i-count

@@ -1,6 +1,5 @@
-use Rattle.lists.proofs.Prelude.{map, ◌≡◌, sym, ap, ◌∙◌, ◌+◌, ◌-◌, ◌≤◌, zero-le, add-one, arith, rules, take, drop, same}
-use Rattle.identifiers.specs.Names.{Name, number_of}
-use Rattle.forecasts.specs.Sketches.{identifier_at}
+use Rattle.lists.proofs.Prelude.{sym, ap, ◌∙◌, add-one, arith, same}
+use Rattle.identifiers.specs.Names.{Name}
 use Rattle.forecasts.proofs.Names.{place_kept, place_at, new-step, new-end}
 use Rattle.forecasts.proofs.naming.find_new.Goals as goal
 
@@ -16,17 +15,17 @@ pub returns-then-equal : goal.returns-then-equal
 returns-then-equal c =
     let n = new-step c.args.plan.now c.args.places.now c.args.known c.loop-i.i c.requires.0 (omega arith) c.args.id.now in
     let e = ap (λ (m : Name). same m c.args.id.now) (sym c.identifier_at-other.ensures) ∙ sym c.equal.ensures ∙ c.if-equal.true in
-    omega (arith, c.loop-i.invariant.1, rw e at n)
+    omega (arith, c.loop-i.invariant, rw e at n)
 
 pub loop-i-preserved : goal.loop-i-preserved
 loop-i-preserved c =
     let n = new-step c.args.plan.now c.args.places.now c.args.known c.loop-i.i c.requires.0 (omega arith) c.args.id.now in
     let e = ap (λ (m : Name). same m c.args.id.now) (sym c.identifier_at-other.ensures) ∙ sym c.equal.ensures ∙ c.if-equal.false in
-    (omega arith, rw (add-one c.loop-i.i) (omega (arith, c.loop-i.invariant.1, rw e at n)))
+    rw (add-one c.loop-i.i) (omega (arith, c.loop-i.invariant, rw e at n))
 
 pub returns : goal.returns
 returns c =
-    omega (arith, c.loop-i.invariant.1, new-end c.args.plan.now c.args.places.now c.args.known c.loop-i.i c.args.id.now c.requires.0 (omega arith))
+    omega (arith, c.loop-i.invariant, new-end c.args.plan.now c.args.places.now c.args.known c.loop-i.i c.args.id.now c.requires.0 (omega arith))
 
 pub loop-i-init : goal.loop-i-init
-loop-i-init c = (zero-le, omega arith)
+loop-i-init c = omega arith

@@ -1,17 +1,11 @@
-use Rattle.lists.proofs.Prelude.{refl, arith}
-use Rattle.identifiers.proofs.Lent.{bad-found, bad-on, bad-end}
+use Rattle.lists.proofs.Prelude.{sym, ◌∙◌, rules, any-map}
+use borrow.Author.Tests.{tests}
+use Rattle.std.proofs.lemmas.Iterator.{YieldsList-from_slice}
+use Rattle.std.proofs.lemmas.Iterator.Search.{any_from_yields_List}
+use Rattle.identifiers.specs.Names.{bad_length}
 use Rattle.identifiers.proofs.many.any_bad.Goals as goal
 
-pub loop-i-init : goal.loop-i-init
-loop-i-init c = (omega arith, refl)
-
-pub returns-then-bad_length : goal.returns-then-bad_length
-returns-then-bad_length c =
-    bad-found c.args.ids.now c.loop-i.i c.loop-i.invariant.1 (omega arith) _ c.bad_length.ensures c.if-bad_length.true
-
-pub loop-i-preserved : goal.loop-i-preserved
-loop-i-preserved c =
-    (omega arith, bad-on c.args.ids.now c.loop-i.i c.loop-i.invariant.1 (omega arith) _ c.bad_length.ensures c.if-bad_length.false)
-
 pub returns : goal.returns
-returns c = bad-end c.args.ids.now c.loop-i.i c.loop-i.invariant.1 (omega arith)
+returns c =
+    any_from_yields_List (λ x. bad_length x.now) _ _ c.any.result c.any.ensures.ran (YieldsList-from_slice c.args.ids.now cc) (λ x b q k. search (rules, tests))
+    ∙ sym (any-map bad_length (λ x. x.now) c.args.ids.now)

@@ -1,18 +1,13 @@
-use Rattle.lists.proofs.Prelude.{refl, arith}
-use Rattle.identifiers.proofs.Lent.{again-found, again-on, again-end}
+use Rattle.lists.proofs.Prelude.{sym, ◌∙◌, rules, same, take, get_or, any-map, map-take}
+use borrow.Author.Tests.{tests}
+use Rattle.std.proofs.lemmas.Iterator.{YieldsList-from_slice}
+use Rattle.std.proofs.lemmas.Iterator.Search.{any_from_yields_List}
+use Rattle.identifiers.proofs.Lent.{nothing, lent_at}
 use Rattle.identifiers.proofs.many.repeats.Goals as goal
-
-pub loop-j-init : goal.loop-j-init
-loop-j-init c = (omega arith, refl)
-
-pub returns-then-equal : goal.returns-then-equal
-returns-then-equal c =
-    again-found c.args.ids.now c.args.i c.loop-j.j c.requires c.loop-j.invariant.1 (omega arith) _ c.equal.ensures c.if-equal.true
-
-pub loop-j-preserved : goal.loop-j-preserved
-loop-j-preserved c =
-    (omega arith, again-on c.args.ids.now c.args.i c.loop-j.j c.requires c.loop-j.invariant.1 (omega arith) _ c.equal.ensures c.if-equal.false)
 
 pub returns : goal.returns
 returns c =
-    again-end c.args.ids.now c.args.i c.loop-j.j c.requires c.loop-j.invariant.1 (omega arith)
+    let l = c.args.ids.now in
+    let n = (get_or l c.args.i nothing).now in
+    any_from_yields_List (λ x. same x.now n) _ _ c.any.result c.any.ensures.ran (YieldsList-from_slice (take c.args.i l) cc) (λ x b q k. search (rules, tests))
+    ∙ rw (lent_at l c.args.i, ← map-take (λ x. x.now) c.args.i l) (sym (any-map (λ m. same m n) (λ x. x.now) (take c.args.i l)))

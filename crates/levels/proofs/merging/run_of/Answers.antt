@@ -4,16 +4,6 @@ use Rattle.state.specs.Views.{finished, partitions_of}
 use Rattle.levels.proofs.Choosing.{finished-of, front_cut}
 use Rattle.levels.proofs.merging.run_of.Goals as goal
 
-pub cut-requires : goal.cut-requires
-cut-requires c =
-    let p = c.args.p in
-    let end = c.args.at + c.args.count in
-    let len : length p.records ≡ 51 = search (unmapped, rules) in
-    let l : length (finished p) ≡ p.used = length-take-le p.used p.records (omega (arith, c.requires.0)) in
-    let e = c.cut-front.ensures ∙ ap partitions_of (front_cut (finished p) end p.used l) in
-    let f = ap finished e ∙ finished-of (take end (finished p)) in
-    (rw e (omega (arith, length-take-le end (finished p) (omega (arith, c.requires.1)))), e ∙ ap partitions_of (sym f))
-
 pub returns : goal.returns
 returns c =
     let p = c.args.p in

@@ -1,26 +1,8 @@
-use Rattle.lists.proofs.Prelude.{◌≡◌, ap, ◌∙◌, ◌+◌, ◌-◌, arith, length, rules, unmapped}
+use Rattle.lists.proofs.Prelude.{ap, ◌∙◌, ◌+◌, ◌-◌, arith}
 use Rattle.state.specs.Views.{finished, partitions_of}
 use Rattle.lists.proofs.Padding.{without, without-rest}
-use Rattle.state.proofs.Rows.{used-fits, used-form, finished-set, form-set}
+use Rattle.state.proofs.Rows.{used-form, finished-set, form-set}
 use Rattle.levels.proofs.records.replace.Goals as goal
-
-pub offset_bounds-t-place : goal.offset_bounds-t-place
-offset_bounds-t-place c =
-    let len : length c.args.p.records ≡ 51 = search (unmapped, rules) in
-    let fits = used-fits c.args.p c.requires.2 len in
-    omega arith
-
-pub bounds-t-place : goal.bounds-t-place
-bounds-t-place c =
-    let len : length c.args.p.records ≡ 51 = search (unmapped, rules) in
-    let fits = used-fits c.args.p c.requires.2 len in
-    omega arith
-
-pub overflow_add-at : goal.overflow_add-at
-overflow_add-at c =
-    let len : length c.args.p.records ≡ 51 = search (unmapped, rules) in
-    let fits = used-fits c.args.p c.requires.2 len in
-    omega arith
 
 pub cut-requires : goal.cut-requires
 cut-requires c =

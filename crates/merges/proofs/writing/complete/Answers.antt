@@ -1,5 +1,5 @@
 -- `merges::writing::complete` meets its contract.
-use Rattle.lists.proofs.Prelude.{◌∙◌, arith, rules}
+use Rattle.lists.proofs.Prelude.{◌∙◌, arith}
 use Rattle.words.specs.Words.{words}
 use Rattle.card.specs.Chains.{chain}
 use Rattle.partitions.specs.Layout.{header}

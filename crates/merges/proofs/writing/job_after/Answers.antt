@@ -1,5 +1,5 @@
 -- `merges::writing::job_after` meets its contract.
-use Rattle.lists.proofs.Prelude.{add-one, rules}
+use Rattle.lists.proofs.Prelude.{add-one}
 use Rattle.merges.proofs.writing.job_after.Goals as goal
 
 pub returns-then-last : goal.returns-then-last

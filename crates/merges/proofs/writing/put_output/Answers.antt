@@ -1,5 +1,5 @@
 -- `merges::writing::put_output` meets its contract.
-use Rattle.lists.proofs.Prelude.{map, arith, rules}
+use Rattle.lists.proofs.Prelude.{map, arith}
 use Rattle.words.specs.Words.{words}
 use Rattle.card.specs.Chains.{chain}
 use Rattle.partitions.specs.Layout.{word_of}

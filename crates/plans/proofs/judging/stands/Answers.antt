@@ -1,5 +1,5 @@
 -- `plans::judging::stands` meets its contract.
-use Rattle.lists.proofs.Prelude.{sym, ◌∙◌, rules, not-true, not-false}
+use Rattle.lists.proofs.Prelude.{sym, ◌∙◌, not-true, not-false}
 use Rattle.words.specs.Words.{words}
 use Rattle.card.proofs.Seeking.{rule-chained}
 use Rattle.plans.specs.Acting.{stands_on}

@@ -1,17 +1,19 @@
-use Rattle.lists.proofs.Prelude.{not-true, not-false, ◌≡◌, refl, sym, ap, ◌∙◌, subst, [], map, ⊎_elim, ℕ, ◌≤◌, ◌<◌, ◌-◌, arith, length, get_or, length-map, rules}
+use Rattle.lists.proofs.Prelude.{◌≡◌, refl, sym, ap, ◌∙◌, subst, [], map, ℕ, ◌<◌, ◌-◌, arith, length, get_or, length-map}
+use Rattle.partitions.specs.Formed.{identifier_formed}
 use Rattle.words.specs.Words.{words}
 use Rattle.identifiers.specs.Names.{number_of}
 use Rattle.identifiers.specs.Register.{names}
-use Rattle.queries.specs.Gathered.{KeptOf}
+use Rattle.queries.specs.Gathered.{KeptWell}
 use Rattle.identifiers.proofs.Lent.{lent_at}
-use Rattle.queries.proofs.Gathering.{Gathering, gathering-none, gathered-all, gathering-unknown, gathered-fault, gathering-more}
+use Rattle.queries.proofs.Gathering.{gathering-none, gathered-all, gathering-unknown, gathered-fault, gathering-more}
 use Rattle.queries.proofs.Tested.{sound-names}
 use Rattle.queries.proofs.judging.gather.Goals as goal
+use Rattle.queries.proofs.judging.gather.Goals.{then-number-used+in_ok-known, else-number-used}
 
-pub loop-i-init : goal.loop-i-init
-loop-i-init c =
+pub loop-id-init : goal.loop-id-init
+loop-id-init c =
     let a = c.args in
-    (refl, refl, gathering-none (words a.card.now) a.run.now a.s a.t a.live (names a.register.now) (map (λ x. x.now) a.ids.now) _ a.heads.now refl refl refl)
+    record { heads = refl; spare = refl; gathered = gathering-none (words a.card.now) a.run.now a.s a.t a.live (names a.register.now) (map (λ x. x.now) a.ids.now) _ a.heads.now refl refl }
 
 pub find-number-requires : goal.find-number-requires
 find-number-requires c = c.requires.0.names
@@ -20,62 +22,53 @@ pub overflow_cast-number : goal.overflow_cast-number
 overflow_cast-number c =
     omega (arith, c.if-number-used.true, c.used_entries-used.ensures, sound-names c.args.s c.args.card.now c.args.register.now c.requires.0)
 
-pub keep_one-known-requires : goal.keep_one-known-requires
-keep_one-known-requires c =
-    let v = c.loop-i.invariant in
-    (rw (v.0, v.1) c.requires.1, v.2.used, v.2.few)
+pub keep_one-requires : goal.keep_one-requires
+keep_one-requires c =
+    let v = c.loop-id.invariant in
+    (rw (v.heads, v.spare) c.requires.1, v.gathered.used, v.gathered.few)
 
-pub shape_of-heads-then-not-fine : goal.shape_of-heads-then-not-fine
-shape_of-heads-then-not-fine c = c.heads-1.given ∙ c.loop-i.invariant.0
-
-pub shape_of-spare-then-not-fine : goal.shape_of-spare-then-not-fine
-shape_of-spare-then-not-fine c = c.spare-1.given ∙ c.loop-i.invariant.1
-
-pub returns-then-not-fine : goal.returns-then-not-fine
-returns-then-not-fine c =
+pub returns-in_err-known : goal.returns-in_err-known
+returns-in_err-known c =
     let a = c.args in
     let W = words a.card.now in
     let ms = names a.register.now in
     let ns = map (λ x. x.now) a.ids.now in
-    let e : c.find-number.result ≡ number_of ms (get_or ns c.loop-i.i []) = c.find-number.ensures ∙ ap (number_of ms) (sym (lent_at a.ids.now c.loop-i.i)) in
+    let i = c.loop-id.id-index in
+    let e : c.find-number.result ≡ number_of ms (get_or ns i []) = c.find-number.ensures ∙ ap (number_of ms) (sym (lent_at a.ids.now i)) in
     let u : c.used_entries-used.result ≡ length ms = c.used_entries-used.ensures in
-    let h : c.loop-i.i < length ns = omega (arith, c.loop-i-test.true, length-map a.ids.now (λ x. x.now)) in
-    let g : number_of ms (get_or ns c.loop-i.i []) < length ms = omega (arith, c.if-number-used.true) in
-    let o = c.keep_one-known in
-    gathered-fault W a.run.now a.s a.t a.live ms ns c.loop-i.i c.loop-i.known c.loop-i.heads h c.loop-i.invariant.2 g o.result o.new.heads (subst (λ (j : ℕ). KeptOf W a.run.now a.s a.t a.live c.loop-i.known c.loop-i.heads j o.result o.new.heads) e o.ensures) (not-true _ c.if-not-fine.true-raw)
+    let h : i < length ns = omega (arith, c.loop-id-test.true, length-map a.ids.now (λ x. x.now)) in
+    let g : number_of ms (get_or ns i []) < length ms = omega (arith, c.if-number-used.true) in
+    rw c.from_residual.ensures
+    (gathered-fault W a.run.now a.s a.t a.live ms ns i c.loop-id.known c.loop-id.heads h c.loop-id.invariant.gathered g (ap (identifier_formed W a.s) (sym e) ∙ c.in_err-known.ensures))
 
-pub overflow_add-i : goal.overflow_add-i
-overflow_add-i c = omega (arith, c.loop-i-test.true, c.well_formed.1.1.1.0)
-
-pub loop-i-smaller : goal.loop-i-smaller
-loop-i-smaller c = omega (arith, c.loop-i-test.true)
-
-pub loop-i-preserved : goal.loop-i-preserved
-loop-i-preserved c =
+pub loop-id-preserved : goal.loop-id-preserved
+loop-id-preserved c =
     let a = c.args in
     let W = words a.card.now in
     let ms = names a.register.now in
     let ns = map (λ x. x.now) a.ids.now in
-    let e : c.find-number.result ≡ number_of ms (get_or ns c.loop-i.i []) = c.find-number.ensures ∙ ap (number_of ms) (sym (lent_at a.ids.now c.loop-i.i)) in
+    let i = c.loop-id.id-index in
+    let e : c.find-number.result ≡ number_of ms (get_or ns i []) = c.find-number.ensures ∙ ap (number_of ms) (sym (lent_at a.ids.now i)) in
     let u : c.used_entries-used.result ≡ length ms = c.used_entries-used.ensures in
-    let h : c.loop-i.i < length ns = omega (arith, c.loop-i-test.true, length-map a.ids.now (λ x. x.now)) in
-    let v = c.loop-i.invariant in
-    ⊎_elim
-    (λ q. let g : number_of ms (get_or ns c.loop-i.i []) < length ms = omega (arith, q.if-number-used.true) in
-    let o = q.keep_one-known in
-    rw (q.heads-is, q.spare-is, q.known-is)
-    (q.heads-1.given ∙ v.0, q.spare-1.given ∙ v.1, gathering-more W a.run.now a.s a.t a.live ms ns c.loop-i.i c.loop-i.known c.loop-i.heads h v.2 g o.result o.new.heads (subst (λ (j : ℕ). KeptOf W a.run.now a.s a.t a.live c.loop-i.known c.loop-i.heads j o.result o.new.heads) e o.ensures) (not-false _ q.if-not-fine.false-raw)))
-    (λ q. let g : length ms ≤ number_of ms (get_or ns c.loop-i.i []) = omega (arith, q.if-number-used.false) in
-    rw (q.heads-is, q.spare-is, q.known-is) (v.0, v.1, gathering-unknown W a.run.now a.s a.t a.live ms ns c.loop-i.i c.loop-i.known c.loop-i.heads h v.2 g))
-    c.if-number-used.branch-raw
-
-pub shape_of-heads : goal.shape_of-heads
-shape_of-heads c = c.loop-i.invariant.0
-
-pub shape_of-spare : goal.shape_of-spare
-shape_of-spare c = c.loop-i.invariant.1
+    let h : i < length ns = omega (arith, c.loop-id-test.true, length-map a.ids.now (λ x. x.now)) in
+    let v = c.loop-id.invariant in
+    let k = c.loop-id.known in
+    let H = c.loop-id.heads in
+    elim c.if-number-used.branch [
+      | then-number-used+in_ok-known w ↦ rw (w.heads-is, w.spare-is, w.known-is) (record {
+        heads = w.keep_one.auto.heads ∙ v.heads;
+        spare = w.keep_one.auto.spare ∙ v.spare;
+        gathered = gathering-more W a.run.now a.s a.t a.live ms ns i k H h v.gathered (omega (arith, w.if-number-used.true)) w.in_ok-known.known w.keep_one.new.heads
+            (subst (λ (j : ℕ). KeptWell W a.run.now a.s a.t a.live k H j w.keep_one.new.heads w.in_ok-known.known) e w.in_ok-known.ensures);
+      })
+      | else-number-used w ↦ rw (w.heads-is, w.spare-is, w.known-is) (record {
+        heads = v.heads;
+        spare = v.spare;
+        gathered = gathering-unknown W a.run.now a.s a.t a.live ms ns i k H h v.gathered (omega (arith, w.if-number-used.false));
+      })
+    ]
 
 pub returns : goal.returns
 returns c =
     let a = c.args in
-    gathered-all (words a.card.now) a.run.now a.s a.t a.live (names a.register.now) (map (λ x. x.now) a.ids.now) c.loop-i.i c.loop-i.known c.loop-i.heads (omega (arith, length-map a.ids.now (λ x. x.now))) c.loop-i.invariant.2
+    gathered-all (words a.card.now) a.run.now a.s a.t a.live (names a.register.now) (map (λ x. x.now) a.ids.now) c.loop-id.id-index c.loop-id.known c.loop-id.heads (omega (arith, length-map a.ids.now (λ x. x.now))) c.loop-id.invariant.gathered

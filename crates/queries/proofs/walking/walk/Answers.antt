@@ -1,6 +1,5 @@
-use Rattle.lists.proofs.Prelude.{Bool, true, false, ◌&&◌, ◌||◌, ◌≡◌, refl, sym, ap, ◌∙◌, ℕ, suc, ◌-◌, ◌<◌, arith, ltb, get_or, take, rules}
+use Rattle.lists.proofs.Prelude.{Bool, true, false, ◌&&◌, ◌||◌, ◌≡◌, refl, sym, ap, ◌∙◌, ℕ, suc, ◌-◌, ◌<◌, arith, ltb, get_or, take}
 use Rattle.words.specs.Words.{words}
-use Rattle.state.specs.Shown.{shows_in}
 use Rattle.answers.specs.declared.Hit.{Hit}
 use Rattle.ranking.specs.declared.Top.{Top}
 use Rattle.ranking.specs.Hits.{outranks, place}

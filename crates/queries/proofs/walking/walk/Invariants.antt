@@ -1,13 +1,8 @@
 -- `queries::walking::walk` meets its contract. The invariant: the best so far and what is left give the best of all. The measure is the reach of what is left.
-use Rattle.lists.proofs.Prelude.{Bool, true, false, ◌&&◌, ◌||◌, ◌≡◌, refl, sym, ap, ◌∙◌, ℕ, suc, ◌-◌, ◌<◌, arith, ltb, get_or, take, rules}
+use Rattle.lists.proofs.Prelude.{Bool, ℕ, ◌-◌}
 use Rattle.words.specs.Words.{words}
 use Rattle.state.specs.Shown.{shows_in}
-use Rattle.answers.specs.declared.Hit.{Hit}
-use Rattle.ranking.specs.declared.Top.{Top}
-use Rattle.ranking.specs.Hits.{outranks, place}
-use Rattle.ranking.specs.Top.{no_hit, top_of, listed_hits}
-use Rattle.ranking.proofs.Tops.{held-length}
-use Rattle.queries.proofs.Walked.{Walking, walk-begun, walk-ended, walk-window, walk_top, walk-ranges, walk-lower, walk-placed, walk-out, walk-passed}
+use Rattle.queries.proofs.Walked.{Walking}
 use Rattle.queries.proofs.walking.walk.Given as goal
 
 -- the windows that show

@@ -1,18 +1,14 @@
-use Rattle.lists.proofs.Prelude.{arith, rules, choose-place}
-use Rattle.rules.proofs.Places.{left-start, left-turn, left_end}
+use Rattle.lists.proofs.Prelude.{eqb, leb, drop, rules}
+use borrow.Author.Tests.{tests}
+use Rattle.std.proofs.lemmas.Iterator.{YieldsList-from_slice}
+use Rattle.std.proofs.lemmas.Iterator.Search.{all_from_yields_List}
+use Rattle.std.proofs.lemmas.Slice.{between_to_end}
+use Rattle.state.specs.Views.{listed}
 use Rattle.rules.proofs.id_rules.places_ok.Goals as goal
-
-pub loop-i-init : goal.loop-i-init
-loop-i-init c = (search rules, left-start c.args.l.used c.args.l.ids)
-
-pub loop-i-preserved : goal.loop-i-preserved
-loop-i-preserved c =
-    let s = c.args in
-    let len = c.loop-i.invariant.0 in
-    (len, rw (c.found_from.ensures, choose-place) (left-turn c.loop-i.ok s.l.used s.l.ids c.loop-i.i (omega arith) (omega arith) c.loop-i.invariant.1))
 
 pub returns : goal.returns
 returns c =
-    let s = c.args in
-    let len = c.loop-i.invariant.0 in
-    left_end c.loop-i.ok s.l.used s.l.ids c.loop-i.i (omega arith) (omega arith) c.loop-i.invariant.1
+    let l = c.args.l in
+    let a = all_from_yields_List (λ i. leb i 1023) _ _ c.all.result c.all.ensures.ran (YieldsList-from_slice (listed l) cc) (λ x b q k. search (rules, tests)) in
+    let b = all_from_yields_List (λ i. eqb i 0) _ _ c.all-2.result c.all-2.ensures.ran (YieldsList-from_slice (drop l.used l.ids) (search (rules, between_to_end))) (λ x b q k. search (rules, tests)) in
+    rw (a, b, c.all_differ.ensures)

@@ -1,23 +1,19 @@
-use Rattle.lists.proofs.Prelude.{true, ◌≡◌, refl, arith, length, rules, unmapped, leb, rest-begin, rest-turn, rest_end}
-use Rattle.state.specs.Views.{no_partition}
+use Rattle.lists.proofs.Prelude.{refl, ap, ◌∙◌, leb, drop, rules}
+use borrow.Author.Tests.{tests}
+use Rattle.std.proofs.lemmas.Iterator.{YieldsList-from_slice}
+use Rattle.std.proofs.lemmas.Iterator.Search.{all_from_yields_List}
+use Rattle.std.proofs.lemmas.Slice.{between_to_end}
+use Rattle.std.proofs.lemmas.Fn.{always_returns_same}
+use borrow.Author.Rules.{of_calls}
+use Rattle.state.specs.Views.{finished}
 use Rattle.state.specs.Rules.{never_rise, record_rule, unused_record}
-use Rattle.rules.proofs.Places.{rise-next}
+use Rattle.rules.proofs.Places.{rise-next, near-answer}
 use Rattle.rules.proofs.partition_rules.places_ok.Goals as goal
-
-pub loop-i-init : goal.loop-i-init
-loop-i-init c =
-    let s = c.args in
-    let len : length s.p.records ≡ 51 = search (unmapped, rules) in
-    (len, rest-begin never_rise (λ p q. leb q.level p.level) (record_rule s.blocks) unused_record refl (λ x. refl) rise-next no_partition true c.place_ok-ok.result s.p.used s.p.records (omega arith) c.place_ok-ok.ensures)
-
-pub loop-i-preserved : goal.loop-i-preserved
-loop-i-preserved c =
-    let s = c.args in
-    let len = c.loop-i.invariant.0 in
-    (len, rw c.place_ok.ensures (rest-turn never_rise (λ p q. leb q.level p.level) (record_rule s.blocks) unused_record refl (λ x. refl) rise-next no_partition c.loop-i.ok s.p.used c.loop-i.last s.p.records c.loop-i.i (omega arith) c.loop-i.invariant.1))
 
 pub returns : goal.returns
 returns c =
-    let s = c.args in
-    let len = c.loop-i.invariant.0 in
-    rest_end never_rise (λ p q. leb q.level p.level) (record_rule s.blocks) unused_record refl (λ x. refl) rise-next no_partition c.loop-i.ok s.p.used c.loop-i.last s.p.records c.loop-i.i (omega arith) c.loop-i.invariant.1
+    let p = c.args.p in
+    let n = near-answer never_rise (λ p q. leb q.level p.level) refl (λ x. refl) rise-next c.finished-used.result.now c.is_sorted_by.result (c.is_sorted_by.ensures.cases (λ p q. leb q.level p.level) (always_returns_same _ _ _ (λ a r f k. search (rules, of_calls)))) ∙ ap never_rise c.finished-used.ensures in
+    let a = all_from_yields_List (record_rule c.args.blocks) _ _ c.all.result c.all.ensures.ran (YieldsList-from_slice (finished p) cc) (λ x b q k. search (rules, tests)) in
+    let b = all_from_yields_List unused_record _ _ c.all-2.result c.all-2.ensures.ran (YieldsList-from_slice (drop p.used p.records) (search (rules, between_to_end))) (λ x b q k. search (rules, tests)) in
+    rw (n, a, b)

@@ -26,4 +26,5 @@ returns c =
     let few : Below 4294967296 c.args.run.now = λ j. omega (arith, c.shared_slice_known-2-1.given j) in
     let rules = rule-each c.args.s.windows (buffered c.args.s.buffer) k.buffer.rules in
     let o = c.open_heads in
-    judged-same (words c.args.card.now) c.args.run.now c.args.s c.args.id o.new.heads o.ensures small few k.buffer.order rules c.args.t _ c.judge.ensures
+    let j = judged-same (words c.args.card.now) c.args.run.now c.args.s c.args.id o.new.heads o.ensures small few k.buffer.order rules c.args.t _ c.judge.ensures in
+    record { told = j.0; fitting = j.1 }

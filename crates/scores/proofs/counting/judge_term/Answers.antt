@@ -1,10 +1,8 @@
 -- `scores::counting::judge_term` meets its contract: what is told says whether all is well formed.
-use Rattle.lists.proofs.Prelude.{sym, ◌∙◌}
-use Rattle.scores.proofs.Serving.{told-formed, told-malformed}
+use Rattle.std.specs.Prelude.{is_some}
+use Rattle.lists.proofs.Prelude.{ap, ◌∙◌}
+use Rattle.scores.proofs.Serving.{told-some}
 use Rattle.scores.proofs.counting.judge_term.Goals as goal
 
-pub returns-in-Malformed : goal.returns-in-Malformed
-returns-in-Malformed c = sym (told-malformed _ _ _ _ (sym c.count_term-told.ensures.0 ∙ c.in-Malformed.is))
-
-pub returns-in-Windows : goal.returns-in-Windows
-returns-in-Windows c = sym (told-formed _ _ _ _ _ _ (sym c.count_term-told.ensures.0 ∙ c.in-Windows.is)).0
+pub returns : goal.returns
+returns c = c.is_some.ensures ∙ ap is_some c.count_term.ensures.told ∙ told-some _ _ _ _

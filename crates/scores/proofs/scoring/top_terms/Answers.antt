@@ -1,4 +1,4 @@
-use Rattle.lists.proofs.Prelude.{◌≡◌, refl, ◌∙◌, ◌+◌, ◌*◌, arith}
+use Rattle.lists.proofs.Prelude.{refl, ◌∙◌, ◌+◌, ◌*◌, arith}
 use Rattle.words.specs.Words.{words}
 use Rattle.kway.specs.Parts.{parts}
 use Rattle.kway.proofs.Parts.{ends, all-at}
@@ -14,20 +14,20 @@ overflow_add-size c = omega (arith, c.requires.2)
 
 pub loop-j-init : goal.loop-j-init
 unfolding parts
-loop-j-init c = (omega arith, refl)
+loop-j-init c = refl
 
-pub overflow_mul-at : goal.overflow_mul-at
-overflow_mul-at c =
+pub overflow_mul-size-in-loop-j : goal.overflow_mul-size-in-loop-j
+overflow_mul-size-in-loop-j c =
     let e = ends (4 * c.args.m + 4) c.loop-j.j c.args.g c.loop-j-test.true in
     omega (arith, e, c.requires.0, c.requires.1, c.requires.2)
 
-pub offset_bounds-heads-at : goal.offset_bounds-heads-at
-offset_bounds-heads-at c =
+pub offset_bounds-heads-size : goal.offset_bounds-heads-size
+offset_bounds-heads-size c =
     let e = ends (4 * c.args.m + 4) c.loop-j.j c.args.g c.loop-j-test.true in
     omega (arith, e, c.requires.0, c.requires.1, c.requires.2)
 
-pub bounds-heads-at : goal.bounds-heads-at
-bounds-heads-at c =
+pub bounds-heads-size : goal.bounds-heads-size
+bounds-heads-size c =
     let e = ends (4 * c.args.m + 4) c.loop-j.j c.args.g c.loop-j-test.true in
     omega (arith, e, c.requires.0, c.requires.1, c.requires.2)
 
@@ -39,7 +39,4 @@ loop-j-preserved c =
     let j = c.loop-j.j in
     let H = c.args.heads.now in
     let test = c.loop-j-test.true in
-    (omega (arith, test), c.larger-top.ensures ∙ terms-turn W R m H j c.loop-j.top _ (group-reach W R m H j (all-at (KeptGroup W R m) (4 * m + 4) c.args.g H c.requires.3 j test)) c.loop-j.invariant.1)
-
-pub returns : goal.returns
-returns c = let e : c.loop-j.j ≡ c.args.g = omega arith in rw e at c.loop-j.invariant.1
+    c.max-top.ensures ∙ terms-turn W R m H j c.loop-j.top _ (group-reach W R m H j (all-at (KeptGroup W R m) (4 * m + 4) c.args.g H c.requires.3 j test)) c.loop-j.invariant

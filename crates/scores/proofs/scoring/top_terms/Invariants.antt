@@ -1,5 +1,5 @@
 -- `scores::scoring::top_terms` meets its contract. The invariant: `top` is that of the terms before j.
-use Rattle.lists.proofs.Prelude.{◌≡◌, ◌≤◌, ◌-◌}
+use Rattle.lists.proofs.Prelude.{◌≡◌}
 use Rattle.words.specs.Words.{words}
 use Rattle.keyed.specs.Groups.{top_all}
 use Rattle.scores.specs.Terms.{terms_of}
@@ -7,7 +7,4 @@ use Rattle.scores.specs.Scores.{groups_in}
 use Rattle.scores.proofs.scoring.top_terms.Given as goal
 
 abbrev pub invariant-loop-j : goal.invariant-loop-j
-invariant-loop-j l = (l.j ≤ l.g) × (l.top ≡ top_all 0 (groups_in (terms_of (words l.card) l.run l.m l.j l.heads)))
-
-abbrev pub decreases-loop-j : goal.decreases-loop-j
-decreases-loop-j l = l.g - l.j
+invariant-loop-j l = l.top ≡ top_all 0 (groups_in (terms_of (words l.card) l.run l.m l.j l.heads))

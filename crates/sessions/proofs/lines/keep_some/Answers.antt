@@ -1,4 +1,4 @@
-use Rattle.lists.proofs.Prelude.{arith}
+use Rattle.lists.proofs.Prelude.{◌≡◌, arith, length}
 use Rattle.sessions.proofs.Taking.{keep-none, keep-more, keep-past, keep-stopped, keep-as}
 use Rattle.sessions.proofs.lines.keep_some.Goals as goal
 use Rattle.sessions.proofs.lines.keep_some.Goals.{then-n-lt513, else-n-lt513}
@@ -16,8 +16,10 @@ loop-i-preserved c =
       | else-n-lt513 w ↦ keep-as w.line-is w.n-is (keep-past s h f w.if-n-lt513.false (omega (arith, s.long, c.requires)))
     ]
 
-pub returns-after-loop-i : goal.returns-after-loop-i
-returns-after-loop-i c = keep-stopped c.loop-i.invariant (λ h. omega arith)
+pub returns : goal.returns
+returns c =
+    let e : length c.args.piece.now ≡ c.loop-i.i = omega arith in
+    rw e (keep-stopped c.loop-i.invariant (λ h. omega arith))
 
 pub returns-then-b-eq10 : goal.returns-then-b-eq10
 returns-then-b-eq10 c = keep-stopped c.loop-i.invariant (λ h. c.if-b-eq10.true)

@@ -28,7 +28,7 @@ loop-top-init c =
     let n = c.args.n in
     let H = c.args.heads.now in
     let l = c.leader-l in
-    (refl, c.requires.2, sym (top-step (views W R n H) (view W R (part 4 n H)) l.result.top _ _ l.ensures.0 (reach-at W R H n c.requires.2.run) c.larger-top.ensures), l.ensures.1, (omega arith, omega arith), start (seen c.args.first c.args.last c.args.current) _)
+    (refl, c.requires.2, sym (top-step (views W R n H) (view W R (part 4 n H)) l.result.top _ _ l.ensures.0 (reach-at W R H n c.requires.2.run) c.max-top.ensures), l.ensures.1, (omega arith, omega arith), start (seen c.args.first c.args.last c.args.current) _)
 
 pub shape_of-heads-then-bound-top : goal.shape_of-heads-then-bound-top
 shape_of-heads-then-bound-top c = c.loop-top.invariant.0
@@ -44,11 +44,11 @@ judge_window-t-requires c =
     let v = c.loop-top.invariant in
     (v.0 ∙ c.requires.0, c.requires.1, omega (arith, c.loop-top-test.true), v.1, v.3)
 
-pub shape_of-heads-then-not-fine : goal.shape_of-heads-then-not-fine
-shape_of-heads-then-not-fine c = c.judge_window-t.ensures.heads.0 ∙ c.loop-top.invariant.0
+pub shape_of-heads-then-not-t : goal.shape_of-heads-then-not-t
+shape_of-heads-then-not-t c = c.judge_window-t.ensures.heads.0 ∙ c.loop-top.invariant.0
 
-pub returns-then-not-fine : goal.returns-then-not-fine
-returns-then-not-fine c =
+pub returns-then-not-t : goal.returns-then-not-t
+returns-then-not-t c =
     let test = c.loop-top-test.true in
     let below = c.if-bound-top.false in
     let gs = both (words c.args.card.now) c.args.run.now c.args.n c.loop-top.heads in
@@ -57,7 +57,7 @@ returns-then-not-fine c =
     let high : top_all 0 gs ≡ suc k = sym v.2 ∙ omega (arith, test) in
     let low : suc k ≤ c.loop-top.bound = omega (arith, below, test) in
     let t = c.judge_window-t in
-    sym (v.5 ∙ faulty (seen c.args.first c.args.last c.args.current) c.loop-top.bound c.loop-top.windows c.loop-top.total gs k high low (sym t.ensures.judged.0 ∙ not-true _ c.if-not-fine.true-raw))
+    sym (v.5 ∙ faulty (seen c.args.first c.args.last c.args.current) c.loop-top.bound c.loop-top.windows c.loop-top.total gs k high low (sym t.ensures.judged.0 ∙ not-true _ c.if-not-t.true))
 
 abbrev window : After-shown → ℕ
 window m = m.loop-top.top - 1
@@ -73,7 +73,7 @@ high m = sym m.loop-top.invariant.2 ∙ omega (arith, m.loop-top-test.true)
 
 -- it is well formed, and this is what it counts
 fine : (m : After-shown) → fine_at (window m) (left m) ≡ true
-fine m = sym m.judge_window-t.ensures.judged.0 ∙ not-false _ m.if-not-fine.false-raw
+fine m = sym m.judge_window-t.ensures.judged.0 ∙ not-false _ m.if-not-t.false
 
 counts : (m : After-shown) → m.shown-count.result ≡ count_at (seen m.args.first m.args.last m.args.current) (window m) (map (head_vals (window m)) (left m))
 counts m = m.shown-count.ensures ∙ ap (λ (n : ℕ). cond (seen m.args.first m.args.last m.args.current (window m)) n 0) m.judge_window-t.ensures.judged.1

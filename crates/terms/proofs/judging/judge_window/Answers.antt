@@ -71,7 +71,7 @@ returns c =
         ap₂ ◌&&◌ (ap₂ ◌&&◌ tt.taken.1 qq.3) (ap₂ ◌&&◌ (c.in_range.ensures ∙ ap in_range (to_z-of_z fs)) (c.in_range-2.ensures ∙ ap in_range zt))
             ∙ fine-step g v k t.result.sum a.result tt.taken.0 total,
         c.above-count.ensures ∙ ap above zt ∙ counts_step g v k t.result.sum a.result tt.taken.0 total,
-        rw (after-parts n H X Y c.requires.0 front four, after-part n H X Y c.requires.0 front four) (sym (top-step (views W R n X) (view W R Y) t.result.next q.result.reach _ tt.taken.2 qq.4 c.larger-next.ensures)),
+        rw (after-parts n H X Y c.requires.0 front four, after-part n H X Y c.requires.0 front four) (sym (top-step (views W R n X) (view W R Y) t.result.next q.result.reach _ tt.taken.2 qq.4 c.max.ensures)),
       );
       lead = rw (after-parts n H X Y c.requires.0 front four) tt.lead;
     }

@@ -10,5 +10,5 @@ returns c =
     let x = c.put_byte in
     let w = c.put_number-number in
     let v = c.put_byte-mark in
-    rw (← c.number_of.ensures)
+    rw (← c.from.ensures)
     (says_all (wrote_then v.ensures (wrote_then w.ensures.0 x.ensures)) (omega (arith, v.ensures.count, w.ensures.1, x.ensures.count, c.requires)))

@@ -2,10 +2,10 @@
 use Rattle.texts.proofs.writing.write_found.Goals as goal
 
 pub put_found-requires : goal.put_found-requires
-put_found-requires c = (c.requires.0, rw c.in-Hits.is at c.requires.1)
+put_found-requires c = (c.requires.0, rw c.in-Ok.is at c.requires.1)
 
-pub returns-in-Hits : goal.returns-in-Hits
-returns-in-Hits c = rw c.in-Hits.is c.put_found.ensures
+pub returns-in-Ok : goal.returns-in-Ok
+returns-in-Ok c = rw c.in-Ok.is c.put_found.ensures
 
-pub returns-in-Refused : goal.returns-in-Refused
-returns-in-Refused c = rw c.in-Refused.is c.put_refusal.ensures
+pub returns-in-Err : goal.returns-in-Err
+returns-in-Err c = rw c.in-Err.is c.put_refusal.ensures

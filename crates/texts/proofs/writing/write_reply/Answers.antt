@@ -2,10 +2,10 @@
 use Rattle.texts.specs.Texts.{answer_text, decimal, decimal_in}
 use Rattle.texts.proofs.writing.write_reply.Goals as goal
 
-pub returns-in-Done : goal.returns-in-Done
+pub returns-in-Ok : goal.returns-in-Ok
 unfolding answer_text decimal decimal_in
-returns-in-Done c = rw c.in-Done.is c.put_line.ensures
+returns-in-Ok c = rw c.in-Ok.is c.put_line.ensures
 
-pub returns-in-Refused : goal.returns-in-Refused
+pub returns-in-Err : goal.returns-in-Err
 unfolding answer_text
-returns-in-Refused c = rw c.in-Refused.is c.put_refusal.ensures
+returns-in-Err c = rw c.in-Err.is c.put_refusal.ensures

@@ -1,9 +1,0 @@
--- `identifiers::add` meets its contract. The loop's invariant: the bytes to come, stored after those that are, are the whole run of stores.
-use Rattle.lists.proofs.Prelude.{◌≡◌, ◌+◌, ◌-◌, ◌≤◌, length, drop, sets}
-use Rattle.identifiers.proofs.add.Given as goal
-
-abbrev pub invariant-loop-i : goal.invariant-loop-i
-invariant-loop-i l = (l.i ≤ length l.id) × (length l.register ≡ length l.initial.register) × (sets l.initial.register (l.start + 1) l.id ≡ sets l.register (l.start + 1 + l.i) (drop l.i l.id))
-
-abbrev pub decreases-loop-i : goal.decreases-loop-i
-decreases-loop-i l = length l.id - l.i

@@ -1,9 +1,0 @@
--- `scores::counting::copy` meets its contract. The invariant: the numbers before i are copied.
-use Rattle.lists.proofs.Prelude.{◌≡◌, ◌≤◌, ◌-◌, length, take}
-use Rattle.scores.proofs.counting.copy.Given as goal
-
-abbrev pub invariant-loop-i : goal.invariant-loop-i
-invariant-loop-i l = (l.i ≤ length l.from) × (length l.to ≡ length l.from) × (take l.i l.to ≡ take l.i l.from)
-
-abbrev pub decreases-loop-i : goal.decreases-loop-i
-decreases-loop-i l = length l.from - l.i
