@@ -17,6 +17,7 @@ use Rattle.windows.proofs.Outcomes.{stopped, passed}
 use Rattle.flushes.proofs.Targets.{follows-refused, follows-plain, follows-written}
 use Rattle.flushes.proofs.Flushes.{gives-by, refuses, leaves}
 use Rattle.removals.specs.Removal.{is_live, removal_flushes, removed, removing}
+use Rattle.removals.specs.Taking.{emptied, emptied_card}
 
 -- it names the open window
 abbrev pub names_open : State → ℕ → Bool
@@ -61,6 +62,11 @@ module _ (s : State) (card : List ℕ) (w : ℕ) (counts : List Posting) where
       pub removed-flushed : (k : ℕ) → Aimed (removal_flushes s counts) s card (Ok (Some k))
           → Gives (store_of s card) (removing s card w counts) done (store_of (removed (flushed_to s k) counts) (bytes (flushed_card s (words card) k)))
       removed-flushed k f = goes_on _ (follows-written left _ s card k f) (leaves _ _)
+
+      pub removed-emptied : (b : Option ℕ) → Aimed (removal_flushes s counts) s card (Ok b)
+          → Gives (store_of s card) (removing s card w counts) done (store_of (removed (emptied s b) counts) (emptied_card s card b))
+      removed-emptied None f = removed-plain f
+      removed-emptied (Some k) f = removed-flushed k f
 
 -- a target judged with the test as the code makes it
 pub judged : (s : State) (counts : List Posting) (card : List ℕ) (wanted : Bool) (t : Result (Option ℕ) Refusal)

@@ -1,5 +1,5 @@
 -- A judged window's counts can be taken back from the buffer, with a flush first or without.
-use Rattle.std.specs.Prelude.{None, Ok}
+use Rattle.std.specs.Prelude.{Option, Some, None, Ok}
 use Rattle.lists.proofs.Prelude.{true, List, [], List-as-Memᴰ, ◌≡◌, refl, ap, ◌∙◌, ℕ, zero, suc, ◌+◌, ◌≤◌, arith, leb, ℤ, pos, negsuc, nat_abs, neg_ℤ, ◌+ℤ◌, +ℤ_idr, +ℤ_invl, +ℤ_assoc, neg_ℤ-+ℤ, length, leb-true, le-leb, eqb-true, ltb-false, every, empty, by-test, and_left, and_right, and_both, every-member, empty-length}
 use Rattle.words.specs.Words.{words}
 use Rattle.postings.specs.declared.Posting.{Posting}
@@ -19,7 +19,7 @@ use Rattle.flushes.proofs.Targets.{not-wanted-only}
 use Rattle.sums.specs.declared.Counts.{Counts}
 use Rattle.sums.specs.Views.{counts_in}
 use Rattle.removals.specs.Removal.{of_window, counts_of, lists_formed, removal_formed, removal_flushes}
-use Rattle.removals.specs.Taking.{takeable, Takeable, Removable}
+use Rattle.removals.specs.Taking.{takeable, Takeable, Removable, emptied, Emptiable}
 use Rattle.sums.proofs.Windowed.{window-fits, counts-ordered, counts_some, count-there}
 
 -- ---- signed numbers
@@ -127,3 +127,16 @@ module _ (s : State) (card : List ℕ) (w : ℕ) (c : Counts) (j : Removable s c
   pub live-flushed : (k : ℕ) → (flushed_to s k).windows.live ≡ s.windows.live
   unfolding flushed_to
   live-flushed k = refl
+
+  -- with a flush or without: what it asks for, that the counts can be taken back after it, and that it keeps N
+  pub emptiable : (b : Option ℕ) → Aimed (removal_flushes s (counts_in c)) s card (Ok b) → Emptiable s card b
+  emptiable None e = tt
+  emptiable (Some k) e = (j.rule, j.size, e.1)
+
+  pub takeable-emptied : (b : Option ℕ) → Aimed (removal_flushes s (counts_in c)) s card (Ok b) → Takeable (emptied s b).buffer c
+  takeable-emptied None e = takeable-plain e
+  takeable-emptied (Some k) e = takeable-flushed k
+
+  pub live-emptied : (b : Option ℕ) → (emptied s b).windows.live ≡ s.windows.live
+  live-emptied None = refl
+  live-emptied (Some k) = live-flushed k

@@ -8,17 +8,14 @@ ghost use Rattle.answers.specs.Numbers.{replied};
 ghost use Rattle.state.specs.Views.{buffered, buffer_of};
 ghost use Rattle.state.specs.Rules.{state_rule};
 ghost use Rattle.words.specs.Words.{words as words_of, bytes};
-ghost use Rattle.flushes.specs.Flush.{flushed_to, flushed_card};
-ghost use Rattle.flushes.specs.Targets.{Chosen};
-ghost use Rattle.windows.specs.Promises.{Gives, store_of};
 ghost use Rattle.sums.specs.Views.{counts_in};
-ghost use Rattle.removals.specs.Removal.{is_live, removed, removing};
+ghost use Rattle.removals.specs.Removal.{is_live, removed};
 ghost use Rattle.removals.specs.Promises.{Removes};
-ghost use Rattle.removals.specs.Taking.{Takeable, Removable};
+ghost use Rattle.removals.specs.Taking.{Takeable, Emptiable, emptied, emptied_card, buffer_after};
 
 use answers::Refusal;
 use postings::Posting;
-use state::{BLOCK_BYTES, Buffer, State, Windows};
+use state::{BLOCK_BYTES, Buffer, Partitions, State, Windows};
 use sums::Counts;
 use windows::After;
 
@@ -39,12 +36,33 @@ pub fn take_back(b: Buffer, c: Counts) -> Buffer
     left
 }
 
-// The state without the window: its counts are taken back, and N is one less.
-fn without(s: State, c: Counts) -> State
-    requires { Takeable s.buffer c × (1 ≤ s.windows.live) }
-    ensures { result ≡ removed s (counts_in c) }
+// The buffer that counts are taken back from: an empty one after a flush.
+fn buffer_after(b: Buffer, block: Option<u16>) -> Buffer
+    ensures { result ≡ buffer_after b block }
 {
-    let left = take_back(s.buffer, c);
+    match block {
+        Some(_) => Buffer::new(),
+        None => b,
+    }
+}
+
+// The partitions after the flush to a block, where there is one. Only the list is handed back, so that few copies of the state stand on the stack.
+fn list_after(s: State, card: &mut [u8], block: Option<u16>) -> Partitions
+    requires { Emptiable s card.old block }
+    ensures { (result ≡ (emptied s block).partitions) × (card.new ≡ emptied_card s card.old block) }
+{
+    match block {
+        Some(b) => flushes::writing::flush(card, b, s.buffer, s.partitions),
+        None => s.partitions,
+    }
+}
+
+// The state without the window, after the flush to a block where there is one: its counts are taken back, and N is one less.
+fn without(s: State, block: Option<u16>, list: Partitions, c: Counts) -> State
+    requires { Takeable (emptied s block).buffer c × (1 ≤ s.windows.live) × (list ≡ (emptied s block).partitions) }
+    ensures { result ≡ removed (emptied s block) (counts_in c) }
+{
+    let left = take_back(buffer_after(s.buffer, block), c);
     let w = Windows {
         live: s.windows.live - 1,
         ..s.windows
@@ -52,6 +70,8 @@ fn without(s: State, c: Counts) -> State
     State {
         windows: w,
         buffer: left,
+        partitions: list,
+        taken: block.unwrap_or(s.taken),
         ..s
     }
 }
@@ -87,26 +107,8 @@ pub fn must_flush(b: Buffer, c: Counts) -> bool
     b.used + c.used > 128
 }
 
-// Removes a window whose counts are read, with a flush first where the buffer has no room for them.
-fn remove_counts(s: State, card: &mut [u8], window: u32, c: Counts) -> After<()>
-    requires { Removable s card.old window c }
-    ensures { Gives (store_of s card.old) (removing s card.old window (counts_in c))
-        (replied result.answer) (store_of result.state card.new) }
-{
-    if names_open(s.windows, window) {
-        return windows::refuse(s, Refusal::OutOfTurn);
-    }
-    if not_live(s.windows, window, c) {
-        return windows::refuse(s, Refusal::NotLive);
-    }
-    match flushes::target_of(s, card, must_flush(s.buffer, c)) {
-        Err(why) => windows::refuse(s, why),
-        Ok(Some(b)) => windows::done(without(flushes::flush_to(s, card, b), c)),
-        Ok(None) => windows::done(without(s, c)),
-    }
-}
-
-// Removes a closed window: each of its counts is buffered negated, and N is one less. Refusals 1 and 2 come by admission, 3 for what is read of the card.
+// Removes a closed window: each of its counts is buffered negated, and N is one less, with a flush first where the buffer has no room for them. Refusals 1 and 2
+// come by admission, 3 for what is read of the card. What the call answers is put together here alone, so that few copies of the state stand on the stack.
 pub fn remove(s: State, card: &mut [u8], window: u32) -> After<()>
     ensures { Removes s card.old window result card.new }
 {
@@ -120,5 +122,16 @@ pub fn remove(s: State, card: &mut [u8], window: u32) -> After<()>
     let Some(c) = sums::read(card, s, window) else {
         return windows::refuse(s, Refusal::Malformed);
     };
-    remove_counts(s, card, window, c)
+    if names_open(s.windows, window) {
+        return windows::refuse(s, Refusal::OutOfTurn);
+    }
+    if not_live(s.windows, window, c) {
+        return windows::refuse(s, Refusal::NotLive);
+    }
+    let block = match flushes::target_of(s, card, must_flush(s.buffer, c)) {
+        Ok(block) => block,
+        Err(why) => return windows::refuse(s, why),
+    };
+    let list = list_after(s, card, block);
+    windows::done(without(s, block, list, c))
 }
