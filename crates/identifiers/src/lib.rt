@@ -26,7 +26,7 @@ pub fn bad_length(id: &[u8]) -> bool
 pub fn equal(a: &[u8], b: &[u8]) -> bool
     ensures { result ≡ same a.now b.now }
 {
-    a == b
+    a.len() == b.len() && a == b
 }
 
 // Is every byte zero?
