@@ -132,5 +132,7 @@ pub fn add(register: &mut [u8], id: &[u8], at: usize)
 {
     let start = ENTRY * at;
     register[start] = id.len() as u8;
-    register[start + 1..start + 1 + id.len()].copy_from_slice(id);
+    for i in 0..id.len() {
+        register[start + 1 + i] = id[i];
+    }
 }

@@ -1,24 +1,33 @@
-use Rattle.lists.proofs.Prelude.{List, ◌≡◌, sym, ◌∙◌, ℕ, ◌+◌, ◌*◌, ◌≤◌, add-one, arith, length, set, length-set, sets, sets-eq, append_assoc, take, drop, drop-drop}
-use borrow.Rule.Slice.PartMut.{put_mid}
+use Rattle.lists.proofs.Prelude.{[], ◌≡◌, sym, ◌∙◌, ℕ, suc, ◌+◌, ◌*◌, ◌<◌, add-zero, add-one, arith, length, drop, set, length-set, drop_of_length-le, sets, drop-cons}
 use Rattle.identifiers.specs.Register.{added}
 use Rattle.identifiers.proofs.Added.{good_length}
 use Rattle.identifiers.proofs.add.Goals as goal
 
--- a list copied over a part is its elements set one by one
-copied : (l vs : List ℕ) (at k : ℕ) → k ≡ length vs → at + length vs ≤ length l → put_mid at k l vs ≡ sets l at vs
-copied l vs at k e h = sym (sets-eq vs l at h ∙ append_assoc (take at l) vs (drop (at + length vs) l) ∙ rw (e, drop-drop (length vs) at l))
+past : (k i : ℕ) → k + (i + 1) ≡ suc (k + i)
+past k i = omega arith
 
 pub overflow_cast-register : goal.overflow_cast-register
 overflow_cast-register c = omega (arith, good_length c.args.id.now c.requires.2)
 
-pub slice_bounds-copy_from_slice-end : goal.slice_bounds-copy_from_slice-end
-slice_bounds-copy_from_slice-end c = simp length-set (omega (arith, good_length c.args.id.now c.requires.2))
+pub loop-i-init : goal.loop-i-init
+loop-i-init c = rw add-zero
+
+pub bounds-register-start-in-loop-i : goal.bounds-register-start-in-loop-i
+bounds-register-start-in-loop-i c =
+    omega (arith, good_length c.args.id.now c.requires.2, simp length-set at c.loop-i.auto.register)
+
+pub loop-i-preserved : goal.loop-i-preserved
+loop-i-preserved c =
+    let i = c.loop-i.i in
+    let id = c.args.id.now in
+    let h : i < length id = omega arith in
+    c.loop-i.invariant ∙ rw (past, add-one i, drop-cons id i 0 h)
 
 pub returns : goal.returns
 unfolding added
 returns c =
     let r = c.args.register.now in
     let id = c.args.id.now in
-    let n = good_length id c.requires.2 in
-    rw (c.copy_from_slice.ensures.after, ← c.requires.0)
-    (copied (set r (65 * c.args.at) (length id)) id (65 * c.args.at + 1) _ (omega arith) (rw length-set (omega arith)) ∙ rw (add-one (65 * c.args.at)))
+    let d : drop c.loop-i.i id ≡ [] = drop_of_length-le id {i = c.loop-i.i} (omega arith) in
+    let e : sets (set r (65 * c.args.at) (length id)) (65 * c.args.at + 1) id ≡ c.loop-i.register = c.loop-i.invariant ∙ rw d in
+    sym (rw (← c.requires.0, ← add-one (65 * c.args.at)) e)
