@@ -16,8 +16,8 @@
  * The archive: `rt staticlib capi` writes target/staticlib/libcapi.a, for x86-64 Linux. It uses no heap and keeps nothing of its own; of the C
  * library it needs memcpy and memset alone.
  *
- * Stack, in bytes as measured on x86-64 (docs/PERFORMANCE.md); leave some more: start 2,120, open 5,720, close 6,984, event 11,560, flush 10,984, remove 11,080,
- * remove_all 16,024, step 14,968, query 16,344, mean 15,016, forecast 14,712. */
+ * Stack, in bytes as measured on x86-64 (docs/PERFORMANCE.md); leave some more: start 4,776, open 5,736, close 5,752, event 16,056, flush 12,280, remove 13,560,
+ * remove_all 15,464, step 13,880, query 16,632, mean 15,880, forecast 14,728. */
 #ifndef GEMSILVER_H
 #define GEMSILVER_H
 
