@@ -132,6 +132,7 @@ pub fn add(register: &mut [u8], id: &[u8], at: usize)
 {
     let start = ENTRY * at;
     register[start] = id.len() as u8;
+    // byte by byte: `copy_from_slice` would need `memmove` from outside the archive
     for i in 0..id.len() {
         register[start + 1 + i] = id[i];
     }
