@@ -1,13 +1,10 @@
 // Removal of a window.
 #![tactic(auto)]
 
-ghost use Rattle.std.specs.Prelude.{true, ◌&&◌, ◌||◌, not, ◌≡◌, ◌+◌, ◌≤◌, eqb, ltb, length};
-ghost use mathlib.Core.List.{[], foldr};
+ghost use Rattle.std.specs.Prelude.{◌&&◌, ◌||◌, not, ◌≡◌, ◌+◌, ◌≤◌, eqb, ltb, length};
+ghost use mathlib.Core.List.{foldr};
 ghost use Rattle.postings.specs.Merge.{put, nonzero, negated};
-ghost use Rattle.answers.specs.Numbers.{replied};
 ghost use Rattle.state.specs.Views.{buffered, buffer_of};
-ghost use Rattle.state.specs.Rules.{state_rule};
-ghost use Rattle.words.specs.Words.{words as words_of, bytes};
 ghost use Rattle.sums.specs.Views.{counts_in};
 ghost use Rattle.removals.specs.Removal.{is_live, removed};
 ghost use Rattle.removals.specs.Promises.{Removes};

@@ -86,24 +86,18 @@ pub must_flush-requires : goal.must_flush-requires
 must_flush-requires c =
     let state : State = c.args.s in
     let card : List ℕ = c.args.card.now in
-    let window : ℕ = c.args.window in
     let sound : CardSound (state_rule state) state.lengths card =
     card-sound (state_rule state) state.lengths card
     (rw (c.in_default.is, c.state_ok.ensures) at c.judge_card.ensures) in
-    let formed : partitions_formed (words card) (blocks state) (finished state.partitions) ≡ true = sym c.partitions_ok.ensures ∙ not-false _ c.if-not-partitions_ok.false-raw in
-    let counts : Counts = c.in-Some.c in
     ((state-kept state sound.rule).buffer.used, c.in-Some.ensures.neat.few)
 
 pub target_of-requires : goal.target_of-requires
 target_of-requires c =
     let state : State = c.args.s in
     let card : List ℕ = c.args.card.now in
-    let window : ℕ = c.args.window in
     let sound : CardSound (state_rule state) state.lengths card =
     card-sound (state_rule state) state.lengths card
     (rw (c.in_default.is, c.state_ok.ensures) at c.judge_card.ensures) in
-    let formed : partitions_formed (words card) (blocks state) (finished state.partitions) ≡ true = sym c.partitions_ok.ensures ∙ not-false _ c.if-not-partitions_ok.false-raw in
-    let counts : Counts = c.in-Some.c in
     (sound.rule, sound.size)
 
 pub returns-in-Err-target_of : goal.returns-in-Err-target_of
