@@ -17,7 +17,7 @@
  * library it needs memcpy and memset alone.
  *
  * Stack, in bytes as measured on x86-64 (docs/PERFORMANCE.md); leave some more: start 4,776, open 5,736, close 5,752, event 16,056, flush 12,280, remove 13,560,
- * remove_all 15,464, step 13,880, query 16,632, mean 15,880, forecast 14,728. */
+ * remove_all 15,464, step 13,880, query 16,376, mean 15,880, forecast 14,728. */
 #ifndef GEMSILVER_H
 #define GEMSILVER_H
 

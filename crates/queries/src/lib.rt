@@ -1,14 +1,17 @@
 // The query.
 #![tactic(auto)]
 
-ghost use Rattle.std.specs.Prelude.{true, [], map, ◌≡◌, ◌+◌, ◌-◌, length};
+ghost use Rattle.std.specs.Prelude.{true, [], map, ◌≡◌, ◌+◌, ◌-◌, ◌*◌, length};
+ghost use Rattle.words.specs.Words.{words as words_of};
 ghost use Rattle.state.specs.Rules.{state_rule};
 ghost use Rattle.identifiers.specs.Register.{register_rule};
 ghost use Rattle.ranking.specs.Top.{top_of};
-ghost use Rattle.queries.specs.Gathered.{Sound, Readied};
+ghost use Rattle.queries.specs.Query.{numbers};
+ghost use Rattle.queries.specs.Gathered.{Sound, Readied, Gathered};
 ghost use Rattle.queries.specs.Finds.{AsksValue, AsksRest, AsksRead};
 
 use answers::{Found, Refusal};
+use judging::Known;
 use postings::Stretch;
 use ranking::Top;
 use state::{BLOCK_BYTES, MOST_BUFFERED, State};
@@ -33,6 +36,36 @@ fn refuse(why: Refusal) -> Answered
     }
 }
 
+// Gathers a query's identifiers, with room for the heads of one that is judged and not kept. The room is this function's own, so that the compiler lays hits there
+// afterwards and a query stays within 16 KB of stack.
+fn gathered(
+    s: State,
+    card: &[u8],
+    register: &[u8],
+    ids: &[&[u8]],
+    run: &[u32],
+    heads: &mut [u32],
+    t: Stretch,
+    live: u16,
+) -> Option<Known>
+    requires { Sound s card.now register.now × Readied s card.now run.now (length heads.old) (4 * s.partitions.used + 4) }
+    ensures { Gathered (words_of card.now) run.now s t live (numbers register.now (map (λ x. x.now) ids.now)) result heads.new }
+{
+    let mut spare: [u32; 208] = [0; 208];
+    let end = 4 * s.partitions.used as usize + 4;
+    judging::gather(
+        s,
+        card,
+        register,
+        ids,
+        run,
+        heads,
+        &mut spare[..end],
+        t,
+        live,
+    )
+}
+
 // The rest of a query on sound buffers, where the state is as the stretch has it read and `live` is N: 3 for what is read of its identifiers, 4, 14 and 17, and
 // then the second pass.
 fn search_with(
@@ -43,14 +76,13 @@ fn search_with(
     places: usize,
     run: &[u32],
     heads: &mut [u32],
-    spare: &mut [u32],
     t: Stretch,
     live: u16,
 ) -> Answered
-    requires { Sound s card.now register.now × Readied s card.now run.now (length heads.old) (length spare.old) }
+    requires { Sound s card.now register.now × Readied s card.now run.now (length heads.old) (4 * s.partitions.used + 4) }
     ensures { AsksRest s card.now register.now t live (map (λ x. x.now) ids.now) places result }
 {
-    let Some(k) = judging::gather(s, card, register, ids, run, heads, spare, t, live) else {
+    let Some(k) = gathered(s, card, register, ids, run, heads, t, live) else {
         return refuse(Refusal::Malformed);
     };
     if identifiers::many::any_bad(ids) {
@@ -84,8 +116,8 @@ fn search_with(
     }
 }
 
-// Makes room for the heads of five terms of 52 lists each, for one more to be judged, and for the buffer's postings as words. The calls from two places keep the
-// compiler from putting this room into their frame, below which the register is judged and N is counted.
+// Makes room for the heads of five terms of 52 lists each, and for the buffer's postings as words. The calls from two places keep the compiler from putting this room
+// into their frame, below which the register is judged and N is counted.
 fn search_sound(
     s: State,
     card: &[u8],
@@ -100,21 +132,8 @@ fn search_sound(
 {
     let mut run: [u32; MOST_BUFFERED] = [0; MOST_BUFFERED];
     let mut heads: [u32; 1060] = [0; 1060];
-    let mut spare: [u32; 208] = [0; 208];
     terms::opening::pack_run(s.buffer, &mut run);
-    let end = 4 * s.partitions.used as usize + 4;
-    search_with(
-        s,
-        card,
-        register,
-        ids,
-        places,
-        &run,
-        &mut heads,
-        &mut spare[..end],
-        t,
-        live,
-    )
+    search_with(s, card, register, ids, places, &run, &mut heads, t, live)
 }
 
 // A query where the state is as the stretch has it read: all lists of its partitions are judged, and N is counted.

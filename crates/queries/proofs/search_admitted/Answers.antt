@@ -1,5 +1,5 @@
 -- `queries::search_admitted` meets its contract: the finished partitions, and then what is sound.
-use Rattle.lists.proofs.Prelude.{rules, not-true, not-false, map, sym, ◌∙◌, arith}
+use Rattle.lists.proofs.Prelude.{not-true, not-false, map, sym, ◌∙◌, arith}
 use Rattle.answers.specs.declared.Refusal.TheVariants.{Malformed}
 use Rattle.state.proofs.Kept.{state-kept}
 use Rattle.words.proofs.Views.{length-words}

@@ -1,5 +1,5 @@
 -- `queries::search_sound` meets its contract: what is lent is packed and large enough.
-use Rattle.lists.proofs.Prelude.{sym, ◌+◌, ◌*◌, arith, replicate, length-take-le, rules}
+use Rattle.lists.proofs.Prelude.{refl, arith}
 use Rattle.state.specs.Views.{buffered}
 use Rattle.state.proofs.Kept.{state-kept}
 use Rattle.scores.proofs.Opened.{rule-sizes}
@@ -10,14 +10,6 @@ pub pack_run-requires : goal.pack_run-requires
 pack_run-requires c =
     let k = (state-kept c.args.s c.requires.rule).buffer in
     (k.used, omega arith, rule-sizes c.args.s.windows (buffered c.args.s.buffer) k.rules)
-
-pub slice_bounds-spare-end : goal.slice_bounds-spare-end
-slice_bounds-spare-end c = omega (arith, (state-kept c.args.s c.requires.rule).partitions.used)
-
-pub slice_bounds-search_with-end-3 : goal.slice_bounds-search_with-end-3
-slice_bounds-search_with-end-3 c =
-    let k = (state-kept c.args.s c.requires.rule).partitions.used in
-    sym (length-take-le (4 * c.args.s.partitions.used + 4) (replicate 208 0) (omega arith))
 
 pub search_with-requires : goal.search_with-requires
 search_with-requires c =
@@ -30,6 +22,6 @@ search_with-requires c =
         packed = c.pack_run.ensures;
         room = omega arith;
         most = omega arith;
-        one = length-take-le (4 * c.args.s.partitions.used + 4) (replicate 208 0) (omega arith);
+        one = refl;
       },
     )

@@ -1,5 +1,5 @@
 -- `queries::search_with` meets its contract: the refusals in order, and then the best hits of the second pass.
-use Rattle.lists.proofs.Prelude.{true, false, List, map, any, ◌≡◌, sym, ◌∙◌, ℕ, arith, length, lt-ltb, le-ltb, rules}
+use Rattle.lists.proofs.Prelude.{false, List, map, any, ◌≡◌, sym, ◌∙◌, ℕ, ◌+◌, ◌*◌, arith, lt-ltb, le-ltb, rules}
 use Rattle.answers.specs.declared.Refusal.TheVariants.{Malformed, BadIdentifier, BadQuery, BadStretch}
 use Rattle.identifiers.specs.Names.{Name, bad_length}
 use Rattle.ranking.specs.Asked.{bad_query}
@@ -24,7 +24,7 @@ pub returns-then-any_bad : goal.returns-then-any_bad
 returns-then-any_bad c =
     let a = c.args in
     let ns = map (λ x. x.now) a.ids.now in
-    let g = c.gather in
+    let g = c.gathered in
     let H = g.new.heads in
     refused_as _ a.places BadIdentifier _ c.refuse-then-any_bad.ensures
     (finds-identifier a.s a.card.now a.register.now c.requires.0 a.t a.live ns a.places a.run.now H c.in-Some.k c.in-Some.ensures (sym c.any_bad.ensures ∙ c.if-any_bad.true))
@@ -33,7 +33,7 @@ pub returns-then-bad_query : goal.returns-then-bad_query
 returns-then-bad_query c =
     let a = c.args in
     let ns = map (λ x. x.now) a.ids.now in
-    let g = c.gather in
+    let g = c.gathered in
     let H = g.new.heads in
     refused_as _ a.places BadQuery _ c.refuse-then-bad_query.ensures
     (finds-bad a.s a.card.now a.register.now c.requires.0 a.t a.live ns a.places a.run.now H c.in-Some.k c.in-Some.ensures (sym c.any_bad.ensures ∙ c.if-any_bad.false)
@@ -46,7 +46,7 @@ abbrev known : Else2 → Known
 known m = m.in-Some.k
 
 abbrev heads : Else2 → List ℕ
-heads m = m.gather.new.heads
+heads m = m.gathered.new.heads
 
 lengths : (m : Else2) → any bad_length (named m) ≡ false
 lengths m = sym m.any_bad.ensures ∙ m.if-any_bad.false
@@ -67,14 +67,11 @@ pub walk-top-requires : goal.walk-top-requires
 walk-top-requires c =
     let a = c.before.before.before.before.before.before.before.before.before.args in
     let q = proper a.places (named c.before.before.before.before.before.before.before.before.before) (asked c.before.before.before.before.before.before.before.before.before) in
-    (terms-walkable a.s a.card.now a.register.now c.before.before.before.before.before.before.before.before.before.requires.0 a.t a.live (named c.before.before.before.before.before.before.before.before.before) a.places a.run.now (heads c.before.before.before.before.before.before.before.before.before) (known c.before.before.before.before.before.before.before.before.before) c.in-Some.ensures (lengths c.before.before.before.before.before.before.before.before.before) (asked c.before.before.before.before.before.before.before.before.before) (length a.spare.now) (rw c.heads-1.given c.before.before.before.before.before.before.before.before.before.requires.1), q.some, q.most)
+    (terms-walkable a.s a.card.now a.register.now c.before.before.before.before.before.before.before.before.before.requires.0 a.t a.live (named c.before.before.before.before.before.before.before.before.before) a.places a.run.now (heads c.before.before.before.before.before.before.before.before.before) (known c.before.before.before.before.before.before.before.before.before) c.in-Some.ensures (lengths c.before.before.before.before.before.before.before.before.before) (asked c.before.before.before.before.before.before.before.before.before) (4 * a.s.partitions.used + 4) (rw c.heads-1.given c.before.before.before.before.before.before.before.before.before.requires.1), q.some, q.most)
 
 -- the heads after the walk
 pub shape_of-heads : goal.shape_of-heads
 shape_of-heads c = let h = c.heads-2-1.given in let g = c.heads-1.given in search rules
-
-pub shape_of-spare : goal.shape_of-spare
-shape_of-spare c = let g = c.spare-1.given in search rules
 
 pub returns : goal.returns
 returns c =

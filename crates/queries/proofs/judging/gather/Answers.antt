@@ -1,4 +1,4 @@
-use Rattle.lists.proofs.Prelude.{◌≡◌, refl, sym, ap, ◌∙◌, subst, [], map, ℕ, ◌<◌, ◌-◌, arith, length, get_or, length-map}
+use Rattle.lists.proofs.Prelude.{◌≡◌, refl, sym, ap, ◌∙◌, subst, [], map, ℕ, ◌<◌, arith, length, get_or, length-map}
 use Rattle.partitions.specs.Formed.{identifier_formed}
 use Rattle.words.specs.Words.{words}
 use Rattle.identifiers.specs.Names.{number_of}

@@ -1,5 +1,5 @@
 -- `queries::walking::walk` meets its contract. The invariant: the best so far and what is left give the best of all. The measure is the reach of what is left.
-use Rattle.lists.proofs.Prelude.{Bool, ℕ, ◌-◌}
+use Rattle.lists.proofs.Prelude.{Bool, ℕ}
 use Rattle.words.specs.Words.{words}
 use Rattle.state.specs.Shown.{shows_in}
 use Rattle.queries.proofs.Walked.{Walking}
